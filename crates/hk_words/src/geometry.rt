@@ -1,0 +1,111 @@
+ghost use Rattle.std.specs.Prelude.{◌≡◌, ℕ, ◌+◌, ◌*◌, ◌/◌, ◌%◌, ◌<◌, ◌≤◌, MatchResult};
+ghost use Rattle.hk_words.specs.declared.geometry.TheConstants.{MAX_TASKS, MAX_WORDS, MIN_ALLOC, MAX_REGISTERS, MIN_REGISTERS, REGISTERS};
+
+use crate::Shape;
+
+/// The registers of a task.
+pub const REGISTERS: u8 = 8;
+
+/// The fewest registers that a task can have.
+pub const MIN_REGISTERS: u8 = 2;
+
+/// The most registers that a task can have.
+pub const MAX_REGISTERS: u8 = 32;
+
+/// The most tasks that one heap serves.
+pub const MAX_TASKS: u8 = 31;
+
+/// The most words that each of the two areas of a space has.
+pub const MAX_WORDS: u32 = 65_536;
+
+/// The fewest words that the area for allocation has.
+pub const MIN_ALLOC: u32 = 16;
+
+/// Why sizes and tasks are no geometry.
+#[derive(Clone, Copy, Debug, PartialEq, Eq)]
+pub enum GeoError {
+    /// The area for evacuation or the one for allocation has an odd number of words.
+    Odd,
+    /// The area for evacuation doesn't hold the board, or the one for allocation is below [`MIN_ALLOC`] words.
+    Small,
+    /// One of the areas is above [`MAX_WORDS`] words.
+    Large,
+    /// The reserve is larger than the area for allocation.
+    Reserve,
+    /// There is no task, or there are more than [`MAX_TASKS`].
+    Tasks,
+    /// The board has no field, or too many.
+    Board,
+}
+
+/// The sizes of a heap, in words, and the tasks that use it. Each of the two spaces has `live` words for
+/// evacuation and `alloc` words for allocation, of which `reserve` are kept for the high tasks.
+#[derive(Clone, Copy, Debug, PartialEq, Eq)]
+pub struct Geometry {
+    pub live: u32,
+    pub alloc: u32,
+    pub reserve: u32,
+    pub high: u8,
+    pub low: u8,
+    pub registers: u8,
+    pub board: Shape,
+    pub ghost live_even: { live % 2 ≡ 0 },
+    pub ghost alloc_even: { alloc % 2 ≡ 0 },
+    pub ghost board_fits: { 1 + board.refs + board.nums ≤ live },
+    pub ghost alloc_enough: { MIN_ALLOC ≤ alloc },
+    pub ghost live_few: { live ≤ MAX_WORDS },
+    pub ghost alloc_few: { alloc ≤ MAX_WORDS },
+    pub ghost reserve_within: { reserve ≤ alloc },
+    pub ghost tasks_some: { 0 < high + low },
+    pub ghost tasks_few: { high + low ≤ MAX_TASKS },
+    pub ghost registers_some: { MIN_REGISTERS ≤ registers },
+    pub ghost registers_few: { registers ≤ MAX_REGISTERS },
+}
+
+impl Geometry {
+    ghost use Rattle.hk_words.specs.Geometry.{Sizes, first_error, HasSizes, numbers, row_length};
+
+    /// The geometry of these sizes and tasks, or the first reason in the order of [`GeoError`] why there is none.
+    /// The last two numbers are the reference fields and the number fields of the board.
+    pub fn new(
+        live: u32,
+        alloc: u32,
+        reserve: u32,
+        high: u8,
+        low: u8,
+        refs: u8,
+        nums: u8,
+    ) -> Result<Geometry, GeoError>
+        ensures { let sizes : Sizes = record { live = live; alloc = alloc; reserve = reserve; high = high; low = low; refs = refs; nums = nums } in
+            MatchResult result (λ g. (first_error sizes ≡ None) × HasSizes g sizes) (λ e. first_error sizes ≡ Some e) }
+    {
+        if live % 2 != 0 || alloc % 2 != 0 {
+            return Err(GeoError::Odd);
+        }
+        if live < 1 + u32::from(refs) + u32::from(nums) || alloc < MIN_ALLOC {
+            return Err(GeoError::Small);
+        }
+        if live > MAX_WORDS || alloc > MAX_WORDS {
+            return Err(GeoError::Large);
+        }
+        if reserve > alloc {
+            return Err(GeoError::Reserve);
+        }
+        let tasks = u16::from(high) + u16::from(low);
+        if tasks == 0 || tasks > u16::from(MAX_TASKS) {
+            return Err(GeoError::Tasks);
+        }
+        let Some(board) = Shape::new(refs, nums) else {
+            return Err(GeoError::Board);
+        };
+        Ok(Geometry {
+            live,
+            alloc,
+            reserve,
+            high,
+            low,
+            registers: REGISTERS,
+            board,
+        })
+    }
+}

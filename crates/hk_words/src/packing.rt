@@ -23,7 +23,7 @@ const WORDS_BITS: u32 = 24;
 const OBJECTS_BITS: u32 = 20;
 
 /// What a call adds to a header or a frame word as it enters: one accessor and one version.
-pub const ENTER: u64 = (1 << 28) + 1;
+pub const ENTER: u64 = (1 << (ACCESSORS_BITS + PLACE_BITS)) + 1;
 
 /// What a call takes from a header or a frame word as it leaves: one accessor.
 pub const LEAVE: u64 = 1;
@@ -206,6 +206,8 @@ pub fn reference_laws()
 
 /// What holds of headers, whatever their parts. Entering and leaving change their own parts and nothing else.
 pub fn header_laws()
+    ensures enter { ENTER ≡ entering }
+    ensures leave { LEAVE ≡ leaving }
     ensures unpacks { (accessors place version : ℕ) → accessors < 2 ^ accessors_bits → place < 2 ^ place_bits
         → IsHeader (pack_header accessors place version) accessors place version }
     ensures repacks { (word : ℕ) → pack_header (header_accessors word) (header_place word) (header_version word) ≡ word }
@@ -217,6 +219,8 @@ pub fn header_laws()
         → IsHeader (header_moved word place) (header_accessors word) place (header_version word) }
     ensures equal { (word other : ℕ)
         → (word ≡ other) ↔ IsHeader word (header_accessors other) (header_place other) (header_version other) }
+
+    // A word has 64 bits exactly where its last field fits.
     ensures fits { (word : ℕ) → (word < 2 ^ 64) ↔ (header_version word < 2 ^ version_bits) }
     ensures in_range { (word : ℕ) → (header_accessors word < 2 ^ accessors_bits) × (header_place word < 2 ^ place_bits) }
 {
@@ -235,6 +239,8 @@ pub fn frame_laws()
         → IsFrame (frame_blackened word cycle) (frame_accessors word) cycle (frame_version word) }
     ensures equal { (word other : ℕ)
         → (word ≡ other) ↔ IsFrame word (frame_accessors other) (frame_cycle other) (frame_version other) }
+
+    // A word has 64 bits exactly where its last field fits.
     ensures fits { (word : ℕ) → (word < 2 ^ 64) ↔ (frame_version word < 2 ^ version_bits) }
     ensures in_range { (word : ℕ) → (frame_accessors word < 2 ^ accessors_bits) × (frame_cycle word < 2 ^ blackened_bits) }
 {
@@ -249,6 +255,8 @@ pub fn w0_laws()
         → IsW0 (word + raise_by words) (w0_words word + words) (w0_objects word + 1) (w0_cycle word) }
     ensures equal { (word other : ℕ)
         → (word ≡ other) ↔ IsW0 word (w0_words other) (w0_objects other) (w0_cycle other) }
+
+    // A word has 64 bits exactly where its last field fits.
     ensures fits { (word : ℕ) → (word < 2 ^ 64) ↔ (w0_cycle word < 2 ^ cycle_bits) }
     ensures in_range { (word : ℕ) → (w0_words word < 2 ^ words_bits) × (w0_objects word < 2 ^ objects_bits) }
 {

@@ -115,14 +115,35 @@ entry_covered g index from below =
 -- each index of the row is that of a slot
 pub index_covered : (g : Geometry) (index : ℕ) → index < row_length g → InRow g (slot_at g index) × (index_of g (slot_at g index) ≡ index)
 index_covered g index below =
-    elim (cases_lt index 1) [ inl low ↦ covered_by g index W0 tt (omega arith) | inr from_w1 ↦
-    elim (cases_lt index 2) [ inl low ↦ covered_by g index W1 tt (omega arith) | inr from_headers ↦
-    elim (cases_lt index (marks_from g)) [ inl low ↦ covered_by g index (Header (index - 2)) (omega arith) (omega arith) | inr from_marks ↦
-    elim (cases_lt index (frames_from g)) [ inl low ↦ covered_by g index (Mark (index - marks_from g)) (omega arith) (omega arith) | inr from_frames ↦
-    elim (cases_lt index (registers_from g)) [ inl low ↦ covered_by g index (Frame (index - frames_from g)) (omega arith) (omega arith) | inr from_registers ↦
-    elim (cases_lt index (lists_from g)) [ inl low ↦ register_covered g index from_registers low | inr from_lists ↦
-    elim (cases_lt index (spaces_from g)) [ inl low ↦ entry_covered g index from_lists low | inr from_spaces ↦
-    covered_by g index (Space (index - spaces_from g + 1)) (omega arith, omega arith) (omega arith) ] ] ] ] ] ] ]
+    elim (cases_lt index 1) [
+      | inl low ↦ covered_by g index W0 tt (omega arith)
+      | inr from_w1 ↦
+          elim (cases_lt index 2) [
+            | inl low ↦ covered_by g index W1 tt (omega arith)
+            | inr from_headers ↦
+                elim (cases_lt index (marks_from g)) [
+                  | inl low ↦ covered_by g index (Header (index - 2)) (omega arith) (omega arith)
+                  | inr from_marks ↦
+                      elim (cases_lt index (frames_from g)) [
+                        | inl low ↦ covered_by g index (Mark (index - marks_from g)) (omega arith) (omega arith)
+                        | inr from_frames ↦
+                            elim (cases_lt index (registers_from g)) [
+                              | inl low ↦ covered_by g index (Frame (index - frames_from g)) (omega arith) (omega arith)
+                              | inr from_registers ↦
+                                  elim (cases_lt index (lists_from g)) [
+                                    | inl low ↦ register_covered g index from_registers low
+                                    | inr from_lists ↦
+                                        elim (cases_lt index (spaces_from g)) [
+                                          | inl low ↦ entry_covered g index from_lists low
+                                          | inr from_spaces ↦
+                                              covered_by g index (Space (index - spaces_from g + 1)) (omega arith, omega arith) (omega arith)
+                                        ]
+                                  ]
+                            ]
+                      ]
+                ]
+          ]
+    ]
 
 -- two words of the spaces of one place are one word
 pub place_at_injective : (g : Geometry) (s i t j : ℕ) → IsSpaceWord g s i → IsSpaceWord g t j → place_at g s i ≡ place_at g t j → (s ≡ t) × (i ≡ j)

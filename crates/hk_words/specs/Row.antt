@@ -84,9 +84,9 @@ slot_at g index =
     else if nat_lt index (frames_from g) then Mark (index - marks_from g)
     else if nat_lt index (registers_from g) then Frame (index - frames_from g)
     else if nat_lt index (lists_from g) then
-        Register ((index - registers_from g) / g.registers) ((index - registers_from g) % g.registers)
+    Register ((index - registers_from g) / g.registers) ((index - registers_from g) % g.registers)
     else if nat_lt index (spaces_from g) then
-        Entry ((index - lists_from g) / list_length g) ((index - lists_from g) % list_length g)
+    Entry ((index - lists_from g) / list_length g) ((index - lists_from g) % list_length g)
     else Space (index - spaces_from g + 1)
 
 -- the word of a slot

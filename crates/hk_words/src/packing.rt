@@ -10,16 +10,21 @@ use crate::Shape;
 
 /// The widths in bits of the fields of a reference, from the lowest up.
 const NUMBER_BITS: u32 = 20;
+
 const REFS_BITS: u32 = 8;
+
 const NUMS_BITS: u32 = 8;
 
 /// The widths in bits of the fields of a header or a frame word, from the lowest up. The version has the rest.
 const ACCESSORS_BITS: u32 = 6;
+
 const PLACE_BITS: u32 = 22;
+
 const BLACKENED_BITS: u32 = 22;
 
 /// The widths in bits of the fields of W0, from the lowest up. The cycle has the rest.
 const WORDS_BITS: u32 = 24;
+
 const OBJECTS_BITS: u32 = 20;
 
 /// What a call adds to a header or a frame word as it enters: one accessor and one version.
@@ -76,7 +81,9 @@ pub fn pack_header(accessors: u8, place: u32, version: u64) -> u64
     requires version { version < 2 ^ version_bits }
     ensures { result ≡ pack_header accessors place version }
 {
-    u64::from(accessors) | u64::from(place) << ACCESSORS_BITS | version << (ACCESSORS_BITS + PLACE_BITS)
+    u64::from(accessors)
+        | u64::from(place) << ACCESSORS_BITS
+        | version << (ACCESSORS_BITS + PLACE_BITS)
 }
 
 /// How many calls are inside the object.
@@ -157,7 +164,9 @@ pub fn pack_w0(words: u32, objects: u32, cycle: u32) -> u64
     requires cycle { cycle < 2 ^ cycle_bits }
     ensures { result ≡ pack_w0 words objects cycle }
 {
-    u64::from(words) | u64::from(objects) << WORDS_BITS | u64::from(cycle) << (WORDS_BITS + OBJECTS_BITS)
+    u64::from(words)
+        | u64::from(objects) << WORDS_BITS
+        | u64::from(cycle) << (WORDS_BITS + OBJECTS_BITS)
 }
 
 /// The words used for allocation in this cycle.
@@ -201,8 +210,7 @@ pub fn reference_laws()
     ensures equal { (word other : ℕ) → NamesObject word → NamesObject other
         → word < 2 ^ (number_bits + refs_bits + nums_bits) → other < 2 ^ (number_bits + refs_bits + nums_bits)
         → (word ≡ other) ↔ IsReference word (reference_number other) (reference_refs other) (reference_nums other) }
-{
-}
+{}
 
 /// What holds of headers, whatever their parts. Entering and leaving change their own parts and nothing else.
 pub fn header_laws()
@@ -223,8 +231,7 @@ pub fn header_laws()
     // A word has 64 bits exactly where its last field fits.
     ensures fits { (word : ℕ) → (word < 2 ^ 64) ↔ (header_version word < 2 ^ version_bits) }
     ensures in_range { (word : ℕ) → (header_accessors word < 2 ^ accessors_bits) × (header_place word < 2 ^ place_bits) }
-{
-}
+{}
 
 /// What holds of frame words, whatever their parts. Entering and leaving change their own parts and nothing else.
 pub fn frame_laws()
@@ -243,8 +250,7 @@ pub fn frame_laws()
     // A word has 64 bits exactly where its last field fits.
     ensures fits { (word : ℕ) → (word < 2 ^ 64) ↔ (frame_version word < 2 ^ version_bits) }
     ensures in_range { (word : ℕ) → (frame_accessors word < 2 ^ accessors_bits) × (frame_cycle word < 2 ^ blackened_bits) }
-{
-}
+{}
 
 /// What holds of W0, whatever its parts.
 pub fn w0_laws()
@@ -259,5 +265,113 @@ pub fn w0_laws()
     // A word has 64 bits exactly where its last field fits.
     ensures fits { (word : ℕ) → (word < 2 ^ 64) ↔ (w0_cycle word < 2 ^ cycle_bits) }
     ensures in_range { (word : ℕ) → (w0_words word < 2 ^ words_bits) × (w0_objects word < 2 ^ objects_bits) }
-{
+{}
+
+#[cfg(test)]
+mod tests {
+    use super::*;
+    use std::test::Fail;
+
+    #[test]
+    fn references(rt: HostRuntime) -> Result<(), Fail> {
+        for (number, refs, nums, word) in [
+            (0, 2, 2, 538_968_065),
+            (0, 1, 0, 1_048_577),
+            (0, 0, 1, 268_435_457),
+            (0, 62, 0, 65_011_713),
+            (0, 0, 62, 16_642_998_273),
+            (1_048_574, 1, 0, 2_097_151),
+        ] {
+            let shape = Shape::new(refs, nums).ok_or("a shape")?;
+            assert_eq!(rt; pack_reference(number, shape), word);
+            let parts = (
+                reference_number(word),
+                reference_refs(word),
+                reference_nums(word),
+            );
+            assert_eq!(rt; parts, (number, refs, nums), "{word}");
+        }
+        assert_eq!(rt;
+            (reference_number(u64::MAX), reference_refs(u64::MAX)),
+            (1_048_574, 255)
+        );
+        assert_eq!(rt;
+            (
+                reference_refs(0),
+                reference_nums(0),
+                reference_nums(u64::MAX)
+            ),
+            (0, 0, 255)
+        );
+        Ok(())
+    }
+
+    /// The first part, the middle part and the version of a word, and the word.
+    const HEADERS: [(u8, u32, u64, u64); 7] = [
+        (1, 5, 3, 805_306_689),
+        (0, 0, 0, 0),
+        (63, 0, 0, 63),
+        (0, 4_194_303, 0, 268_435_392),
+        (0, 0, 1, 268_435_456),
+        (0, 0, 68_719_476_735, 18_446_744_073_441_116_160),
+        (63, 4_194_303, 68_719_476_735, u64::MAX),
+    ];
+
+    #[test]
+    fn headers(rt: HostRuntime) {
+        for (accessors, place, version, word) in HEADERS {
+            assert_eq!(rt; pack_header(accessors, place, version), word);
+            let parts = (
+                header_accessors(word),
+                header_place(word),
+                header_version(word),
+            );
+            assert_eq!(rt; parts, (accessors, place, version), "{word}");
+        }
+        assert_eq!(rt; header_moved(805_306_689, 9), 805_306_945);
+        assert_eq!(rt; header_moved(u64::MAX, 0), 18_446_744_073_441_116_223);
+    }
+
+    #[test]
+    fn frames(rt: HostRuntime) {
+        for (accessors, cycle, version, word) in HEADERS {
+            assert_eq!(rt; pack_frame(accessors, cycle, version), word);
+            let parts = (
+                frame_accessors(word),
+                frame_cycle(word),
+                frame_version(word),
+            );
+            assert_eq!(rt; parts, (accessors, cycle, version), "{word}");
+        }
+        assert_eq!(rt; frame_blackened(805_306_689, 9), 805_306_945);
+        assert_eq!(rt; frame_blackened(u64::MAX, 0), 18_446_744_073_441_116_223);
+    }
+
+    #[test]
+    fn first_words(rt: HostRuntime) {
+        for (words, objects, cycle, word) in [
+            (8, 2, 3, 52_776_591_687_688),
+            (0, 0, 1, 17_592_186_044_416),
+            (16_777_215, 0, 0, 16_777_215),
+            (0, 1_048_575, 0, 17_592_169_267_200),
+            (0, 0, 1_048_575, 18_446_726_481_523_507_200),
+            (16_777_215, 1_048_575, 1_048_575, u64::MAX),
+        ] {
+            assert_eq!(rt; pack_w0(words, objects, cycle), word);
+            assert_eq!(rt;
+                (w0_words(word), w0_objects(word), w0_cycle(word)),
+                (words, objects, cycle),
+                "{word}"
+            );
+        }
+    }
+
+    #[test]
+    fn amounts(rt: HostRuntime) {
+        assert_eq!(rt; (ENTER, LEAVE), (268_435_457, 1));
+        assert_eq!(rt;
+            (raise_by(2), raise_by(8), raise_by(63)),
+            (16_777_218, 16_777_224, 16_777_279)
+        );
+    }
 }

@@ -8,23 +8,28 @@ ghost use Rattle.hk_words.specs.Layout.{entering, leaving, raise_by};
 
 use crate::Shape;
 
-/// The widths in bits of the fields of a reference, from the lowest up.
+/// The bits of a reference for one more than the object's number, from the lowest on.
 const NUMBER_BITS: u32 = 20;
 
+/// The bits of a reference for the number of reference fields.
 const REFS_BITS: u32 = 8;
 
+/// The bits of a reference for the number of number fields.
 const NUMS_BITS: u32 = 8;
 
-/// The widths in bits of the fields of a header or a frame word, from the lowest up. The version has the rest.
+/// The bits of a header or a frame word for its accessors, from the lowest on. The version has the highest bits.
 const ACCESSORS_BITS: u32 = 6;
 
+/// The bits of a header for the place.
 const PLACE_BITS: u32 = 22;
 
+/// The bits of a frame word for the cycle in which the frame was last blackened.
 const BLACKENED_BITS: u32 = 22;
 
-/// The widths in bits of the fields of W0, from the lowest up. The cycle has the rest.
+/// The bits of W0 for the words used, from the lowest on. The cycle has the highest bits.
 const WORDS_BITS: u32 = 24;
 
+/// The bits of W0 for the objects made.
 const OBJECTS_BITS: u32 = 20;
 
 /// What a call adds to a header or a frame word as it enters: one accessor and one version.
@@ -214,8 +219,8 @@ pub fn reference_laws()
 
 /// What holds of headers, whatever their parts. Entering and leaving change their own parts and nothing else.
 pub fn header_laws()
-    ensures enter { ENTER ≡ entering }
-    ensures leave { LEAVE ≡ leaving }
+    ensures entering { ENTER ≡ entering }
+    ensures leaving { LEAVE ≡ leaving }
     ensures unpacks { (accessors place version : ℕ) → accessors < 2 ^ accessors_bits → place < 2 ^ place_bits
         → IsHeader (pack_header accessors place version) accessors place version }
     ensures repacks { (word : ℕ) → pack_header (header_accessors word) (header_place word) (header_version word) ≡ word }
@@ -306,7 +311,7 @@ mod tests {
         Ok(())
     }
 
-    /// The first part, the middle part and the version of a word, and the word.
+    /// The accessors, the place or the cycle, and the version; and the word that they are packed into.
     const HEADERS: [(u8, u32, u64, u64); 7] = [
         (1, 5, 3, 805_306_689),
         (0, 0, 0, 0),

@@ -1,2 +1,5 @@
+pub mod Calls
 pub mod Geometry
+pub mod Layout
+pub mod Row
 pub mod Shape

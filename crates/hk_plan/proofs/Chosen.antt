@@ -1,6 +1,6 @@
 -- Who goes first among the ready rows.
-use Rattle.std.proofs.Common.{◌≡◌, ℕ, zero, suc, ◌+◌, ◌-◌, ◌<◌, ◌≤◌, ◌⊎◌, Bool, true, false, ◌&&◌, ◌||◌, nat_eq, nat_lt, nat_le, if◌then◌else◌, cond, List, Option, Some, None, MatchOption, length, get_or, refl, sym, ap, ◌∙◌, subst, arith, inl, inr}
-use Rattle.std.proofs.lemmas.Bool.{cases_Bool, cases_eq, cases_lt, and_parts, and_from, or_cases, or_parts, and_cases, ltb-true, ltb-false, leb-true, leb-false, eqb-true, eqb-false, lt-ltb, le-leb, le-ltb, ne_eqb, false≢true}
+use Rattle.std.proofs.Common.{◌≡◌, ℕ, zero, suc, ◌+◌, ◌-◌, ◌<◌, ◌≤◌, ◌⊎◌, Bool, true, false, ◌&&◌, ◌||◌, nat_eq, nat_lt, nat_le, if◌then◌else◌, cond, List, Option, Some, None, MatchOption, IfSome, length, get_or, refl, sym, ap, ◌∙◌, subst, arith, inl, inr, add-one}
+use Rattle.std.proofs.lemmas.Bool.{cases_Bool, cases_eq, cases_lt, and_parts, and_from, or_cases, or_parts, and_cases, ltb-true, ltb-false, leb-true, leb-false, eqb-true, eqb-false, lt-ltb, le-leb, le-ltb, ne_eqb, false≢true, false_from_ne_true}
 use Rattle.hk_plan.specs.declared.Row.{Row}
 use Rattle.hk_plan.specs.Alone.{task_of, arrival_of, ticks_of, is_ready, goes_before, first_of, chosen_below, chosen, ComesFirst}
 
@@ -64,13 +64,13 @@ law_more rows had t n None false e none = λ k below r.
     elim (cases_eq k n) [
       inl same ↦ let P : ℕ → Type 0 = Ready rows had t in false≢true (sym e ∙ ready-true rows had t n (subst P same r))
     | inr other ↦ none k (omega arith) r ]
-law_more rows had t n (Some j) false e chosen = record {
-  within = omega (arith, chosen.within);
-  ready = chosen.ready;
+law_more rows had t n (Some j) false e best = record {
+  within = omega (arith, best.within);
+  ready = best.ready;
   first = λ k below r.
       elim (cases_eq k n) [
         inl same ↦ let P : ℕ → Type 0 = Ready rows had t in absurd (false≢true (sym e ∙ ready-true rows had t n (subst P same r)))
-      | inr other ↦ chosen.first k (omega arith) r ]
+      | inr other ↦ best.first k (omega arith) r ]
 }
 law_more rows had t n None true e none = record {
   within = omega arith;
@@ -80,28 +80,28 @@ law_more rows had t n None true e none = record {
         inl same ↦ inr (ap (λ i. task_of rows i) (sym same), omega arith)
       | inr other ↦ absurd (none k (omega arith) r) ]
 }
-law_more rows had t n (Some j) true e chosen =
+law_more rows had t n (Some j) true e best =
     let now : Ready rows had t n = ready_from rows had t n e in
     elim (cases_Bool (goes_before rows n j)) [
-      inl yes ↦
-        let before : ComesFirst rows n j = before_from rows n j yes in
-        rw yes (record {
+      inl goes ↦
+        let before : ComesFirst rows n j = before_from rows n j goes in
+        rw goes (record {
           within = omega arith;
           ready = now;
           first = λ k below r.
               elim (cases_eq k n) [
                 inl same ↦ inr (ap (λ i. task_of rows i) (sym same), omega arith)
-              | inr other ↦ comes_on rows n j k before (chosen.first k (omega arith) r) ]
+              | inr other ↦ comes_on rows n j k before (best.first k (omega arith) r) ]
         })
-    | inr no ↦
-        let after : ComesFirst rows j n = after_from rows n j no in
-        rw no (record {
-          within = omega (arith, chosen.within);
-          ready = chosen.ready;
+    | inr stays ↦
+        let after : ComesFirst rows j n = after_from rows n j stays in
+        rw stays (record {
+          within = omega (arith, best.within);
+          ready = best.ready;
           first = λ k below r.
               elim (cases_eq k n) [
                 inl same ↦ let P : ℕ → Type 0 = ComesFirst rows j in subst P (sym same) after
-              | inr other ↦ chosen.first k (omega arith) r ]
+              | inr other ↦ best.first k (omega arith) r ]
         }) ]
 
 -- who goes first among the places below n
@@ -119,3 +119,23 @@ chosen_below_agrees rows had other t (suc n) same =
     let before = chosen_below_agrees rows had other t n (λ k below. same k (omega arith)) in
     let here : had n ≡ other n = same n (omega arith) in
     rw (before, here) refl
+
+-- where the row at n is ready it may go first among the places up to n
+pub chosen_more_ready : (rows : List Row) (had : ℕ → ℕ) (t n : ℕ) → Ready rows had t n
+    → chosen_below rows had t (n + 1) ≡ Some (first_of rows (chosen_below rows had t n) n)
+unfolding chosen_below
+chosen_more_ready rows had t n r = rw (add-one, ready-true rows had t n r) refl
+
+-- and where it isn't another does
+pub chosen_more_other : (rows : List Row) (had : ℕ → ℕ) (t n : ℕ) → ¬ (Ready rows had t n) → chosen_below rows had t (n + 1) ≡ chosen_below rows had t n
+unfolding chosen_below
+chosen_more_other rows had t n none = rw (add-one, false_from_ne_true (is_ready rows had t n) (λ e. none (ready_from rows had t n e))) refl
+
+-- below 0 there is none
+pub chosen_none : (rows : List Row) (had : ℕ → ℕ) (t : ℕ) → None ≡ chosen_below rows had t 0
+unfolding chosen_below
+chosen_none rows had t = refl
+
+pub within_more : (o : Option ℕ) (n : ℕ) → IfSome o (λ k. k < n) → IfSome o (λ k. k < n + 1)
+within_more None n h = h
+within_more (Some k) n h = omega arith

@@ -2,7 +2,7 @@
 use Rattle.std.proofs.Common.{◌≡◌, ℕ, zero, suc, ◌+◌, ◌-◌, ◌<◌, ◌≤◌, ◌⊎◌, Bool, true, false, nat_eq, List, Option, Some, None, MatchOption, IfSome, length, refl, sym, ap, ◌∙◌, subst, arith, inl, inr, add-zero, add-suc, add-one}
 use Rattle.std.proofs.lemmas.Bool.{cases_eq, eq-eqb, ne_eqb}
 use Rattle.hk_plan.specs.declared.Row.{Row}
-use Rattle.hk_plan.specs.Alone.{task_of, arrival_of, ticks_of, chosen, tick_for, had_after, row_at, IsReady, IsIdle, GoesFirst, EachTickGoesFirst, EndsAt}
+use Rattle.hk_plan.specs.Alone.{task_of, arrival_of, ticks_of, chosen, tick_for, had_after, row_at, IsReady, IsIdle, GoesFirst, ComesFirst, FollowsOrder, EachTickFollowsOrder}
 use Rattle.hk_plan.proofs.Chosen.{Ready, NoneBelow, FirstBelow, Law, chosen_below_law}
 
 -- the law of one tick, from what is ready among all places
@@ -14,7 +14,7 @@ whole_law rows t (Some k) best = record {
 }
 
 -- a tick goes to the ready row that goes first
-pub each_tick_goes_first : EachTickGoesFirst
+pub each_tick_goes_first : (rows : List Row) (t : ℕ) → MatchOption (row_at rows t) (IsIdle rows t) (GoesFirst rows t)
 each_tick_goes_first rows t = whole_law rows t (row_at rows t) (chosen_below_law rows (had_after rows t) t (length rows))
 
 -- the row that gets a tick goes first
@@ -22,6 +22,29 @@ pub gets_first : (rows : List Row) (t k : ℕ) → row_at rows t ≡ Some k → 
 gets_first rows t k e =
     let P : Option ℕ → Type 0 = λ o. MatchOption o (IsIdle rows t) (GoesFirst rows t) in
     subst P e (each_tick_goes_first rows t)
+
+-- two rows that each come first before the other are one
+same_first : (rows : List Row) (j k : ℕ) → ComesFirst rows j k → ComesFirst rows k j → j ≡ k
+same_first rows j k (inl a) (inl b) = absurd (omega arith)
+same_first rows j k (inl a) (inr b) = absurd (omega (arith, b.0))
+same_first rows j k (inr a) (inl b) = absurd (omega (arith, a.0))
+same_first rows j k (inr a) (inr b) = omega (arith, a.1, b.1)
+
+-- the same, both ways
+follows_order : (rows : List Row) (t : ℕ) (o : Option ℕ) → row_at rows t ≡ o → MatchOption o (IsIdle rows t) (GoesFirst rows t) → FollowsOrder rows t
+follows_order rows t None e idle = record {
+  to_row = λ k. (λ some. cc, λ first. absurd (idle k first.ready));
+  to_nobody = (λ _. idle, λ _. e)
+}
+follows_order rows t (Some l) e best = record {
+  to_row = λ k.
+    ( (λ some. let same : l ≡ k = cc in let P : ℕ → Type 0 = GoesFirst rows t in subst P same best)
+    , (λ first. e ∙ ap (λ i. Some i) (same_first rows l k (best.first k first.ready) (first.first l best.ready))) );
+  to_nobody = (λ none. cc, λ idle. absurd (idle l best.ready))
+}
+
+pub each_tick_follows_order : EachTickFollowsOrder
+each_tick_follows_order rows t = follows_order rows t (row_at rows t) refl (each_tick_goes_first rows t)
 
 -- one tick more
 pub had_more : (rows : List Row) (t k : ℕ) → had_after rows (suc t) k ≡ had_after rows t k + tick_for (row_at rows t) k

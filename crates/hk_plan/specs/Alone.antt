@@ -2,7 +2,7 @@
 -- row that goes first among those that have arrived and aren't ended. Of two rows the one of the lesser task goes
 -- first, and of two rows of one task the one at the lesser place. Ticks count from 0; tick t lies between the
 -- moments t and t + 1, and t ticks have been given at the moment t.
-use Rattle.std.specs.Prelude.{◌≡◌, ℕ, zero, suc, ◌+◌, ◌-◌, ◌<◌, ◌≤◌, ◌⊎◌, Bool, ◌&&◌, ◌||◌, nat_eq, nat_lt, nat_le, if◌then◌else◌, List, Option, Some, None, MatchOption, length, slice_index_or}
+use Rattle.std.specs.Prelude.{◌≡◌, ℕ, zero, suc, ◌+◌, ◌-◌, ◌<◌, ◌≤◌, ◌⊎◌, ◌↔◌, Bool, ◌&&◌, ◌||◌, nat_eq, nat_lt, nat_le, if◌then◌else◌, List, Option, Some, None, length, slice_index_or}
 use Rattle.hk_plan.specs.declared.Row.{Row}
 
 -- a row without ticks, which stands for a place where there is none
@@ -82,9 +82,14 @@ pub record GoesFirst (rows : List Row) (t k : ℕ) : Type 0 where
   pub ready : IsReady rows t k
   pub first : (j : ℕ) → IsReady rows t j → ComesFirst rows k j
 
--- a tick goes to the ready row that goes first, and to nobody exactly where no row is ready
-abbrev pub EachTickGoesFirst : Type 0
-EachTickGoesFirst = (rows : List Row) (t : ℕ) → MatchOption (row_at rows t) (IsIdle rows t) (GoesFirst rows t)
+-- a tick goes to a row exactly where that one is ready and goes first, and to nobody exactly where no row is ready
+pub record FollowsOrder (rows : List Row) (t : ℕ) : Type 0 where
+  pub to_row : (k : ℕ) → (row_at rows t ≡ Some k) ↔ GoesFirst rows t k
+  pub to_nobody : (row_at rows t ≡ None) ↔ IsIdle rows t
+
+-- so it is with each tick of all rows
+abbrev pub EachTickFollowsOrder : Type 0
+EachTickFollowsOrder = (rows : List Row) (t : ℕ) → FollowsOrder rows t
 
 -- the row at a place has had all its ticks at a moment
 abbrev pub IsEnded : List Row → ℕ → ℕ → Type 0

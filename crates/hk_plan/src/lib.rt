@@ -2,7 +2,8 @@
 #![tactic(auto)]
 ghost use Rattle.std.specs.Prelude.{◌≡◌, ℕ, ◌+◌, ◌<◌, ◌≤◌, ◌^◌, ◌↔◌, length, slice_index, All, IfOk, IfSome, IsNone};
 ghost use Rattle.std.specs.Option.{ForSome};
-ghost use Rattle.hk_plan.specs.Alone.{chosen, first_of, row_at, had_after, ticks_of, TakesTicks, EndsAt};
+ghost use Rattle.hk_plan.specs.Alone.{chosen, first_of, row_at, had_after, ticks_of, TakesTicks, EndsAt, EachTickFollowsOrder};
+ghost use Rattle.hk_plan.specs.Bounds.{ResponseBounds};
 
 use std::alloc::{AllocError, AllocFailed, Global};
 use std::marker::Model;
@@ -105,6 +106,24 @@ impl Plan {
     {
         self.finish[row]
     }
+}
+
+/// The law of the order: a tick goes to a row exactly where that row has arrived, isn't ended, and is of a lesser
+/// task than each other such row, or of the same task and at a lesser place; and to nobody exactly where there is no
+/// such row.
+pub fn each_tick_follows_order()
+    ensures { EachTickFollowsOrder }
+{
+}
+
+/// The law of response times: where the rows of each task keep to its timing, that is, take from one tick to the
+/// cost and arrive at least a period apart in the order of their places, and the deadline of a task is at most its
+/// period, each row of that task ends at most the response time after its arrival, if that is at most the deadline
+/// (M. Joseph and P. Pandya, Finding Response Times in a Real-Time System, 1986). It speaks of the schedule, for
+/// any rows, and not of a plan that was opened, so it serves rows too whose lengths are known only afterwards.
+pub fn response_bounds_every_finish()
+    ensures { ResponseBounds }
+{
 }
 
 /// The place of the row that goes first among those that have arrived by a moment and have had fewer ticks than

@@ -3,7 +3,7 @@
 
 ghost use Rattle.std.specs.Prelude.{◌≡◌, ℕ, ◌+◌, ◌<◌, ◌≤◌, ◌^◌, ◌↔◌, length, slice_index, All, IfOk, IfSome, IsNone};
 ghost use Rattle.std.specs.Option.{ForSome};
-ghost use Rattle.hk_plan.specs.Alone.{chosen, first_of, row_at, had_after, ticks_of, TakesTicks, EndsAt, EachTickFollowsOrder};
+ghost use Rattle.hk_plan.specs.Alone.{chosen, first_of, row_at, IsUnended, TakesTicks, EndsAt, EachTickFollowsOrder};
 ghost use Rattle.hk_plan.specs.Bounds.{ResponseBounds};
 
 use std::alloc::{AllocError, AllocFailed, Global};
@@ -103,7 +103,7 @@ impl Plan {
         requires { row < length self.now.rows }
         ensures ends { IfSome result (λ e. EndsAt self.now.rows row e) }
         ensures by_now { IfSome result (λ e. e ≤ self.now.given) }
-        ensures none { IsNone result ↔ (had_after self.now.rows self.now.given row < ticks_of self.now.rows row) }
+        ensures none { IsNone result ↔ IsUnended self.now.rows self.now.given row }
     {
         self.finish[row]
     }

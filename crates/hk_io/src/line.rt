@@ -50,9 +50,7 @@ impl Line {
         requires { length (with_number self.old value) ≤ LINE_ROOM }
         ensures { self.new ≡ with_number self.old value }
     {
-        if !self.held.as_slice().is_empty() {
-            self.held.push(b" ");
-        }
+        self.word(b"");
         self.digits(value);
     }
 

@@ -46,15 +46,13 @@ pub fn take_all<S: Source>(alloc: Global, source: &mut S) -> Result<Vec<u8>, Tak
 {
     let mut bytes = Vec::new(alloc);
     let mut piece = [0; PIECE];
-    loop {
+    while bytes.len() <= MAX_INPUT {
         let room = PIECE.min(MAX_INPUT + 1 - bytes.len());
-        let count = source.read(&mut piece[..room])?;
-        if count == 0 {
-            return Ok(bytes);
-        }
-        bytes.extend_from_slice(&piece[..count])?;
-        if bytes.len() > MAX_INPUT {
-            return Err(TakeFault::Long);
+        match source.read(&mut piece[..room]) {
+            Ok(0) => return Ok(bytes),
+            Ok(count) => bytes.extend_from_slice(&piece[..count])?,
+            Err(Failed) => return Err(TakeFault::Failed),
         }
     }
+    Err(TakeFault::Long)
 }

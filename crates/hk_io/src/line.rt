@@ -50,6 +50,7 @@ impl Line {
         requires { length (with_number self.old value) ≤ LINE_ROOM }
         ensures { self.new ≡ with_number self.old value }
     {
+        // the space alone
         self.word(b"");
         self.digits(value);
     }

@@ -74,11 +74,12 @@ impl MemSink {
 impl Sink for MemSink {
     ghost taken = { λ sink. Some sink.taken };
 
+    // The count has 64 bits, so it is the lesser of the two.
     ghost faults = { λ sink. min sink.faults (2 ^ 64 - 1) };
 
-    ghost use Rattle.std.proofs.Common.{rules};
+    ghost use Rattle.std.proofs.Math.Nat.{min-le_right};
 
-    ghost faults_fit = { λ sink. Prim.search rules };
+    ghost faults_fit = { λ sink. min-le_right sink.faults (2 ^ 64 - 1) };
 
     fn write(&mut self, piece: &[u8]) -> Result<usize, Failed>
         requires { 0 < length piece.now }

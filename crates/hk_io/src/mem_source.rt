@@ -63,11 +63,12 @@ impl MemSource {
 impl Source for MemSource {
     ghost left = { λ source. Some source.left };
 
+    // The count has 64 bits, so it is the lesser of the two.
     ghost faults = { λ source. min source.faults (2 ^ 64 - 1) };
 
-    ghost use Rattle.std.proofs.Common.{rules};
+    ghost use Rattle.std.proofs.Math.Nat.{min-le_right};
 
-    ghost faults_fit = { λ source. Prim.search rules };
+    ghost faults_fit = { λ source. min-le_right source.faults (2 ^ 64 - 1) };
 
     fn read(&mut self, buf: &mut [u8]) -> Result<usize, Failed>
         ensures within { IfOk result (λ count. count ≤ length buf.new) }

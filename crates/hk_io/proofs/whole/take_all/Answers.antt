@@ -13,6 +13,6 @@ returns-in_err-extend_from_slice-in-Ok-clause-stops g c =
     let within : c.in-Ok.count ≤ length piece = c.in-Ok.ensures.within in
     record {
       front = bytes ++ take c.in-Ok.count piece;
-      length_is = omega (arith, size, c.loop-piece.bytes.ok, c.loop-piece.invariant.short, c.min-room.ensures, c.len-in-loop-piece.ensures, length-take c.min-room.result c.loop-piece.piece, length-more bytes piece c.in-Ok.count within);
+      fits = omega (arith, size, c.loop-piece.bytes.ok, c.loop-piece.invariant.short, c.min-room.ensures, c.len-in-loop-piece.ensures, length-take c.min-room.result c.loop-piece.piece, length-more bytes piece c.in-Ok.count within);
       consumed = Consumes-trans _ _ _ _ _ c.loop-piece.invariant.consumed c.in-Ok.ensures.bytes.0;
     }

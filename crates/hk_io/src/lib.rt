@@ -1,6 +1,32 @@
 //! Where a program's bytes come from and where they go.
 #![tactic(auto)]
 
+ghost use Rattle.std.specs.Prelude.{◌≡◌};
+ghost use Rattle.hk_io.specs.Status.{number_of};
+
+mod buffer;
+mod faults;
+mod gather;
+mod line;
+mod mem_sink;
+mod mem_source;
+mod std_sink;
+mod std_source;
+mod streams;
+#[cfg(test)]
+mod tests;
+mod whole;
+
+pub use faults::{Failed, Memory, TakeFault};
+pub use gather::{GATHER_ROOM, Gather};
+pub use line::{LINE_ROOM, Line};
+pub use mem_sink::MemSink;
+pub use mem_source::MemSource;
+pub use std_sink::StdSink;
+pub use std_source::StdSource;
+pub use streams::{Sink, Source};
+pub use whole::{MAX_INPUT, put_all, take_all};
+
 /// How a program ends. The number is its exit status.
 #[derive(Clone, Copy, Debug, PartialEq, Eq)]
 pub enum Status {
@@ -14,4 +40,19 @@ pub enum Status {
     WriteFault,
     /// This form of input is not run yet. One line was written.
     NotBuilt,
+}
+
+impl Status {
+    /// The exit status.
+    pub fn number(&self) -> u8
+        ensures { result ≡ number_of self.now }
+    {
+        match self {
+            Status::Done => 0,
+            Status::Memory => 1,
+            Status::ReadFault => 3,
+            Status::WriteFault => 4,
+            Status::NotBuilt => 9,
+        }
+    }
 }

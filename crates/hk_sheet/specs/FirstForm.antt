@@ -1,5 +1,5 @@
 -- The first form of a task sheet: one high task, whose script works and puts out variables, and no low task.
-use Rattle.std.specs.Prelude.{◌≡◌, ℕ, ◌+◌, ◌-◌, ◌*◌, ◌≤◌, Bool, true, ◌||◌, ◌==◌, List, [], ◌∷◌, length, codes, Some, None, IsUtf8}
+use Rattle.std.specs.Prelude.{◌≡◌, IsTrue, ℕ, ◌+◌, ◌-◌, ◌*◌, ◌≤◌, Bool, true, ◌||◌, ◌==◌, List, [], ◌∷◌, length, codes, Some, None, IsUtf8}
 use Rattle.std.specs.List.{list_all}
 use Rattle.std.specs.Char.{is_ascii_lowercase, is_ascii_digit}
 use Rattle.toml.specs.Data.{Members}
@@ -12,22 +12,14 @@ use Rattle.hk_sheet.specs.declared.sheet.HeapKeys.{HeapKeys}
 use Rattle.hk_sheet.specs.declared.sheet.High.{High}
 use Rattle.hk_sheet.specs.declared.sheet.Sheet.{Sheet}
 use Rattle.hk_sheet.specs.declared.sheet.TheConstants.{MAX_TICKS, MAX_SIZE, MAX_RATE, MAX_FIELDS, MAX_NAME}
-use Rattle.hk_sheet.specs.Keys.{HasOnly, HoldsInteger, HoldsPair, HoldsText, HoldsTable, HoldsOneTable}
+use Rattle.hk_sheet.specs.Keys.{has_only, HoldsInteger, HoldsPair, HoldsText, HoldsTable, HoldsOneTable}
+use Rattle.hk_sheet.specs.Section.{keys_of}
+use Rattle.hk_sheet.specs.declared.section.Section.TheVariants.{Top, Heap, Task}
 use Rattle.hk_sheet.specs.Script.{IsScript, ticks_of}
-
--- the keys of each table
-abbrev pub sheet_keys : List (List ℕ)
-sheet_keys = codes "version" ∷ codes "ticks" ∷ codes "heap" ∷ codes "high" ∷ []
-
-abbrev pub heap_keys : List (List ℕ)
-heap_keys = codes "live" ∷ codes "alloc" ∷ codes "reserve" ∷ codes "rate" ∷ codes "board" ∷ []
-
-abbrev pub task_keys : List (List ℕ)
-task_keys = codes "name" ∷ codes "period" ∷ codes "deadline" ∷ codes "cost" ∷ codes "words" ∷ codes "first" ∷ codes "every" ∷ codes "script" ∷ []
 
 -- the heap that a table declares
 pub record IsHeap (members : Members) (heap : HeapKeys) : Type 0 where
-  pub keys : HasOnly heap_keys members
+  pub keys : IsTrue (has_only (keys_of Heap) members)
   pub live : HoldsInteger members (codes "live") 0 MAX_SIZE heap.live
   pub alloc : HoldsInteger members (codes "alloc") 0 MAX_SIZE heap.alloc
   pub reserve : HoldsInteger members (codes "reserve") 0 MAX_SIZE heap.reserve
@@ -59,7 +51,7 @@ pub record HoldsScript (members : Members) (task : High) : Type 0 where
 
 -- the high task that a table declares
 pub record IsHigh (members : Members) (task : High) : Type 0 where
-  pub keys : HasOnly task_keys members
+  pub keys : IsTrue (has_only (keys_of Task) members)
   pub name : HoldsText members (codes "name") task.name
   pub period : HoldsInteger members (codes "period") 1 MAX_TICKS task.timing.period
   pub deadline : HoldsInteger members (codes "deadline") 1 task.timing.period task.timing.deadline
@@ -105,7 +97,7 @@ IsCollected heap = 37 + 9 * heap.live + 7 * heap.alloc ≤ heap.rate * (heap.all
 
 -- the document is of the first form, and this is its sheet
 pub record IsFirstForm (document : Members) (sheet : Sheet) : Type 0 where
-  pub keys : HasOnly sheet_keys document
+  pub keys : IsTrue (has_only (keys_of Top) document)
   pub version : HoldsInteger document (codes "version") 1 1 1
   pub ticks : HoldsInteger document (codes "ticks") 1 MAX_TICKS sheet.ticks
   pub heap : HasHeap document sheet.heap

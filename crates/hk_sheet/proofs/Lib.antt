@@ -1,0 +1,4 @@
+mod NumberLemmas
+mod ParseLemmas
+mod ScriptLemmas
+mod TableLemmas

@@ -1,4 +1,6 @@
+mod AnswerLemmas
 mod NumberLemmas
+mod OneSheet
 mod ParseLemmas
 mod ScriptLemmas
 mod TableLemmas

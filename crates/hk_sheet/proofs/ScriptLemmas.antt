@@ -1,17 +1,19 @@
 -- Laws of the lines of a script: a text has one script at most.
-use Rattle.std.proofs.Common.{◌≡◌, ◌≢◌, ℕ, suc, ◌+◌, ◌^◌, ◌<◌, ◌≤◌, Bool, true, false, not, eqb, List, [], ◌∷◌, ◌++◌, length, get_or, take, drop, flat_map, codes, decimal, ◌⊎◌, inl, inr, refl, sym, ◌∙◌, ap, subst, arith, append_assoc, rules}
+use Rattle.std.proofs.Common.{◌≡◌, ◌≢◌, ℕ, suc, ◌+◌, ◌*◌, ◌^◌, ◌<◌, ◌≤◌, Bool, true, false, not, eqb, List, [], ◌∷◌, ◌++◌, length, get_or, take, drop, flat_map, codes, decimal, ◌⊎◌, inl, inr, refl, sym, ◌∙◌, ap, subst, arith, append_assoc, rules}
 use Rattle.std.specs.List.{AllByRecursion, list_all, before_first, after_first, position_or_len}
 use Rattle.std.specs.Str.Parse.{AllDigits}
 use Rattle.std.proofs.lemmas.Bool.{and_parts, cases_lt, eqb-true}
 use Rattle.std.proofs.lemmas.Bool.Decides.{nat_tests}
 use Rattle.std.proofs.lemmas.List.{append_cancel_left, append-nil, length-append, same_from_push, take_all, take_at, drop_all, drop_at, drop-drop}
-use Rattle.std.proofs.lemmas.List.Sums.{split_at_first, passes_at_first}
+use Rattle.std.proofs.lemmas.List.Sums.{split_at_first, passes_at_first, sum_by-le}
+use Rattle.std.proofs.lemmas.List.Elements.{All-from_recursion}
 use Rattle.std.proofs.lemmas.Fmt.{decimal_injective, digits_decimal}
 use Rattle.std.proofs.lemmas.Str.Parse.{IsNumeralModel, digit_from_value}
 use Rattle.hk_sheet.specs.declared.script.Statement.{Statement}
 use Rattle.hk_sheet.specs.declared.script.Statement.TheVariants.{Work, Out}
+use Rattle.hk_sheet.specs.declared.script.TheConstants.{MAX_WORK, MAX_STATEMENTS}
 use Rattle.hk_sheet.specs.Lines.{is_newline}
-use Rattle.hk_sheet.specs.Script.{IsStatement, IsLineOf, line_of, newline, text_of, Writes}
+use Rattle.hk_sheet.specs.Script.{IsStatement, IsLineOf, line_of, newline, text_of, Writes, IsScript, ticks_of, ticks_of_statement}
 use Rattle.hk_sheet.proofs.NumberLemmas.{IsDecimal, digits_only}
 
 -- the number of a statement has 64 bits
@@ -173,3 +175,19 @@ joined text s tail line rest =
         let empty : after_first is_newline text ≡ [] = drop_all (place + 1) text (omega arith) in
         joined-only text s tail whole (subst (λ (t : List ℕ). Writes t tail) empty rest))
     ]
+
+-- a right statement takes at most so many ticks
+few_ticks : (s : Statement) → IsStatement s → ticks_of_statement s ≤ MAX_WORK
+few_ticks (Work ticks) is = is.1
+few_ticks (Out variable) is = omega arith
+
+all_few : (script : List Statement) → AllByRecursion IsStatement script → AllByRecursion (λ s. ticks_of_statement s ≤ MAX_WORK) script
+all_few [] is = tt
+all_few (s ∷ rest) is = (few_ticks s is.0, all_few rest is.1)
+
+-- the ticks of a right script have 64 bits
+pub ticks_of-small : (text : List ℕ) (script : List Statement) → IsScript text script → ticks_of script < 2 ^ 64
+ticks_of-small text script is =
+    let each = All-from_recursion (λ s. ticks_of_statement s ≤ MAX_WORK) script (all_few script is.right) in
+    let all : ticks_of script ≤ length script * MAX_WORK = sum_by-le ticks_of_statement MAX_WORK script each in
+    omega (arith, all, is.few)

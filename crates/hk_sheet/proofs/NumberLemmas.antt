@@ -30,11 +30,11 @@ pub no_zero : (text : List ℕ) (n : ℕ) → IsDecimal text n → 1 < length te
 no_zero text n is long zero =
     elim (cases_eq n 0) [
       | inl none ↦ (
-        let one : length text ≡ 1 = ap length (is.1 ∙ ap decimal none ∙ decimal_digit 0 (omega arith)) in
-        absurd (omega arith))
+          let one : length text ≡ 1 = ap length (is.1 ∙ ap decimal none ∙ decimal_digit 0 (omega arith)) in
+          absurd (omega arith))
       | inr some ↦ (
-        let first : get_or (decimal n) 0 0 ≡ 48 = rw (← is.1) zero in
-        absurd (omega (arith, first_decimal n (omega arith) (omega arith), first)))
+          let first : get_or (decimal n) 0 0 ≡ 48 = rw (← is.1) zero in
+          absurd (omega (arith, first_decimal n (omega arith) (omega arith), first)))
     ]
 
 found : {E : Type 0} (text : List ℕ) (r : Result ℕ E) → OkIff r (AllDigits 10 text × (0 < length text) × (digits_value 10 text < 2 ^ 16)) (digits_value 10 text)

@@ -128,7 +128,7 @@ cut_rest text s [] line e =
 cut_rest text s (t ∷ rest) line e =
     let (front, is) = ends t rest in
     let same : text ≡ line_of s ++ 10 ∷ front =
-        (same_from_push text (line_of s ++ 10 ∷ front) 10 10 (e ∙ text_of-more s (t ∷ rest) ∙ ap (λ more. line_of s ++ 10 ∷ more) is ∙ sym (append_assoc (line_of s) (10 ∷ front) newline))).0 in
+    (same_from_push text (line_of s ++ 10 ∷ front) 10 10 (e ∙ text_of-more s (t ∷ rest) ∙ ap (λ more. line_of s ++ 10 ∷ more) is ∙ sym (append_assoc (line_of s) (10 ∷ front) newline))).0 in
     (rw same (before-line (line_of s) front line), rw (same, after-line (line_of s) front line) (inr (sym is)))
 
 pub cut : (text : List ℕ) (s : Statement) (rest : List Statement) → IsSmall s → Writes text (s ∷ rest) → (before_first is_newline text ≡ line_of s) × Writes (after_first is_newline text) rest
@@ -166,14 +166,14 @@ joined text s tail line rest =
     let place = position_or_len is_newline text in
     elim (cases_lt place (length text)) [
       | inl within ↦ (
-        let byte : get_or text place 0 ≡ 10 = eqb-true _ _ (passes_at_first is_newline text 0 within) in
-        let split : text ≡ line_of s ++ 10 ∷ after_first is_newline text =
-            split_at_first is_newline text 0 within ∙ ap (λ l. l ++ get_or text place 0 ∷ after_first is_newline text) line ∙ ap (λ b. line_of s ++ b ∷ after_first is_newline text) byte in
-        joined-line text s tail (after_first is_newline text) split rest)
+          let byte : get_or text place 0 ≡ 10 = eqb-true _ _ (passes_at_first is_newline text 0 within) in
+          let split : text ≡ line_of s ++ 10 ∷ after_first is_newline text =
+          split_at_first is_newline text 0 within ∙ ap (λ l. l ++ get_or text place 0 ∷ after_first is_newline text) line ∙ ap (λ b. line_of s ++ b ∷ after_first is_newline text) byte in
+          joined-line text s tail (after_first is_newline text) split rest)
       | inr past ↦ (
-        let whole : text ≡ line_of s = sym (take_all place text past) ∙ line in
-        let empty : after_first is_newline text ≡ [] = drop_all (place + 1) text (omega arith) in
-        joined-only text s tail whole (subst (λ (t : List ℕ). Writes t tail) empty rest))
+          let whole : text ≡ line_of s = sym (take_all place text past) ∙ line in
+          let empty : after_first is_newline text ≡ [] = drop_all (place + 1) text (omega arith) in
+          joined-only text s tail whole (subst (λ (t : List ℕ). Writes t tail) empty rest))
     ]
 
 -- a right statement takes at most so many ticks

@@ -23,10 +23,10 @@ returns c =
     let short : get_or text 0 0 ≡ 48 → length text ≡ 1 = λ zero.
     elim c.else-text-gt1.branch [
       | else-text-gt1-via-then-text-gt1+else-starts_with-2 w ↦ (
-        let again = w.starts_with-then-text-gt1 in
-        let told = (starts_char 48 text again.result again.ensures.cases (lit< tt) (lit< tt)).1 zero in
-        let found = w.if-starts_with-2.false in
-        cc)
+          let again = w.starts_with-then-text-gt1 in
+          let told = (starts_char 48 text again.result again.ensures.cases (lit< tt) (lit< tt)).1 zero in
+          let found = w.if-starts_with-2.false in
+          cc)
       | else-text-gt1-via-else-text-gt1 w ↦ one_byte text (omega arith) zero
     ] in
     rw c.ok.ensures.value (parsed text c.parse.result c.parse.ensures.value.0 no_sign short)

@@ -21,7 +21,7 @@ loop-rest-preserved c =
     let line = rw c.cut_line.ensures.line at c.in-Some.ensures in
     record {
       parsed = rw (c.in_ok-push.ensures.items, c.cut_line.ensures.rest)
-        (parsed_more c.args.text.now c.loop-rest.items.items rest c.in-Some.statement c.loop-rest.invariant.parsed some line (omega arith));
+          (parsed_more c.args.text.now c.loop-rest.items.items rest c.in-Some.statement c.loop-rest.invariant.parsed some line (omega arith));
       text = search rules;
     }
 

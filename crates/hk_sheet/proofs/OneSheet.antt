@@ -1,8 +1,6 @@
 -- A document has one sheet at most.
-use Rattle.std.proofs.Common.{◌≡◌, ℕ, ◌+◌, ◌*◌, ◌^◌, ◌<◌, ◌≤◌, pos, List, [], ◌∷◌, length, codes, Some, None, Result, Ok, Err, IfOk, IsUtf8, refl, sym, ◌∙◌, ap, subst, arith}
-use Rattle.std.specs.List.{AllByRecursion}
-use Rattle.std.specs.Prelude.{sum_by}
-use Rattle.toml.specs.Data.{Members, integer, string, table, get_member}
+use Rattle.std.proofs.Common.{◌≡◌, ℕ, List, [], ◌∷◌, codes, Some, Result, Ok, Err, IfOk, IsUtf8, sym, ◌∙◌, ap}
+use Rattle.toml.specs.Data.{Members}
 use Rattle.toml.specs.Parse.{parse_document}
 use Rattle.hk_rta.specs.declared.Timing.{Timing}
 use Rattle.hk_sheet.specs.declared.arrivals.Arrivals.{Arrivals}
@@ -12,8 +10,8 @@ use Rattle.hk_sheet.specs.declared.script.Statement.{Statement}
 use Rattle.hk_sheet.specs.declared.sheet.HeapKeys.{HeapKeys}
 use Rattle.hk_sheet.specs.declared.sheet.High.{High}
 use Rattle.hk_sheet.specs.declared.sheet.Sheet.{Sheet}
-use Rattle.hk_sheet.specs.Keys.{HoldsInteger, HoldsPair, HoldsText, HoldsTable, HoldsOneTable}
-use Rattle.hk_sheet.specs.FirstForm.{HoldsName, HoldsTiming, HoldsArrivals, HoldsScript, IsHigh, HasHigh, IsHeap, HasHeap, IsFirstForm, IsSheetOf, IsOnlySheetOf}
+use Rattle.hk_sheet.specs.Keys.{HoldsInteger, HoldsText, HoldsTable, HoldsOneTable}
+use Rattle.hk_sheet.specs.FirstForm.{HoldsTiming, HoldsArrivals, HoldsScript, IsHigh, HasHigh, IsHeap, IsFirstForm, IsSheetOf, IsOnlySheetOf}
 use Rattle.hk_sheet.specs.Answers.{Reads}
 use Rattle.hk_sheet.specs.declared.reader.ReadError.{ReadError}
 use Rattle.hk_sheet.proofs.ScriptLemmas.{one_script}

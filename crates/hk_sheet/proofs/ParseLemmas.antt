@@ -1,7 +1,7 @@
 -- How far a script has been parsed.
-use Rattle.std.proofs.Common.{◌≡◌, ℕ, ◌+◌, ◌<◌, ◌≤◌, List, [], ◌∷◌, ◌++◌, length, refl, sym, ◌∙◌, ap, subst, inl, inr, arith, append_assoc}
+use Rattle.std.proofs.Common.{◌≡◌, ℕ, ◌+◌, ◌<◌, ◌≤◌, List, [], ◌∷◌, ◌++◌, length, refl, sym, ◌∙◌, ap, subst, arith, append_assoc}
 use Rattle.std.specs.List.{AllByRecursion, before_first, after_first, position_or_len}
-use Rattle.std.proofs.lemmas.List.{append-nil, append_cancel_left, length_push, length-append, length-drop}
+use Rattle.std.proofs.lemmas.List.{length_push, length-append, length-drop}
 use Rattle.hk_sheet.specs.declared.script.Statement.{Statement}
 use Rattle.hk_sheet.specs.declared.script.TheConstants.{MAX_STATEMENTS}
 use Rattle.hk_sheet.specs.Lines.{is_newline}

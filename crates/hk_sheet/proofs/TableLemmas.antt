@@ -1,9 +1,9 @@
 -- Laws of the keys of a table, and of arrays of a known length.
-use Rattle.std.proofs.Common.{◌≡◌, ℕ, suc, ◌<◌, ◌≤◌, pos, List, [], ◌∷◌, length, get_or, map, Bool, ◌&&◌, String, Global, string_bytes, Option, Some, None, option_map, Bor, refl, ap, ◌∙◌, sym, arith, rules}
+use Rattle.std.proofs.Common.{◌≡◌, ℕ, suc, pos, List, [], ◌∷◌, length, get_or, Bool, ◌&&◌, String, Global, string_bytes, Option, Some, refl, ap}
 use Rattle.std.specs.List.{list_all}
 use Rattle.std.specs.Map.{keys_of}
 use Rattle.toml.specs.Data.{Data, array, as_array, integer, Items, no_items, item, Members, get_member}
-use Rattle.toml.specs.View.{view, members_view, items_view, array_view}
+use Rattle.toml.specs.View.{view, members_view, items_view}
 use Rattle.toml.specs.declared.value.Value.{Value}
 use Rattle.hk_sheet.specs.Keys.{is_among, has_only, HoldsPair}
 

@@ -1,11 +1,11 @@
-//! Sheets at and around the first form. Whether each is one is worked out from the rules of the sheet.
+//! Sheets at and around the first form. Whether each is of it is worked out from the rules of the sheet.
 use crate::{Arrivals, ReadError, Statement, Ticks, read};
 use std::alloc::{AllocError, Global};
 use std::process::Abort;
 use std::test::Fail;
 
 /// The smallest sheet of the first form.
-const SMALLEST: &str = "version = 1
+const SMALLEST: &str = r#"version = 1
 ticks = 10
 
 [heap]
@@ -16,55 +16,65 @@ rate = 11
 board = [2, 2]
 
 [[high]]
-name = \"a\"
+name = "a"
 period = 10
 deadline = 10
 cost = 2
 words = 0
 first = 0
 every = 10
-script = \"\"\"
+script = """
 work 1
 out v0
-\"\"\"
+"""
+"#;
+
+// Parts of it.
+const HEAP: &str = "[heap]
+live = 62
+alloc = 512
+reserve = 129
+rate = 11
+board = [2, 2]
 ";
 
-/// Parts of it.
-const NAME: &str = "name = \"a\"";
+const TASK: &str = r#"[[high]]
+name = "a"
+period = 10
+deadline = 10
+cost = 2
+words = 0
+first = 0
+every = 10
+script = """
+work 1
+out v0
+"""
+"#;
 
-const HEAP: &str = "live = 62\nalloc = 512\nreserve = 129\nrate = 11\nboard = [2, 2]";
-
-const HEAP_TABLE: &str = "[heap]\nlive = 62\nalloc = 512\nreserve = 129\nrate = 11\nboard = [2, 2]";
-
-const TIMES: &str =
-    "period = 10\ndeadline = 10\ncost = 2\nwords = 0\nfirst = 0\nevery = 10\nscript = \"\"\"\nwork 1\nout v0\n\"\"\"";
-
-const SCRIPT: &str = "script = \"\"\"\nwork 1\nout v0\n\"\"\"";
+const SCRIPT: &str = r#"script = """
+work 1
+out v0
+"""
+"#;
 
 /// The smallest sheet with a part of its text changed.
-fn edited(alloc: Global, old: &str, new: &str) -> Result<String, AllocError> {
-    let (before, after) = SMALLEST.split_once(old).unwrap_or((SMALLEST, old));
+fn edited(rt: &impl Abort, alloc: Global, old: &str, new: &str) -> Result<String, AllocError> {
+    let Some((before, after)) = SMALLEST.split_once(old) else {
+        panic!(rt; "the sheet lacks {old:?}");
+    };
     format!(in alloc; "{before}{new}{after}")
 }
 
-/// Reads each changed sheet, and compares whether it is of the first form with what is wanted.
-fn expect_all(
-    rt: &impl Abort,
-    alloc: Global,
-    cases: &[(&str, &str)],
-    taken: bool,
-) -> Result<(), AllocError> {
-    for (old, new) in cases {
-        let text = edited(alloc, old, new)?;
-        match read(alloc, text.as_bytes()) {
-            Ok(_) => assert!(rt; taken, "taken: {new:?}"),
-            Err(error) => {
-                assert_eq!(rt; error, ReadError::NotFirstForm);
-                assert!(rt; !taken, "refused: {new:?}");
-            }
+/// Compares whether a text is of the first form with what is wanted.
+fn expect_read(rt: &impl Abort, alloc: Global, text: &str, taken: bool) {
+    match read(alloc, text.as_bytes()) {
+        Ok(_) => assert!(rt; taken, "taken: {text}"),
+        Err(error) => {
+            assert_eq!(rt; error, ReadError::NotFirstForm, "{text}");
+            assert!(rt; !taken, "refused: {text}");
         }
     }
-    Ok(())
 }
 
 #[test]
@@ -92,327 +102,338 @@ fn reads_the_smallest_sheet(rt: HostRuntime) -> Result<(), Fail> {
     Ok(())
 }
 
-/// Changes that leave a sheet of the first form.
-const TAKEN: &[(&str, &str)] = &[
-    ("version", "version"),
-    ("ticks = 10", "ticks = 0xA"),
-    ("ticks = 10", "ticks = +1_0 # ten"),
-    ("ticks = 10\n", "ticks = 10\r\n"),
-    ("version = 1", "\u{feff}version = 1"),
-    (
-        HEAP_TABLE,
-        "[heap]\nboard = [2, 2]\nrate = 11\nreserve = 129\nalloc = 512\nlive = 62",
-    ),
-    (
-        HEAP_TABLE,
-        "heap = {live = 62, alloc = 512, reserve = 129, rate = 11, board = [2, 2]}",
-    ),
-    (
-        HEAP_TABLE,
-        "heap.live = 62\nheap.alloc = 512\nheap.reserve = 129\nheap.rate = 11\nheap.board = [2, 2]",
-    ),
-    ("board = [2, 2]", "board = [\n2,\n2,\n]"),
-    (NAME, "name = '''a'''"),
-    (NAME, "name = \"\\u0061\""),
-    (SCRIPT, "script = \"work 1\\nout v0\\n\""),
-    (SCRIPT, "script = \"work 1\\nout v0\""),
-    ("ticks = 10", "ticks = 1"),
-    ("ticks = 10", "ticks = 16777216"),
-    (
-        TIMES,
-        "period = 16777216\ndeadline = 16777216\ncost = 16777216\nwords = 0\nfirst = 16777216\nevery = 16777216\nscript = \"work 1\"",
-    ),
-    (
-        TIMES,
-        "period = 1\ndeadline = 1\ncost = 1\nwords = 0\nfirst = 0\nevery = 1\nscript = \"out v7\"",
-    ),
-    ("deadline = 10", "deadline = 2"),
-    ("cost = 2", "cost = 10"),
-    ("first = 0", "first = 16777216"),
-    ("every = 10", "every = 11"),
-    ("every = 10", "every = 16777216"),
-    (NAME, "name = \"z_09\""),
-    (NAME, "name = \"abcdefghijklmno0\""),
+/// A part of the smallest sheet, what stands in its place, and whether the sheet is then of the form.
+const EDITS: &[(&str, &str, bool)] = &[
+    // The same sheet, written in another way.
+    ("version", "version", true),
+    ("version", "\u{feff}version", true),
+    ("ticks = 10", "ticks = 0xA", true),
+    ("ticks = 10", "ticks = +1_0 # ten", true),
+    ("ticks = 10\n", "ticks = 10\r\n", true),
     (
         HEAP,
-        "live = 6\nalloc = 512\nreserve = 129\nrate = 11\nboard = [2, 2]",
+        "[heap]\nboard = [2, 2]\nrate = 11\nreserve = 129\nalloc = 512\nlive = 62\n",
+        true,
     ),
     (
         HEAP,
-        "live = 64\nalloc = 512\nreserve = 129\nrate = 11\nboard = [62, 0]",
+        "heap = {live = 62, alloc = 512, reserve = 129, rate = 11, board = [2, 2]}\n",
+        true,
     ),
     (
         HEAP,
-        "live = 64\nalloc = 512\nreserve = 129\nrate = 11\nboard = [31, 31]",
+        "heap.live = 62\nheap.alloc = 512\nheap.reserve = 129\nheap.rate = 11\nheap.board = [2, 2]\n",
+        true,
     ),
-    (
-        HEAP,
-        "live = 62\nalloc = 512\nreserve = 129\nrate = 11\nboard = [0, 1]",
-    ),
-    (
-        HEAP,
-        "live = 65536\nalloc = 512\nreserve = 129\nrate = 4096\nboard = [2, 2]",
-    ),
-    (
-        HEAP,
-        "live = 62\nalloc = 65536\nreserve = 129\nrate = 4096\nboard = [2, 2]",
-    ),
-    (
-        HEAP,
-        "live = 62\nalloc = 512\nreserve = 132\nrate = 11\nboard = [2, 2]",
-    ),
-    (
-        HEAP,
-        "live = 62\nalloc = 512\nreserve = 313\nrate = 21\nboard = [2, 2]",
-    ),
-    (
-        HEAP,
-        "live = 62\nalloc = 512\nreserve = 510\nrate = 4096\nboard = [2, 2]",
-    ),
-    (
-        HEAP,
-        "live = 62\nalloc = 16\nreserve = 0\nrate = 45\nboard = [2, 2]",
-    ),
-    (
-        HEAP,
-        "live = 65536\nalloc = 65536\nreserve = 0\nrate = 17\nboard = [2, 2]",
-    ),
-    (SCRIPT, "script = \"work 2\""),
-    (SCRIPT, "script = \"out v0\\nout v7\""),
-    (
-        TIMES,
-        "period = 65535\ndeadline = 65535\ncost = 65535\nwords = 0\nfirst = 0\nevery = 65535\nscript = \"work 65535\"",
-    ),
+    ("[2, 2]", "[\n2,\n2,\n]", true),
+    ("\"a\"", "'''a'''", true),
+    ("\"a\"", r#""\u0061""#, true),
+    // No TOML.
+    ("ticks = 10", "ticks =", false),
+    ("ticks = 10", "ticks = 010", false),
+    ("ticks = 10", "ticks = 10\nticks = 10", false),
+    ("\"\"\"\nwork", "\"\nwork", false),
+    // A missing key.
+    ("version = 1\n", "", false),
+    ("ticks = 10\n", "", false),
+    (HEAP, "", false),
+    (TASK, "", false),
+    ("live = 62\n", "", false),
+    ("alloc = 512\n", "", false),
+    ("reserve = 129\n", "", false),
+    ("rate = 11\n", "", false),
+    ("board = [2, 2]\n", "", false),
+    ("name = \"a\"\n", "", false),
+    ("period = 10\n", "", false),
+    ("deadline = 10\n", "", false),
+    ("cost = 2\n", "", false),
+    ("words = 0\n", "", false),
+    ("first = 0\n", "", false),
+    ("every = 10\n", "", false),
+    (SCRIPT, "", false),
+    // An unknown key.
+    ("ticks = 10", "ticks = 10\nx = 1", false),
+    ("ticks = 10", "ticks = 10\nx.y = 1", false),
+    ("ticks = 10", "ticks = 10\n\"\" = 1", false),
+    ("ticks = 10", "ticks = 10\nlow = []", false),
+    ("rate = 11", "rate = 11\nx = 1", false),
+    ("words = 0", "words = 0\nx = 1", false),
+    ("words = 0", "words = 0\nName = 1", false),
+    ("words = 0", "words = 0\narrivals = []", false),
+    // A value of another kind.
+    ("version = 1", "version = 1.0", false),
+    ("version = 1", "version = true", false),
+    ("version = 1", "version = \"1\"", false),
+    ("ticks = 10", "ticks = 10.0", false),
+    ("ticks = 10", "ticks = [10]", false),
+    ("ticks = 10", "ticks = 2026-01-10", false),
+    ("ticks = 10", "ticks = {}", false),
+    (HEAP, "heap = 1\n", false),
+    ("[heap]", "[[heap]]", false),
+    ("[[high]]", "[high]", false),
+    ("live = 62", "live = 62.0", false),
+    ("alloc = 512", "alloc = true", false),
+    ("reserve = 129", "reserve = \"129\"", false),
+    ("rate = 11", "rate = 11:00:00", false),
+    ("[2, 2]", "2", false),
+    ("[2, 2]", "[]", false),
+    ("[2, 2]", "[2]", false),
+    ("[2, 2]", "[2, 2, 2]", false),
+    ("[2, 2]", "[2, true]", false),
+    ("[2, 2]", "[2.0, 2]", false),
+    ("[2, 2]", "[[2, 2]]", false),
+    ("\"a\"", "1", false),
+    ("\"a\"", "[\"a\"]", false),
+    ("period = 10", "period = 10.0", false),
+    ("deadline = 10", "deadline = \"10\"", false),
+    ("cost = 2", "cost = 2e0", false),
+    ("words = 0", "words = false", false),
+    ("first = 0", "first = 0.0", false),
+    ("every = 10", "every = inf", false),
+    (SCRIPT, "script = 1\n", false),
+    // The ends of the ranges.
+    ("version = 1", "version = 0", false),
+    ("version = 1", "version = 2", false),
+    ("ticks = 10", "ticks = 0", false),
+    ("ticks = 10", "ticks = 1", true),
+    ("ticks = 10", "ticks = 16777216", true),
+    ("ticks = 10", "ticks = 16777217", false),
+    ("ticks = 10", "ticks = -10", false),
+    ("live = 62", "live = -62", false),
+    ("alloc = 512", "alloc = -512", false),
+    ("reserve = 129", "reserve = -1", false),
+    ("[2, 2]", "[-1, 2]", false),
+    ("words = 0", "words = 1", false),
+    ("words = 0", "words = -1", false),
+    // Names.
+    ("\"a\"", "\"z_09\"", true),
+    ("\"a\"", "\"abcdefghijklmno0\"", true),
+    ("\"a\"", "\"abcdefghijklmno01\"", false),
+    ("\"a\"", "\"\"", false),
+    ("\"a\"", "\"A\"", false),
+    ("\"a\"", "\"0a\"", false),
+    ("\"a\"", "\"_a\"", false),
+    ("\"a\"", "\"a-b\"", false),
+    ("\"a\"", "\"a \"", false),
+    ("\"a\"", "\"aé\"", false),
 ];
 
 #[test]
-fn takes_sheets_of_the_form(rt: HostRuntime) -> Result<(), Fail> {
-    expect_all(&rt, rt.alloc(), TAKEN, true)?;
+fn reads_changed_sheets(rt: HostRuntime) -> Result<(), Fail> {
+    for (old, new, taken) in EDITS {
+        let text = edited(&rt, rt.alloc(), old, new)?;
+        expect_read(&rt, rt.alloc(), text.as_str(), *taken);
+    }
     Ok(())
 }
 
-/// Changes that don't.
-const REFUSED: &[(&str, &str)] = &[
-    ("ticks = 10", "ticks ="),
-    ("ticks = 10", "ticks = 10\nticks = 10"),
-    ("ticks = 10", "ticks = 010"),
-    ("\"\"\"\nwork", "\"work"),
-    ("version = 1\n", ""),
-    ("ticks = 10\n", ""),
-    (HEAP_TABLE, ""),
-    ("live = 62\n", ""),
-    ("alloc = 512\n", ""),
-    ("reserve = 129\n", ""),
-    ("rate = 11\n", ""),
-    ("board = [2, 2]\n", ""),
-    ("name = \"a\"\n", ""),
-    ("period = 10\n", ""),
-    ("deadline = 10\n", ""),
-    ("cost = 2\n", ""),
-    ("words = 0\n", ""),
-    ("first = 0\n", ""),
-    ("every = 10\n", ""),
-    (SCRIPT, ""),
-    ("ticks = 10", "ticks = 10\nx = 1"),
-    ("ticks = 10", "ticks = 10\nlow = []"),
-    ("ticks = 10", "ticks = 10\nx.y = 1"),
-    ("ticks = 10", "ticks = 10\n\"\" = 1"),
-    ("rate = 11", "rate = 11\nx = 1"),
-    ("words = 0", "words = 0\nx = 1"),
-    ("words = 0", "words = 0\narrivals = []"),
-    ("words = 0", "words = 0\nName = 1"),
-    ("version = 1", "version = 1.0"),
-    ("version = 1", "version = true"),
-    ("version = 1", "version = \"1\""),
-    ("ticks = 10", "ticks = 10.0"),
-    ("ticks = 10", "ticks = [10]"),
-    ("ticks = 10", "ticks = 2026-01-10"),
-    ("ticks = 10", "ticks = {}"),
-    (HEAP_TABLE, "heap = 1"),
-    ("[heap]", "[[heap]]"),
-    ("[[high]]", "[high]"),
-    ("live = 62", "live = 62.0"),
-    ("alloc = 512", "alloc = true"),
-    ("reserve = 129", "reserve = \"129\""),
-    ("rate = 11", "rate = 11:00:00"),
-    ("board = [2, 2]", "board = 2"),
-    ("board = [2, 2]", "board = [2]"),
-    ("board = [2, 2]", "board = [2, 2, 2]"),
-    ("board = [2, 2]", "board = []"),
-    ("board = [2, 2]", "board = [2, true]"),
-    ("board = [2, 2]", "board = [2.0, 2]"),
-    ("board = [2, 2]", "board = [[2, 2]]"),
-    (NAME, "name = 1"),
-    (NAME, "name = [\"a\"]"),
-    ("period = 10", "period = 10.0"),
-    ("deadline = 10", "deadline = \"10\""),
-    ("cost = 2", "cost = 2e0"),
-    ("words = 0", "words = false"),
-    ("first = 0", "first = 0.0"),
-    ("every = 10", "every = inf"),
-    (SCRIPT, "script = 1"),
-    ("version = 1", "version = 0"),
-    ("version = 1", "version = 2"),
-    ("ticks = 10", "ticks = 0"),
-    ("ticks = 10", "ticks = 16777217"),
-    ("ticks = 10", "ticks = -10"),
-    ("live = 62", "live = -62"),
-    (
-        HEAP,
-        "live = 1000001\nalloc = 512\nreserve = 129\nrate = 4096\nboard = [2, 2]",
-    ),
-    ("alloc = 512", "alloc = -512"),
-    ("reserve = 129", "reserve = -1"),
-    ("rate = 11", "rate = 0"),
-    ("rate = 11", "rate = 4097"),
-    (
-        HEAP,
-        "live = 512\nalloc = 512\nreserve = 129\nrate = 4096\nboard = [256, 1]",
-    ),
-    (
-        HEAP,
-        "live = 62\nalloc = 512\nreserve = 129\nrate = 4096\nboard = [-1, 2]",
-    ),
-    (
-        HEAP,
-        "live = 62\nalloc = 512\nreserve = 129\nrate = 4096\nboard = [2, 256]",
-    ),
-    (
-        TIMES,
-        "period = 0\ndeadline = 0\ncost = 2\nwords = 0\nfirst = 0\nevery = 10\nscript = \"work 1\"",
-    ),
-    (
-        TIMES,
-        "period = 16777217\ndeadline = 10\ncost = 2\nwords = 0\nfirst = 0\nevery = 16777216\nscript = \"work 1\"",
-    ),
-    ("deadline = 10", "deadline = 0"),
-    ("deadline = 10", "deadline = 11"),
-    ("cost = 2", "cost = 0"),
-    ("words = 0", "words = 1"),
-    ("words = 0", "words = -1"),
-    ("first = 0", "first = -1"),
-    ("first = 0", "first = 16777217"),
-    ("every = 10", "every = 0"),
-    ("every = 10", "every = 16777217"),
-    (NAME, "name = \"\""),
-    (NAME, "name = \"abcdefghijklmno01\""),
-    (NAME, "name = \"A\""),
-    (NAME, "name = \"0a\""),
-    (NAME, "name = \"_a\""),
-    (NAME, "name = \"a-b\""),
-    (NAME, "name = \"a \""),
-    (NAME, "name = \"aé\""),
-    ("every = 10", "every = 9"),
-    ("deadline = 10", "deadline = 1"),
-    ("cost = 2", "cost = 11"),
-    ("cost = 2", "cost = 1"),
-    (SCRIPT, "script = \"work 3\""),
-    (
-        HEAP,
-        "live = 63\nalloc = 512\nreserve = 129\nrate = 4096\nboard = [2, 2]",
-    ),
-    (
-        HEAP,
-        "live = 62\nalloc = 513\nreserve = 129\nrate = 4096\nboard = [2, 2]",
-    ),
-    (
-        HEAP,
-        "live = 4\nalloc = 512\nreserve = 129\nrate = 4096\nboard = [2, 2]",
-    ),
-    (
-        HEAP,
-        "live = 0\nalloc = 512\nreserve = 129\nrate = 4096\nboard = [0, 1]",
-    ),
-    (
-        HEAP,
-        "live = 62\nalloc = 512\nreserve = 129\nrate = 4096\nboard = [2, 60]",
-    ),
-    (
-        HEAP,
-        "live = 62\nalloc = 14\nreserve = 0\nrate = 4096\nboard = [2, 2]",
-    ),
-    (
-        HEAP,
-        "live = 62\nalloc = 0\nreserve = 0\nrate = 4096\nboard = [2, 2]",
-    ),
-    (
-        HEAP,
-        "live = 65538\nalloc = 512\nreserve = 129\nrate = 4096\nboard = [2, 2]",
-    ),
-    (
-        HEAP,
-        "live = 62\nalloc = 65538\nreserve = 129\nrate = 4096\nboard = [2, 2]",
-    ),
-    (
-        HEAP,
-        "live = 62\nalloc = 512\nreserve = 513\nrate = 4096\nboard = [2, 2]",
-    ),
-    (
-        HEAP,
-        "live = 62\nalloc = 512\nreserve = 129\nrate = 4096\nboard = [0, 0]",
-    ),
-    (
-        HEAP,
-        "live = 64\nalloc = 512\nreserve = 129\nrate = 4096\nboard = [63, 0]",
-    ),
-    (
-        HEAP,
-        "live = 62\nalloc = 512\nreserve = 133\nrate = 11\nboard = [2, 2]",
-    ),
-    (
-        HEAP,
-        "live = 62\nalloc = 512\nreserve = 314\nrate = 21\nboard = [2, 2]",
-    ),
-    (
-        HEAP,
-        "live = 62\nalloc = 16\nreserve = 0\nrate = 44\nboard = [2, 2]",
-    ),
-    (
-        HEAP,
-        "live = 65536\nalloc = 65536\nreserve = 0\nrate = 16\nboard = [2, 2]",
-    ),
-    (
-        HEAP,
-        "live = 62\nalloc = 512\nreserve = 512\nrate = 4096\nboard = [2, 2]",
-    ),
-    (SCRIPT, "script = \"\""),
-    (SCRIPT, "script = \"\\n\""),
-    (SCRIPT, "script = \"\\nwork 1\""),
-    (SCRIPT, "script = \"work 1\\n\\n\""),
-    (SCRIPT, "script = \"work 1\\n\\nout v0\""),
-    (SCRIPT, "script = \"work 1\\r\\n\""),
-    (SCRIPT, "script = \"work\\t1\""),
-    (SCRIPT, "script = \"work  1\""),
-    (SCRIPT, "script = \" work 1\""),
-    (SCRIPT, "script = \"work 1 \""),
-    (SCRIPT, "script = \"work 1 # one\""),
-    (SCRIPT, "script = \"# one\\nwork 1\""),
-    (SCRIPT, "script = \"work 01\""),
-    (SCRIPT, "script = \"work 0\""),
-    (SCRIPT, "script = \"work +1\""),
-    (SCRIPT, "script = \"work -1\""),
-    (SCRIPT, "script = \"work\""),
-    (SCRIPT, "script = \"work \""),
-    (SCRIPT, "script = \"work one\""),
-    (SCRIPT, "script = \"work 1 1\""),
-    (SCRIPT, "script = \"Work 1\""),
-    (SCRIPT, "script = \"out v8\""),
-    (SCRIPT, "script = \"out v00\""),
-    (SCRIPT, "script = \"out v\""),
-    (SCRIPT, "script = \"out 0\""),
-    (SCRIPT, "script = \"out r0\""),
-    (SCRIPT, "script = \"out v0 v1\""),
-    (SCRIPT, "script = \"outv0\""),
-    (SCRIPT, "script = \"set v0 1\""),
-    (
-        TIMES,
-        "period = 65536\ndeadline = 65536\ncost = 65536\nwords = 0\nfirst = 0\nevery = 65536\nscript = \"work 65536\"",
-    ),
+/// live, alloc, reserve, rate and board of a heap, and whether the sheet is of the form with it. The rate has to do
+/// 37 + 9 * live + 7 * alloc events for the alloc - reserve words beside the reserve.
+const HEAPS: &[(u64, u64, u64, u64, &str, bool)] = &[
+    // Odd.
+    (63, 512, 129, 4096, "[2, 2]", false),
+    (62, 513, 129, 4096, "[2, 2]", false),
+    // Small: below the board's words, and below 16.
+    (0, 512, 129, 4096, "[0, 1]", false),
+    (4, 512, 129, 4096, "[2, 2]", false),
+    (6, 512, 129, 4096, "[2, 2]", true),
+    (62, 0, 0, 4096, "[2, 2]", false),
+    (62, 14, 0, 4096, "[2, 2]", false),
+    (62, 16, 0, 4096, "[2, 2]", true),
+    // Large.
+    (65536, 512, 129, 4096, "[2, 2]", true),
+    (65538, 512, 129, 4096, "[2, 2]", false),
+    (1000000, 512, 129, 4096, "[2, 2]", false),
+    (1000001, 512, 129, 4096, "[2, 2]", false),
+    (62, 65536, 129, 4096, "[2, 2]", true),
+    (62, 65538, 129, 4096, "[2, 2]", false),
+    // The reserve.
+    (62, 512, 0, 4096, "[2, 2]", true),
+    (62, 512, 510, 4096, "[2, 2]", true),
+    (62, 512, 512, 4096, "[2, 2]", false),
+    (62, 512, 513, 4096, "[2, 2]", false),
+    // The board.
+    (64, 512, 129, 4096, "[0, 0]", false),
+    (64, 512, 129, 4096, "[0, 1]", true),
+    (64, 512, 129, 4096, "[62, 0]", true),
+    (64, 512, 129, 4096, "[31, 31]", true),
+    (64, 512, 129, 4096, "[63, 0]", false),
+    (62, 512, 129, 4096, "[2, 60]", false),
+    (512, 512, 129, 4096, "[255, 0]", false),
+    (512, 512, 129, 4096, "[256, 0]", false),
+    (512, 512, 129, 4096, "[0, 256]", false),
+    // The rate: 4179 events for 380, 379, 199 and 198 words; 707 events for 16; 1048613 events for 65536.
+    (62, 512, 129, 0, "[2, 2]", false),
+    (62, 512, 129, 4097, "[2, 2]", false),
+    (62, 512, 132, 11, "[2, 2]", true),
+    (62, 512, 133, 11, "[2, 2]", false),
+    (62, 512, 313, 21, "[2, 2]", true),
+    (62, 512, 314, 21, "[2, 2]", false),
+    (62, 16, 0, 45, "[2, 2]", true),
+    (62, 16, 0, 44, "[2, 2]", false),
+    (65536, 65536, 0, 17, "[2, 2]", true),
+    (65536, 65536, 0, 16, "[2, 2]", false),
 ];
 
 #[test]
-fn refuses_other_sheets(rt: HostRuntime) -> Result<(), Fail> {
-    expect_all(&rt, rt.alloc(), REFUSED, false)?;
+fn reads_heaps(rt: HostRuntime) -> Result<(), Fail> {
+    let alloc = rt.alloc();
+    for (live, words, reserve, rate, board, taken) in HEAPS {
+        let sizes = format!(in alloc; "live = {live}\nalloc = {words}\nreserve = {reserve}")?;
+        let heap = format!(in alloc; "[heap]\n{sizes}\nrate = {rate}\nboard = {board}\n")?;
+        let text = edited(&rt, alloc, HEAP, heap.as_str())?;
+        expect_read(&rt, alloc, text.as_str(), *taken);
+    }
+    Ok(())
+}
+
+/// period, deadline, cost, first and every of a task, its script, and whether the sheet is of the form with it.
+const TASKS: &[(u64, u64, u64, u64, u64, &str, bool)] = &[
+    (1, 1, 1, 0, 1, "out v7", true),
+    (0, 1, 1, 0, 1, "out v7", false),
+    (1, 0, 1, 0, 1, "out v7", false),
+    (1, 1, 0, 0, 1, "out v7", false),
+    (1, 1, 1, 0, 0, "out v7", false),
+    (
+        16777216, 16777216, 16777216, 16777216, 16777216, "work 1", true,
+    ),
+    (
+        16777217, 16777216, 16777216, 16777216, 16777216, "work 1", false,
+    ),
+    (
+        16777216, 16777217, 16777216, 16777216, 16777216, "work 1", false,
+    ),
+    (
+        16777216, 16777216, 16777217, 16777216, 16777216, "work 1", false,
+    ),
+    (
+        16777216, 16777216, 16777216, 16777217, 16777216, "work 1", false,
+    ),
+    (
+        16777216, 16777216, 16777216, 16777216, 16777217, "work 1", false,
+    ),
+    // The deadline within the period.
+    (10, 10, 2, 0, 10, "work 1", true),
+    (10, 11, 2, 0, 10, "work 1", false),
+    // The cost within the deadline.
+    (10, 2, 2, 0, 10, "work 1", true),
+    (10, 1, 2, 0, 10, "work 1", false),
+    // Arrivals no closer than the period.
+    (10, 10, 2, 0, 9, "work 1", false),
+    (10, 10, 2, 0, 11, "work 1", true),
+    // The script within the cost.
+    (10, 10, 2, 0, 10, "work 2", true),
+    (10, 10, 2, 0, 10, "work 3", false),
+    (10, 10, 2, 0, 10, "out v0\\nwork 1", true),
+    (10, 10, 2, 0, 10, "out v0\\nwork 2", false),
+    (65535, 65535, 65535, 0, 65535, "work 65535", true),
+    (65536, 65536, 65536, 0, 65536, "work 65536", false),
+];
+
+#[test]
+fn reads_tasks(rt: HostRuntime) -> Result<(), Fail> {
+    let alloc = rt.alloc();
+    for (period, deadline, cost, first, every, script, taken) in TASKS {
+        let timing = format!(in alloc; "period = {period}\ndeadline = {deadline}\ncost = {cost}")?;
+        let arrivals = format!(in alloc; "first = {first}\nevery = {every}")?;
+        let head = format!(in alloc; "[[high]]\nname = \"a\"\n{timing}\nwords = 0\n{arrivals}")?;
+        let task = format!(in alloc; "{head}\nscript = \"{script}\"\n")?;
+        let text = edited(&rt, alloc, TASK, task.as_str())?;
+        expect_read(&rt, alloc, text.as_str(), *taken);
+    }
+    Ok(())
+}
+
+/// The text of a script as a TOML string, and whether it is canonical and a script.
+const SCRIPTS: &[(&str, bool)] = &[
+    ("work 1\\nout v0\\n", true),
+    ("work 1\\nout v0", true),
+    ("out v0\\nout v7", true),
+    ("", false),
+    ("\\n", false),
+    ("\\nwork 1", false),
+    ("work 1\\n\\n", false),
+    ("work 1\\n\\nout v0", false),
+    ("work 1\\r\\n", false),
+    ("work\\t1", false),
+    ("work  1", false),
+    (" work 1", false),
+    ("work 1 ", false),
+    ("work 1 # one", false),
+    ("# one\\nwork 1", false),
+    ("work 01", false),
+    ("work 0", false),
+    ("work +1", false),
+    ("work -1", false),
+    ("work 1.0", false),
+    ("work", false),
+    ("work ", false),
+    ("work one", false),
+    ("work 1 1", false),
+    ("Work 1", false),
+    ("out v8", false),
+    ("out v10", false),
+    ("out v00", false),
+    ("out v", false),
+    ("out 0", false),
+    ("out r0", false),
+    ("out v0 v1", false),
+    ("outv0", false),
+    ("set v0 1", false),
+];
+
+#[test]
+fn reads_scripts(rt: HostRuntime) -> Result<(), Fail> {
+    for (script, taken) in SCRIPTS {
+        let line = format!(in rt.alloc(); "script = \"{script}\"\n")?;
+        let text = edited(&rt, rt.alloc(), SCRIPT, line.as_str())?;
+        expect_read(&rt, rt.alloc(), text.as_str(), *taken);
+    }
+    Ok(())
+}
+
+#[test]
+fn counts_statements(rt: HostRuntime) -> Result<(), Fail> {
+    let alloc = rt.alloc();
+    for (count, taken) in [(1023, true), (1024, true), (1025, false), (1026, false)] {
+        let mut script = String::new(alloc);
+        for _ in 0..count {
+            script.push_str("out v0\n")?;
+        }
+        let timing = "period = 2000\ndeadline = 2000\ncost = 2000";
+        let head = format!(in alloc;
+            "[[high]]\nname = \"a\"\n{timing}\nwords = 0\nfirst = 0\nevery = 2000"
+        )?;
+        let task = format!(in alloc; "{head}\nscript = '''\n{script}'''\n")?;
+        let text = edited(&rt, alloc, TASK, task.as_str())?;
+        expect_read(&rt, alloc, text.as_str(), taken);
+    }
+    Ok(())
+}
+
+#[test]
+fn counts_high_tasks(rt: HostRuntime) -> Result<(), Fail> {
+    let alloc = rt.alloc();
+    let inline =
+        r#"name = "a", period = 10, deadline = 10, cost = 2, words = 0, first = 0, every = 10"#;
+    let task = format!(in alloc; "{{{inline}, script = \"work 1\"}}")?;
+    for (list, taken) in [
+        ("", false),
+        ("1", false),
+        ("T", true),
+        ("T, 1", false),
+        ("T, T", false),
+    ] {
+        let mut tasks = String::new(alloc);
+        for c in list.chars() {
+            match c {
+                'T' => tasks.push_str(task.as_str())?,
+                other => tasks.push(other)?,
+            }
+        }
+        let text = format!(in alloc; "version = 1\nticks = 10\nhigh = [{tasks}]\n{HEAP}")?;
+        expect_read(&rt, alloc, text.as_str(), taken);
+    }
     Ok(())
 }
 
@@ -431,31 +452,11 @@ fn refuses_bytes_that_are_no_document(rt: HostRuntime) {
 }
 
 #[test]
-fn takes_1024_statements(rt: HostRuntime) -> Result<(), Fail> {
-    let alloc = rt.alloc();
-    for (count, taken) in [(1023, true), (1024, true), (1025, false), (1026, false)] {
-        let mut script = String::new(alloc);
-        for _ in 0..count {
-            script.push_str("out v0\n")?;
-        }
-        let times =
-            "period = 2000\ndeadline = 2000\ncost = 2000\nwords = 0\nfirst = 0\nevery = 2000";
-        let task = format!(in alloc; "{times}\nscript = '''\n{script}'''")?;
-        let text = edited(alloc, TIMES, task.as_str())?;
-        assert_eq!(rt;
-            read(alloc, text.as_bytes()).is_ok(),
-            taken,
-            "{count} statements"
-        );
-    }
-    Ok(())
-}
-
-#[test]
 fn tells_arrivals(rt: HostRuntime) -> Result<(), Fail> {
     let every = Arrivals::Every { first: 7, step: 5 };
     assert_eq!(rt; every.at(0), Some(7));
     assert_eq!(rt; every.at(1), Some(12));
+    // 7 + 5 * 3689348814741910321 is 2^64 - 4.
     assert_eq!(rt;
         every.at(3_689_348_814_741_910_321),
         Some(18_446_744_073_709_551_612)

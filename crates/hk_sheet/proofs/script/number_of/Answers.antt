@@ -1,4 +1,4 @@
-use Rattle.std.proofs.Common.{◌≡◌, ◌≢◌, true, length, get_or, lit<, arith}
+use Rattle.std.proofs.Common.{◌≡◌, ◌≢◌, length, get_or, lit<, arith}
 use Rattle.std.proofs.lemmas.Str.Pattern.{starts_char}
 use Rattle.hk_sheet.proofs.NumberLemmas.{no_plus, no_zero, parsed, one_byte}
 use Rattle.hk_sheet.proofs.script.number_of.Goals as goal

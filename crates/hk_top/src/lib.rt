@@ -1,0 +1,7 @@
+//! The top call of the program.
+#![tactic(auto)]
+
+/// Two.
+pub fn two() -> u8 {
+    2
+}

@@ -1,0 +1,4 @@
+pub mod Busy
+pub mod Demand
+pub mod Least
+pub mod Response

@@ -1,0 +1,135 @@
+-- The first form of a task sheet: one high task, whose script works and puts out variables, and no low task.
+use Rattle.std.specs.Prelude.{◌≡◌, ℕ, ◌+◌, ◌-◌, ◌*◌, ◌≤◌, Bool, true, ◌||◌, ◌==◌, List, [], ◌∷◌, length, codes, Some, None, IsUtf8}
+use Rattle.std.specs.List.{list_all}
+use Rattle.std.specs.Char.{is_ascii_lowercase, is_ascii_digit}
+use Rattle.toml.specs.Data.{Members}
+use Rattle.toml.specs.Parse.{parse_document}
+use Rattle.hk_words.specs.Geometry.{Sizes, first_error}
+use Rattle.hk_sheet.specs.declared.arrivals.Arrivals.{Arrivals}
+use Rattle.hk_sheet.specs.declared.arrivals.Arrivals.TheVariants.{Every}
+use Rattle.hk_sheet.specs.declared.arrivals.Arrivals.TheVariants as arrivals
+use Rattle.hk_sheet.specs.declared.sheet.HeapKeys.{HeapKeys}
+use Rattle.hk_sheet.specs.declared.sheet.High.{High}
+use Rattle.hk_sheet.specs.declared.sheet.Sheet.{Sheet}
+use Rattle.hk_sheet.specs.declared.sheet.TheConstants.{MAX_TICKS, MAX_SIZE, MAX_RATE, MAX_FIELDS, MAX_NAME}
+use Rattle.hk_sheet.specs.Keys.{HasOnly, HoldsInteger, HoldsPair, HoldsText, HoldsTable, HoldsOneTable}
+use Rattle.hk_sheet.specs.Script.{IsScript, ticks_of}
+
+-- the keys of each table
+abbrev pub sheet_keys : List (List ℕ)
+sheet_keys = codes "version" ∷ codes "ticks" ∷ codes "heap" ∷ codes "high" ∷ []
+
+abbrev pub heap_keys : List (List ℕ)
+heap_keys = codes "live" ∷ codes "alloc" ∷ codes "reserve" ∷ codes "rate" ∷ codes "board" ∷ []
+
+abbrev pub task_keys : List (List ℕ)
+task_keys = codes "name" ∷ codes "period" ∷ codes "deadline" ∷ codes "cost" ∷ codes "words" ∷ codes "first" ∷ codes "every" ∷ codes "script" ∷ []
+
+-- the heap that a table declares
+pub record IsHeap (members : Members) (heap : HeapKeys) : Type 0 where
+  pub keys : HasOnly heap_keys members
+  pub live : HoldsInteger members (codes "live") 0 MAX_SIZE heap.live
+  pub alloc : HoldsInteger members (codes "alloc") 0 MAX_SIZE heap.alloc
+  pub reserve : HoldsInteger members (codes "reserve") 0 MAX_SIZE heap.reserve
+  pub rate : HoldsInteger members (codes "rate") 1 MAX_RATE heap.rate
+  pub board : HoldsPair members (codes "board") MAX_FIELDS heap.refs heap.nums
+
+-- a byte of a name
+abbrev pub is_name_byte : ℕ → Bool
+is_name_byte byte = is_ascii_lowercase byte || is_ascii_digit byte || byte == 95
+
+-- a name: a small letter, and then small letters, digits and `_`
+abbrev pub IsName : List ℕ → Type 0
+IsName [] = ⊥
+IsName (first ∷ rest) = (is_ascii_lowercase first ≡ true) × (list_all is_name_byte rest ≡ true) × (length (first ∷ rest) ≤ MAX_NAME)
+
+-- the arrivals that a table declares: a job every so many ticks, which are no fewer than the period
+abbrev pub IsArrivals : Members → ℕ → Arrivals → Type 0
+IsArrivals members period (Every first step) =
+    HoldsInteger members (codes "first") 0 MAX_TICKS first
+    × HoldsInteger members (codes "every") 1 MAX_TICKS step
+    × (period ≤ step)
+IsArrivals members period (arrivals.List ticks) = ⊥
+
+-- the script that a table declares, in canonical form
+pub record HoldsScript (members : Members) (task : High) : Type 0 where
+  pub text : List ℕ
+  pub held : HoldsText members (codes "script") text
+  pub script : IsScript text task.script
+
+-- the high task that a table declares
+pub record IsHigh (members : Members) (task : High) : Type 0 where
+  pub keys : HasOnly task_keys members
+  pub name : HoldsText members (codes "name") task.name
+  pub period : HoldsInteger members (codes "period") 1 MAX_TICKS task.timing.period
+  pub deadline : HoldsInteger members (codes "deadline") 1 task.timing.period task.timing.deadline
+  pub cost : HoldsInteger members (codes "cost") 1 MAX_TICKS task.timing.cost
+  pub words : HoldsInteger members (codes "words") 0 0 task.words
+  pub named : IsName task.name
+  pub arrivals : IsArrivals members task.timing.period task.arrivals
+  pub script : HoldsScript members task
+  -- the job of the task takes no more than its cost, and its cost fits its deadline
+  pub enough : ticks_of task.script ≤ task.timing.cost
+  pub in_time : task.timing.cost ≤ task.timing.deadline
+
+-- the one high task that a document declares
+pub record HasHigh (document : Members) (highs : List High) : Type 0 where
+  pub members : Members
+  pub task : High
+  pub held : HoldsOneTable document (codes "high") members
+  pub is : IsHigh members task
+  pub only : highs ≡ task ∷ []
+
+-- the heap that a document declares
+pub record HasHeap (document : Members) (heap : HeapKeys) : Type 0 where
+  pub members : Members
+  pub held : HoldsTable document (codes "heap") members
+  pub is : IsHeap members heap
+
+-- what the heap's geometry is made of
+abbrev pub sizes_of : Sheet → Sizes
+sizes_of sheet = record {
+  live = sheet.heap.live;
+  alloc = sheet.heap.alloc;
+  reserve = sheet.heap.reserve;
+  high = length sheet.high;
+  low = length sheet.low;
+  refs = sheet.heap.refs;
+  nums = sheet.heap.nums;
+}
+
+-- A cycle of the collector takes at most 37 + 9 * live + 7 * alloc events. At the heap's rate they are done by the time
+-- that the words beside the reserve are taken.
+abbrev pub IsCollected : HeapKeys → Type 0
+IsCollected heap = 37 + 9 * heap.live + 7 * heap.alloc ≤ heap.rate * (heap.alloc - heap.reserve)
+
+-- the document is of the first form, and this is its sheet
+pub record IsFirstForm (document : Members) (sheet : Sheet) : Type 0 where
+  pub keys : HasOnly sheet_keys document
+  pub version : HoldsInteger document (codes "version") 1 1 1
+  pub ticks : HoldsInteger document (codes "ticks") 1 MAX_TICKS sheet.ticks
+  pub heap : HasHeap document sheet.heap
+  pub high : HasHigh document sheet.high
+  pub low : sheet.low ≡ []
+  pub geometry : first_error (sizes_of sheet) ≡ None
+  pub collected : IsCollected sheet.heap
+
+-- the sheet is that of a document of the first form
+abbrev pub IsOfFirstForm : Sheet → Type 0
+IsOfFirstForm sheet = (document : Members) × IsFirstForm document sheet
+
+-- the bytes are a TOML document of the first form, and this is its sheet
+pub record IsSheetOf (bytes : List ℕ) (sheet : Sheet) : Type 0 where
+  pub utf8 : IsUtf8 bytes
+  pub document : Members
+  pub parsed : parse_document bytes ≡ Some document
+  pub form : IsFirstForm document sheet
+
+-- the bytes are such a document, of this sheet and no other
+pub record IsOnlySheetOf (bytes : List ℕ) (sheet : Sheet) : Type 0 where
+  pub is : IsSheetOf bytes sheet
+  pub only : (other : Sheet) → IsSheetOf bytes other → other ≡ sheet
+
+-- the bytes are no such document
+abbrev pub HasNoSheet : List ℕ → Type 0
+HasNoSheet bytes = (sheet : Sheet) → ¬ (IsSheetOf bytes sheet)

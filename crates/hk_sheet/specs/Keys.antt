@@ -1,0 +1,32 @@
+-- What the keys of a TOML table hold.
+use Rattle.std.specs.Prelude.{◌≡◌, ℕ, ◌≤◌, pos, List, Contains, Some}
+use Rattle.toml.specs.Data.{integer, string, array, table, no_items, item, Members, no_members, member, get_member}
+
+-- each key of the table is one of these
+abbrev pub HasOnly : List (List ℕ) → Members → Type 0
+HasOnly keys no_members = Unit {0}
+HasOnly keys (member key value rest) = Contains keys key × HasOnly keys rest
+
+-- the key holds an integer, which is this value, from low to high
+pub record HoldsInteger (members : Members) (key : List ℕ) (low high value : ℕ) : Type 0 where
+  pub held : get_member key members ≡ Some (integer (pos value))
+  pub at_least : low ≤ value
+  pub at_most : value ≤ high
+
+-- the key holds an array of two integers, which are these, from 0 to high
+pub record HoldsPair (members : Members) (key : List ℕ) (high first second : ℕ) : Type 0 where
+  pub held : get_member key members ≡ Some (array (item (integer (pos first)) (item (integer (pos second)) no_items)))
+  pub first_at_most : first ≤ high
+  pub second_at_most : second ≤ high
+
+-- the key holds this string
+abbrev pub HoldsText : Members → List ℕ → List ℕ → Type 0
+HoldsText members key text = get_member key members ≡ Some (string text)
+
+-- the key holds this table
+abbrev pub HoldsTable : Members → List ℕ → Members → Type 0
+HoldsTable members key inner = get_member key members ≡ Some (table inner)
+
+-- the key holds an array of one element, which is this table
+abbrev pub HoldsOneTable : Members → List ℕ → Members → Type 0
+HoldsOneTable members key inner = get_member key members ≡ Some (array (item (table inner) no_items))

@@ -1,0 +1,4 @@
+pub mod Arrivals
+pub mod Script
+pub mod Keys
+pub mod FirstForm

@@ -1,0 +1,104 @@
+use crate::{Arrivals, Script};
+use hk_rta::Timing;
+use std::marker::Model;
+
+/// The most ticks of a run, and the greatest period, deadline, cost, first arrival and step.
+pub const MAX_TICKS: u64 = 16_777_216;
+
+/// The greatest number that a sheet can give for a size of the heap, in words.
+pub const MAX_SIZE: u64 = 1_000_000;
+
+/// The greatest rate.
+pub const MAX_RATE: u64 = 4_096;
+
+/// The greatest number that a sheet can give for the fields of the board of one kind.
+pub const MAX_FIELDS: u64 = 255;
+
+/// The most bytes of a name.
+pub const MAX_NAME: usize = 16;
+
+/// The name of a task: 1 to 16 bytes of `a` to `z`, `0` to `9` and `_`, a letter first. A contract sees the list of
+/// the bytes.
+#[derive(Debug, Drop)]
+pub struct Name {
+    pub items: Vec<u8>,
+}
+
+impl Model for Name {
+    ghost use Rattle.std.specs.Prelude.{List, ℕ};
+
+    ghost Value = { List ℕ };
+
+    ghost view = { λ n. n.items.items };
+}
+
+/// The heap that a sheet asks for. Sizes are in words; a space has `live` words for evacuation and `alloc` words for
+/// allocation, of which `reserve` are kept for the high tasks. Each word that is taken makes the collector owe `rate`
+/// events. The board has `refs` reference fields and `nums` number fields.
+#[derive(Clone, Copy, Debug, PartialEq, Eq)]
+pub struct HeapKeys {
+    pub live: u32,
+    pub alloc: u32,
+    pub reserve: u32,
+    pub rate: u64,
+    pub refs: u8,
+    pub nums: u8,
+}
+
+/// A high task: its times in ticks, the most words that one of its jobs takes, when its jobs arrive, and what each
+/// does.
+#[derive(Debug, Drop)]
+pub struct High {
+    pub name: Name,
+    pub timing: Timing,
+    pub words: u64,
+    pub arrivals: Arrivals,
+    pub script: Script,
+}
+
+/// The high tasks, the most urgent first. A contract sees the list.
+#[derive(Debug, Drop)]
+pub struct Highs {
+    pub items: Vec<High>,
+}
+
+impl Model for Highs {
+    ghost use Rattle.std.specs.Prelude.{List};
+    ghost use Rattle.hk_sheet.specs.declared.sheet.High.{High};
+
+    ghost Value = { List High };
+
+    ghost view = { λ h. h.items.items };
+}
+
+/// A low task: when its jobs arrive, and what each does.
+#[derive(Debug, Drop)]
+pub struct Low {
+    pub name: Name,
+    pub arrivals: Arrivals,
+    pub script: Script,
+}
+
+/// The low tasks, the most urgent first. A contract sees the list.
+#[derive(Debug, Drop)]
+pub struct Lows {
+    pub items: Vec<Low>,
+}
+
+impl Model for Lows {
+    ghost use Rattle.std.specs.Prelude.{List};
+    ghost use Rattle.hk_sheet.specs.declared.sheet.Low.{Low};
+
+    ghost Value = { List Low };
+
+    ghost view = { λ l. l.items.items };
+}
+
+/// A task sheet: a run's length in ticks, the heap, and the tasks.
+#[derive(Debug, Drop)]
+pub struct Sheet {
+    pub ticks: u64,
+    pub heap: HeapKeys,
+    pub high: Highs,
+    pub low: Lows,
+}

@@ -7,11 +7,11 @@ use Rattle.std.proofs.lemmas.Bool.{cases_lt}
 abbrev pub arrives : ℕ → ℕ → ℕ → ℕ
 arrives first every k = first + k * every
 
-arrives-apart : (first every j k : ℕ) → j < k → arrives first every j + every ≤ arrives first every k
+pub arrives-apart : (first every j k : ℕ) → j < k → arrives first every j + every ≤ arrives first every k
 arrives-apart first every j k h = grind arith
 
 -- two jobs that could run at one tick are one
-one_at_a_time : (first every size t j k : ℕ) → size ≤ every
+pub one_at_a_time : (first every size t j k : ℕ) → size ≤ every
     → arrives first every j ≤ t → t < arrives first every j + size
     → arrives first every k ≤ t → t < arrives first every k + size → j ≡ k
 one_at_a_time first every size t j k apart ja jt ka kt =
@@ -30,14 +30,14 @@ module _ (first every size count : ℕ) (had : ℕ → ℕ → ℕ) (who : ℕ �
     (kept : (t k : ℕ) → ((who t ≡ Some k) → ⊥) → had (suc t) k ≡ had t k) where
 
   -- what is known after t ticks
-  abbrev Closed : ℕ → Type 0
+  abbrev pub Closed : ℕ → Type 0
   Closed t = (k : ℕ) → k < count → had t k ≡ min size (t - arrives first every k)
 
-  chosen_inside : (t k : ℕ) → Closed t → who t ≡ Some k
+  pub chosen_inside : (t k : ℕ) → Closed t → who t ≡ Some k
       → (k < count) × (arrives first every k ≤ t) × (t < arrives first every k + size)
   chosen_inside t k closed is = let c = chosen t k is in let e = closed k c.0 in (c.0, c.1, omega (arith, e, c.1, c.2))
 
-  whose : (t : ℕ) (o : Option ℕ) → who t ≡ o → Closed t → (k : ℕ) → k < count → arrives first every k ≤ t
+  pub whose : (t : ℕ) (o : Option ℕ) → who t ≡ o → Closed t → (k : ℕ) → k < count → arrives first every k ≤ t
       → t < arrives first every k + size → who t ≡ Some k
   whose t None is closed k kn ka kt = absurd (idle t is k kn ka (let e = closed k kn in omega arith))
   whose t (Some j) is closed k kn ka kt =
@@ -45,7 +45,7 @@ module _ (first every size count : ℕ) (had : ℕ → ℕ → ℕ) (who : ℕ �
       let e : j ≡ k = one_at_a_time first every size t j k apart c.1 c.2 ka kt in
       is ∙ ap Some e
 
-  closed_from : (t : ℕ) → Closed t
+  pub closed_from : (t : ℕ) → Closed t
   closed_from zero k kn = start k kn ∙ omega arith
   closed_from (suc t) k kn =
       let before = closed_from t in

@@ -1,0 +1,5 @@
+pub mod Faults
+pub mod Bytes
+pub mod InMemory
+pub mod Line
+pub mod Status

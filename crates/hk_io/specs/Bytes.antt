@@ -1,0 +1,20 @@
+-- What calls do to the bytes that a source has left and that a sink has taken, where these are told.
+use Rattle.std.specs.Prelude.{◌≡◌, ℕ, ◌≤◌, List, length, take, drop, Option}
+use Rattle.std.specs.Io.KnownBytes.{Appends, Consumes}
+
+-- told bytes grow by a first part of these bytes
+pub record AppendsPrefix (old new : Option (List ℕ)) (bytes : List ℕ) : Type 0 where
+  pub count : ℕ
+  pub taken : Appends old new (take count bytes)
+
+-- told bytes grow by a first part of these bytes, and the rest of these waits
+pub record AppendsFront (old new : Option (List ℕ)) (bytes waiting : List ℕ) : Type 0 where
+  pub count : ℕ
+  pub taken : Appends old new (take count bytes)
+  pub waits : waiting ≡ drop count bytes
+
+-- told bytes lose a first part, whose length is so
+pub record ConsumesFront (old new : Option (List ℕ)) (IsSo : ℕ → Type 0) : Type 0 where
+  pub front : List ℕ
+  pub length_is : IsSo (length front)
+  pub consumed : Consumes old new front

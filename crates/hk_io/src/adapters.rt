@@ -1,0 +1,95 @@
+//! std's readers and writers as sources and sinks. This is the edge that is trusted: no contract says what a
+//! stream of the system gives or takes.
+ghost use Rattle.std.specs.Prelude.{◌≡◌, ◌≢◌, ℕ, ◌-◌, ◌^◌, ◌<◌, ◌≤◌, length, IfOk, is_ok, if◌then◌else◌};
+ghost use Rattle.std.specs.Io.KnownBytes.{ReadConsumes, WriteAppends};
+ghost use Rattle.hk_io.specs.Faults.{risen, HasCause};
+
+use crate::{Failed, Sink, Source};
+use std::io::{Read, Write};
+
+/// A source over a reader of std. Its count of faults is raised at each `Err` of the reader. A program reads its
+/// standard input by `StdSource::new(rt.reader())`.
+#[derive(Drop)]
+pub struct StdSource<R: Read + Drop> {
+    inner: R,
+    faults: u64,
+    ghost faults_fit: { faults ≤ 2 ^ 64 - 1 },
+}
+
+impl<R: Read + Drop> StdSource<R> {
+    /// A source that has not failed yet.
+    pub fn new(inner: R) -> Self
+        ensures inner { result.inner ≡ inner }
+        ensures faults { result.faults ≡ 0 }
+    {
+        StdSource { inner, faults: 0 }
+    }
+}
+
+impl<R: Read + Drop> Source for StdSource<R> {
+    ghost left = { λ source. R.remaining source.inner };
+
+    ghost faults = { λ source. source.faults };
+
+    ghost faults_fit = { λ source. source.faults_fit };
+
+    fn read(&mut self, buf: &mut [u8]) -> Result<usize, Failed>
+        ensures within { IfOk result (λ count. count ≤ length buf.new) }
+        ensures bytes { ReadConsumes (R.remaining self.old.inner) (R.remaining self.new.inner) result buf.new }
+        ensures cause { HasCause self.old.faults self.new.faults result }
+        ensures counted { self.new.faults ≡ (if is_ok result then self.old.faults else risen self.old.faults) }
+    {
+        match self.inner.read(buf) {
+            Ok(count) => Ok(count),
+            Err(_) => {
+                self.faults = self.faults.saturating_add(1);
+                Err(Failed)
+            }
+        }
+    }
+}
+
+/// A sink over a writer of std. Its count of faults is raised at each `Err` of the writer, and where the writer
+/// took nothing. What it answers `Ok` has been handed to the writer, so take one that has no buffer: a program
+/// writes its standard output by `StdSink::new(io::writer(&rt))`, which makes one system call for each write, and
+/// nothing has to be flushed at the end.
+#[derive(Drop)]
+pub struct StdSink<W: Write + Drop> {
+    inner: W,
+    faults: u64,
+    ghost faults_fit: { faults ≤ 2 ^ 64 - 1 },
+}
+
+impl<W: Write + Drop> StdSink<W> {
+    /// A sink that has not failed yet.
+    pub fn new(inner: W) -> Self
+        ensures inner { result.inner ≡ inner }
+        ensures faults { result.faults ≡ 0 }
+    {
+        StdSink { inner, faults: 0 }
+    }
+}
+
+impl<W: Write + Drop> Sink for StdSink<W> {
+    ghost taken = { λ sink. W.contents sink.inner };
+
+    ghost faults = { λ sink. sink.faults };
+
+    ghost faults_fit = { λ sink. sink.faults_fit };
+
+    fn write(&mut self, piece: &[u8]) -> Result<usize, Failed>
+        ensures some { IfOk result (λ count. 0 < count) }
+        ensures within { IfOk result (λ count. count ≤ length piece.now) }
+        ensures bytes { WriteAppends (W.contents self.old.inner) (W.contents self.new.inner) result piece.now }
+        ensures cause { HasCause self.old.faults self.new.faults result }
+        ensures counted { self.new.faults ≡ (if is_ok result then self.old.faults else risen self.old.faults) }
+    {
+        match self.inner.write(piece) {
+            Ok(count) if count > 0 => Ok(count),
+            _ => {
+                self.faults = self.faults.saturating_add(1);
+                Err(Failed)
+            }
+        }
+    }
+}

@@ -1,0 +1,60 @@
+//! Whole texts and whole inputs.
+ghost use Rattle.std.specs.Prelude.{◌≡◌, ℕ, ◌+◌, ◌<◌, ◌≤◌, length, vec_len, IfOk, OnOk, OnErr, IsErrOf, IfSome};
+ghost use Rattle.std.specs.Io.KnownBytes.{Appends, Consumes, IsAtEnd};
+ghost use Rattle.hk_io.specs.Bytes.{AppendsPrefix, ConsumesFront};
+ghost use Rattle.hk_io.specs.Faults.{Rose, HasCause};
+ghost use Rattle.hk_io.specs.declared.whole.TheConstants.{MAX_INPUT};
+
+use crate::{Failed, Sink, Source, TakeFault};
+use std::alloc::Global;
+
+/// The most bytes that an input has.
+pub const MAX_INPUT: usize = 1_048_576;
+
+/// How many bytes are read at once.
+const PIECE: usize = 4096;
+
+/// Writes these bytes whole. After a failure a first part of them was taken. It takes no memory.
+pub fn put_all<K: Sink>(sink: &mut K, bytes: &[u8]) -> Result<(), Failed>
+    ensures ok { OnOk result (Appends (K.taken sink.old) (K.taken sink.new) bytes.now) }
+    ensures prefix { OnErr result (AppendsPrefix (K.taken sink.old) (K.taken sink.new) bytes.now) }
+    ensures cause { HasCause (K.faults sink.old) (K.faults sink.new) result }
+{
+    let mut rest = bytes;
+    while !rest.is_empty() {
+        let count = sink.write(rest)?;
+        rest = &rest[count..];
+    }
+    Ok(())
+}
+
+/// Reads an input to its end. Where it is longer than [`MAX_INPUT`] bytes, reading stops after one byte more.
+pub fn take_all<S: Source>(alloc: Global, source: &mut S) -> Result<Vec<u8>, TakeFault>
+    // The whole input, where it is told.
+    ensures whole { IfOk result (λ bytes. IfSome (S.left source.old) (λ left. bytes.items ≡ left)) }
+    ensures end { OnOk result (IsAtEnd (S.left source.new)) }
+    ensures short { IfOk result (λ bytes. vec_len bytes ≤ MAX_INPUT) }
+
+    // More came than an input has.
+    ensures long { IsErrOf result TakeFault.Long → ConsumesFront (S.left source.old) (S.left source.new) (λ count. count ≡ MAX_INPUT + 1) }
+
+    // Reading stops.
+    ensures stops { ConsumesFront (S.left source.old) (S.left source.new) (λ count. count ≤ MAX_INPUT + 1) }
+
+    ensures failed { IsErrOf result TakeFault.Failed → Rose (S.faults source.old) (S.faults source.new) }
+    ensures later { S.faults source.old ≤ S.faults source.new }
+{
+    let mut bytes = Vec::new(alloc);
+    let mut piece = [0; PIECE];
+    loop {
+        let room = PIECE.min(MAX_INPUT + 1 - bytes.len());
+        let count = source.read(&mut piece[..room])?;
+        if count == 0 {
+            return Ok(bytes);
+        }
+        bytes.extend_from_slice(&piece[..count])?;
+        if bytes.len() > MAX_INPUT {
+            return Err(TakeFault::Long);
+        }
+    }
+}

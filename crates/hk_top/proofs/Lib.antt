@@ -1,3 +1,4 @@
 pub mod Spaced
 pub mod Choice
 pub mod Periodic
+pub mod Ends

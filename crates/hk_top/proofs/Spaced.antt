@@ -21,6 +21,10 @@ one_at_a_time first every size t j k apart ja jt ka kt =
           (λ (not_above : j ≤ k). omega arith) (cases_lt k j))
       (cases_lt j k)
 
+-- after t ticks each job has had the ticks since its arrival, up to its size
+abbrev pub Closed : ℕ → ℕ → ℕ → ℕ → (ℕ → ℕ → ℕ) → ℕ → Type 0
+Closed first every size count had t = (k : ℕ) → k < count → had t k ≡ min size (t - arrives first every k)
+
 module _ (first every size count : ℕ) (had : ℕ → ℕ → ℕ) (who : ℕ → Option ℕ)
     (apart : size ≤ every)
     (start : (k : ℕ) → k < count → had 0 k ≡ 0)
@@ -29,15 +33,11 @@ module _ (first every size count : ℕ) (had : ℕ → ℕ → ℕ) (who : ℕ �
     (gained : (t k : ℕ) → who t ≡ Some k → had (suc t) k ≡ had t k + 1)
     (kept : (t k : ℕ) → ((who t ≡ Some k) → ⊥) → had (suc t) k ≡ had t k) where
 
-  -- what is known after t ticks
-  abbrev pub Closed : ℕ → Type 0
-  Closed t = (k : ℕ) → k < count → had t k ≡ min size (t - arrives first every k)
-
-  pub chosen_inside : (t k : ℕ) → Closed t → who t ≡ Some k
+  pub chosen_inside : (t k : ℕ) → Closed first every size count had t → who t ≡ Some k
       → (k < count) × (arrives first every k ≤ t) × (t < arrives first every k + size)
   chosen_inside t k closed is = let c = chosen t k is in let e = closed k c.0 in (c.0, c.1, omega (arith, e, c.1, c.2))
 
-  pub whose : (t : ℕ) (o : Option ℕ) → who t ≡ o → Closed t → (k : ℕ) → k < count → arrives first every k ≤ t
+  pub whose : (t : ℕ) (o : Option ℕ) → who t ≡ o → Closed first every size count had t → (k : ℕ) → k < count → arrives first every k ≤ t
       → t < arrives first every k + size → who t ≡ Some k
   whose t None is closed k kn ka kt = absurd (idle t is k kn ka (let e = closed k kn in omega arith))
   whose t (Some j) is closed k kn ka kt =
@@ -45,7 +45,7 @@ module _ (first every size count : ℕ) (had : ℕ → ℕ → ℕ) (who : ℕ �
       let e : j ≡ k = one_at_a_time first every size t j k apart c.1 c.2 ka kt in
       is ∙ ap Some e
 
-  pub closed_from : (t : ℕ) → Closed t
+  pub closed_from : (t : ℕ) → Closed first every size count had t
   closed_from zero k kn = start k kn ∙ omega arith
   closed_from (suc t) k kn =
       let before = closed_from t in

@@ -2,3 +2,5 @@ pub mod Spaced
 pub mod Choice
 pub mod Periodic
 pub mod Ends
+pub mod Scripts
+pub mod ProgressLemmas

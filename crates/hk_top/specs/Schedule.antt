@@ -14,6 +14,11 @@ output_at (Work ticks ∷ rest) had = if nat_lt had ticks then None else output_
 output_at (Out variable ∷ rest) zero = Some 0
 output_at (Out variable ∷ rest) (suc had) = output_at rest had
 
+-- what a statement puts out at its last tick
+abbrev pub output_of : Statement → Option ℕ
+output_of (Work ticks) = None
+output_of (Out variable) = Some 0
+
 -- what a tick puts out, where each row runs the script
 abbrev pub output_in : List Row → List Statement → ℕ → Option ℕ
 output_in rows script tick = option_and_then (λ row. output_at script (had_after rows tick row)) (row_at rows tick)

@@ -1,7 +1,4 @@
 //! The top call of the program.
 #![tactic(auto)]
 
-/// Two.
-pub fn two() -> u8 {
-    2
-}
+mod progress;

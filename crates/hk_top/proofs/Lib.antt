@@ -4,3 +4,5 @@ pub mod Periodic
 pub mod Ends
 pub mod Scripts
 pub mod ProgressLemmas
+pub mod Written
+pub mod ReportLemmas

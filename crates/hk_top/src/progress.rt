@@ -17,6 +17,7 @@ pub struct PeriodicTask<'a> {
 }
 
 /// Where the run of a task stands between two ticks.
+#[derive(Drop)]
 pub struct Progress {
     /// The job that runs or comes next, counted from 0. As many jobs have ended.
     pub job: u64,

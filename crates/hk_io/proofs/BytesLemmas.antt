@@ -1,10 +1,10 @@
 -- How calls that move told bytes follow one another.
-use Rattle.std.proofs.Common.{◌≡◌, ℕ, ◌+◌, ◌-◌, ◌<◌, ◌≤◌, min, List, [], ◌++◌, length, take, drop, Option, None, Some, refl, sym, ap, ◌∙◌, subst, arith, append-nil, take-append-drop, length-append, length-drop}
+use Rattle.std.proofs.Common.{◌≡◌, ℕ, ◌+◌, ◌-◌, ◌<◌, ◌≤◌, min, List, [], ◌++◌, length, take, drop, Option, refl, sym, ap, ◌∙◌, subst, arith, append-nil, take-append-drop, length-append, length-drop}
 use Rattle.std.proofs.Math.Seq.{take-add}
 use Rattle.std.proofs.lemmas.List.{length-take-le, drop-drop, take-append-le, drop-append-le, take_min, drop_min, take_at, drop_at, drop_all, nil_from_length}
-use Rattle.std.proofs.KnownBytes.{Appends-nil, Appends-trans, Appends-kept, Consumes-trans, Consumes-kept}
+use Rattle.std.proofs.KnownBytes.{Appends-nil, Appends-trans, Appends-kept, Consumes-trans}
 use Rattle.std.specs.Io.KnownBytes.{Appends, Consumes, Keeps}
-use Rattle.hk_io.specs.Bytes.{AppendsPrefix, AppendsFront, ConsumesFront}
+use Rattle.hk_io.specs.Bytes.{AppendsPrefix, AppendsFront}
 
 -- nothing was taken yet, and all waits
 pub AppendsFront-none : (known : Option (List ℕ)) (bytes : List ℕ) → AppendsFront known known bytes bytes
@@ -36,13 +36,13 @@ pub AppendsPrefix-behind : (a b c : Option (List ℕ)) (text waiting bytes : Lis
 AppendsPrefix-behind a b c text waiting bytes front more =
     let n = min front.count (length text) in
     let rest : waiting ++ bytes ≡ drop n (text ++ bytes) =
-        ap (λ w. w ++ bytes) (front.waits ∙ sym (drop_min front.count text)) ∙ sym (drop-append-le n text bytes (omega arith)) in
+    ap (λ w. w ++ bytes) (front.waits ∙ sym (drop_min front.count text)) ∙ sym (drop-append-le n text bytes (omega arith)) in
     let first : take front.count text ≡ take n (text ++ bytes) =
-        sym (take_min front.count text) ∙ sym (take-append-le n text bytes (omega arith)) in
+    sym (take_min front.count text) ∙ sym (take-append-le n text bytes (omega arith)) in
     let same : take front.count text ++ take more.count (waiting ++ bytes) ≡ take (n + more.count) (text ++ bytes) =
-        ap (λ w. w ++ take more.count (waiting ++ bytes)) first
-        ∙ ap (λ w. take n (text ++ bytes) ++ take more.count w) rest
-        ∙ sym (take-add n more.count (text ++ bytes)) in
+    ap (λ w. w ++ take more.count (waiting ++ bytes)) first
+    ∙ ap (λ w. take n (text ++ bytes) ++ take more.count w) rest
+    ∙ sym (take-add n more.count (text ++ bytes)) in
     record { count = n + more.count; taken = subst (Appends a c) same (Appends-trans a b c _ _ front.taken more.taken) }
 
 -- some of what waits was taken
@@ -56,13 +56,13 @@ pub AppendsFront-trans : (a b c : Option (List ℕ)) (text waiting bytes rest : 
 AppendsFront-trans a b c text waiting bytes rest front more =
     let n = min front.count (length text) in
     let all : waiting ++ bytes ≡ drop n (text ++ bytes) =
-        ap (λ w. w ++ bytes) (front.waits ∙ sym (drop_min front.count text)) ∙ sym (drop-append-le n text bytes (omega arith)) in
+    ap (λ w. w ++ bytes) (front.waits ∙ sym (drop_min front.count text)) ∙ sym (drop-append-le n text bytes (omega arith)) in
     let first : take front.count text ≡ take n (text ++ bytes) =
-        sym (take_min front.count text) ∙ sym (take-append-le n text bytes (omega arith)) in
+    sym (take_min front.count text) ∙ sym (take-append-le n text bytes (omega arith)) in
     let same : take front.count text ++ take more.count (waiting ++ bytes) ≡ take (n + more.count) (text ++ bytes) =
-        ap (λ w. w ++ take more.count (waiting ++ bytes)) first
-        ∙ ap (λ w. take n (text ++ bytes) ++ take more.count w) all
-        ∙ sym (take-add n more.count (text ++ bytes)) in
+    ap (λ w. w ++ take more.count (waiting ++ bytes)) first
+    ∙ ap (λ w. take n (text ++ bytes) ++ take more.count w) all
+    ∙ sym (take-add n more.count (text ++ bytes)) in
     record {
       count = n + more.count;
       taken = subst (Appends a c) same (Appends-trans a b c _ _ front.taken more.taken);
@@ -83,7 +83,7 @@ pub AppendsPrefix-append : (a b : Option (List ℕ)) (bytes more : List ℕ) →
 AppendsPrefix-append a b bytes more prefix =
     let n = min prefix.count (length bytes) in
     let same : take prefix.count bytes ≡ take n (bytes ++ more) =
-        sym (take_min prefix.count bytes) ∙ sym (take-append-le n bytes more (omega arith)) in
+    sym (take_min prefix.count bytes) ∙ sym (take-append-le n bytes more (omega arith)) in
     record { count = n; taken = subst (Appends a b) same prefix.taken }
 
 -- what waited was taken, and what came behind it waits
@@ -106,7 +106,7 @@ read-front bytes buf piece at n copied count =
     let first : piece ≡ take n (drop at bytes) = copied ∙ ap (λ k. take k (drop at bytes)) plain in
     let size : length piece ≡ n = ap length first ∙ length-take-le n (drop at bytes) (omega (arith, length-drop at bytes)) in
     let whole : take n (piece ++ drop n buf) ++ drop (at + n) bytes ≡ drop at bytes =
-        ap (λ w. w ++ drop (at + n) bytes) (take_at piece (drop n buf) n size ∙ first)
-        ∙ ap (λ w. take n (drop at bytes) ++ w) (sym (drop-drop n at bytes))
-        ∙ take-append-drop n (drop at bytes) in
+    ap (λ w. w ++ drop (at + n) bytes) (take_at piece (drop n buf) n size ∙ first)
+    ∙ ap (λ w. take n (drop at bytes) ++ w) (sym (drop-drop n at bytes))
+    ∙ take-append-drop n (drop at bytes) in
     (sym whole, λ none some. drop_all (at + n) bytes (omega (arith, length-append piece (drop n buf), length-drop n buf)))

@@ -1,7 +1,7 @@
 -- Digits and words of a line.
-use Rattle.std.proofs.Common.{◌≡◌, ℕ, ◌+◌, ◌/◌, ◌%◌, ◌^◌, ◌<◌, ◌≤◌, List, [], ◌∷◌, ◌++◌, length, refl, sym, ap, ◌∙◌, arith, append_assoc, length-append}
+use Rattle.std.proofs.Common.{◌≡◌, ℕ, ◌+◌, ◌/◌, ◌%◌, ◌^◌, ◌<◌, ◌≤◌, List, [], ◌∷◌, ◌++◌, length, sym, ap, ◌∙◌, arith, append_assoc, length-append}
 use Rattle.std.specs.Fmt.{decimal}
-use Rattle.std.proofs.lemmas.Fmt.{decimal_digit, decimal_step, length-decimal-le, decimal_nonempty}
+use Rattle.std.proofs.lemmas.Fmt.{decimal_digit, decimal_step, length-decimal-le}
 use Rattle.hk_io.specs.Line.{with_word, with_number, with_end}
 
 -- the last digit behind the digits before it
@@ -33,3 +33,6 @@ length-with_number line n fits = omega (arith, length-with_word line (decimal n)
 
 pub length-with_end : (line : List ℕ) → length (with_end line) ≡ length line + 1
 length-with_end line = length-append line (10 ∷ [])
+
+-- how long lines get
+pub ruleset line_lengths = (length-with_word, length-with_number, length-with_end, length-decimal)

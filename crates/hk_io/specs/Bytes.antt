@@ -1,5 +1,5 @@
 -- What calls do to the bytes that a source has left and that a sink has taken, where these are told.
-use Rattle.std.specs.Prelude.{◌≡◌, ℕ, ◌≤◌, List, length, take, drop, Option}
+use Rattle.std.specs.Prelude.{◌≡◌, ℕ, List, length, take, drop, Option}
 use Rattle.std.specs.Io.KnownBytes.{Appends, Consumes}
 
 -- told bytes grow by a first part of these bytes

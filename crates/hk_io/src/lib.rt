@@ -11,6 +11,8 @@ mod gather;
 mod in_memory;
 mod line;
 mod streams;
+#[cfg(test)]
+mod tests;
 mod whole;
 
 pub use adapters::{StdSink, StdSource};

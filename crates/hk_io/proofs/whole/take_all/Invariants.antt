@@ -8,7 +8,7 @@ abbrev pub invariant-loop-bytes : goal.invariant-loop-bytes
 invariant-loop-bytes g l = record {
   consumed : Consumes (g.S.Source.left l.initial.source) (g.S.Source.left l.source) l.bytes.items;
   short : vec_len l.bytes ≤ MAX_INPUT;
-  later : g.S.Source.faults l.initial.source ≤ g.S.Source.faults l.source
+  later : g.S.Source.faults l.initial.source ≤ g.S.Source.faults l.source;
 }
 
 abbrev pub decreases-loop-bytes : goal.decreases-loop-bytes

@@ -1,6 +1,4 @@
-use Rattle.std.proofs.Common.{◌≡◌, ◌++◌, [], sym, ap, ◌∙◌, subst}
 use Rattle.std.proofs.lemmas.Result.{err_from_is_err_and}
-use Rattle.hk_io.specs.Bytes.{AppendsFront}
 use Rattle.hk_io.proofs.BytesLemmas.{AppendsFront-none, AppendsFront-behind, AppendsPrefix-append}
 use Rattle.hk_io.proofs.gather.Gather.push.Goals as goal
 use Rattle.hk_io.proofs.gather.Gather.push.Goals.{then-bytes-as_slice+in_ok-flush, else-bytes-as_slice}
@@ -12,6 +10,6 @@ returns-in_err-flush-clause-prefix g c =
 
 pub returns-clause-ok : goal.returns-clause-ok
 returns-clause-ok g c = elim c.if-bytes-as_slice.branch [
-  then-bytes-as_slice+in_ok-flush w ↦ rw (c.push.ensures, c.self-2.view_is, w.self-is, w.in_ok-flush.ensures.empty, w.sink-is) (AppendsFront-behind _ _ _ _ w.in_ok-flush.ensures.ok)
+  | then-bytes-as_slice+in_ok-flush w ↦ rw (c.push.ensures, c.self-2.view_is, w.self-is, w.in_ok-flush.ensures.empty, w.sink-is) (AppendsFront-behind _ _ _ _ w.in_ok-flush.ensures.ok)
   | else-bytes-as_slice w ↦ rw (c.push.ensures, c.self-2.view_is, w.self-is, w.sink-is) (AppendsFront-none _ _)
 ]

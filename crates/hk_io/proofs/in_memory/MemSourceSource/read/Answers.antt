@@ -1,5 +1,4 @@
-use Rattle.std.proofs.Common.{◌≡◌, ◌∙◌, ◌+◌, ◌-◌, ap, sym, arith, length, take, drop, min}
-use Rattle.std.specs.Vec.{vec_len}
+use Rattle.std.proofs.Common.{◌≡◌, ◌∙◌, ◌+◌, ◌-◌, ap, sym, length, take, drop, min}
 use Rattle.hk_io.proofs.BytesLemmas.{read-front}
 use Rattle.hk_io.proofs.in_memory.MemSourceSource.read.Goals as goal
 

@@ -1,5 +1,5 @@
 -- The first form of a task sheet: one high task, whose script works and puts out variables, and no low task.
-use Rattle.std.specs.Prelude.{◌≡◌, ℕ, ◌+◌, ◌-◌, ◌*◌, ◌≤◌, Bool, true, ◌||◌, ◌==◌, List, [], ◌∷◌, length, codes, Some, None, IsUtf8}
+use Rattle.std.specs.Prelude.{◌≡◌, IsTrue, ℕ, ◌+◌, ◌-◌, ◌*◌, ◌≤◌, Bool, true, ◌||◌, ◌==◌, List, [], ◌∷◌, length, codes, Some, None, IsUtf8}
 use Rattle.std.specs.List.{list_all}
 use Rattle.std.specs.Char.{is_ascii_lowercase, is_ascii_digit}
 use Rattle.toml.specs.Data.{Members}
@@ -11,23 +11,17 @@ use Rattle.hk_sheet.specs.declared.arrivals.Arrivals.TheVariants as arrivals
 use Rattle.hk_sheet.specs.declared.sheet.HeapKeys.{HeapKeys}
 use Rattle.hk_sheet.specs.declared.sheet.High.{High}
 use Rattle.hk_sheet.specs.declared.sheet.Sheet.{Sheet}
+use Rattle.hk_sheet.specs.declared.script.Statement.{Statement}
+use Rattle.hk_rta.specs.declared.Timing.{Timing}
 use Rattle.hk_sheet.specs.declared.sheet.TheConstants.{MAX_TICKS, MAX_SIZE, MAX_RATE, MAX_FIELDS, MAX_NAME}
-use Rattle.hk_sheet.specs.Keys.{HasOnly, HoldsInteger, HoldsPair, HoldsText, HoldsTable, HoldsOneTable}
+use Rattle.hk_sheet.specs.Keys.{has_only, HoldsInteger, HoldsPair, HoldsText, HoldsTable, HoldsOneTable}
+use Rattle.hk_sheet.specs.Section.{keys_of}
+use Rattle.hk_sheet.specs.declared.section.Section.TheVariants.{Top, Heap, Task}
 use Rattle.hk_sheet.specs.Script.{IsScript, ticks_of}
-
--- the keys of each table
-abbrev pub sheet_keys : List (List ℕ)
-sheet_keys = codes "version" ∷ codes "ticks" ∷ codes "heap" ∷ codes "high" ∷ []
-
-abbrev pub heap_keys : List (List ℕ)
-heap_keys = codes "live" ∷ codes "alloc" ∷ codes "reserve" ∷ codes "rate" ∷ codes "board" ∷ []
-
-abbrev pub task_keys : List (List ℕ)
-task_keys = codes "name" ∷ codes "period" ∷ codes "deadline" ∷ codes "cost" ∷ codes "words" ∷ codes "first" ∷ codes "every" ∷ codes "script" ∷ []
 
 -- the heap that a table declares
 pub record IsHeap (members : Members) (heap : HeapKeys) : Type 0 where
-  pub keys : HasOnly heap_keys members
+  pub keys : IsTrue (has_only (keys_of Heap) members)
   pub live : HoldsInteger members (codes "live") 0 MAX_SIZE heap.live
   pub alloc : HoldsInteger members (codes "alloc") 0 MAX_SIZE heap.alloc
   pub reserve : HoldsInteger members (codes "reserve") 0 MAX_SIZE heap.reserve
@@ -44,33 +38,41 @@ IsName [] = ⊥
 IsName (first ∷ rest) = (is_ascii_lowercase first ≡ true) × (list_all is_name_byte rest ≡ true) × (length (first ∷ rest) ≤ MAX_NAME)
 
 -- the arrivals that a table declares: a job every so many ticks, which are no fewer than the period
-abbrev pub IsArrivals : Members → ℕ → Arrivals → Type 0
-IsArrivals members period (Every first step) =
+abbrev pub HoldsArrivals : Members → ℕ → Arrivals → Type 0
+HoldsArrivals members period (Every first step) =
     HoldsInteger members (codes "first") 0 MAX_TICKS first
     × HoldsInteger members (codes "every") 1 MAX_TICKS step
     × (period ≤ step)
-IsArrivals members period (arrivals.List ticks) = ⊥
+HoldsArrivals members period (arrivals.List ticks) = ⊥
 
 -- the script that a table declares, in canonical form
-pub record HoldsScript (members : Members) (task : High) : Type 0 where
+pub record HoldsScript (members : Members) (script : List Statement) : Type 0 where
   pub text : List ℕ
   pub held : HoldsText members (codes "script") text
-  pub script : IsScript text task.script
+  pub is : IsScript text script
+
+-- the name that a table declares
+pub record HoldsName (members : Members) (name : List ℕ) : Type 0 where
+  pub held : HoldsText members (codes "name") name
+  pub is : IsName name
+
+-- The times that a table declares: the cost fits the deadline, and the deadline the period.
+pub record HoldsTiming (members : Members) (timing : Timing) : Type 0 where
+  pub period : HoldsInteger members (codes "period") 1 MAX_TICKS timing.period
+  pub deadline : HoldsInteger members (codes "deadline") 1 timing.period timing.deadline
+  pub cost : HoldsInteger members (codes "cost") 1 MAX_TICKS timing.cost
+  pub in_time : timing.cost ≤ timing.deadline
 
 -- the high task that a table declares
 pub record IsHigh (members : Members) (task : High) : Type 0 where
-  pub keys : HasOnly task_keys members
-  pub name : HoldsText members (codes "name") task.name
-  pub period : HoldsInteger members (codes "period") 1 MAX_TICKS task.timing.period
-  pub deadline : HoldsInteger members (codes "deadline") 1 task.timing.period task.timing.deadline
-  pub cost : HoldsInteger members (codes "cost") 1 MAX_TICKS task.timing.cost
+  pub keys : IsTrue (has_only (keys_of Task) members)
+  pub name : HoldsName members task.name
+  pub timing : HoldsTiming members task.timing
   pub words : HoldsInteger members (codes "words") 0 0 task.words
-  pub named : IsName task.name
-  pub arrivals : IsArrivals members task.timing.period task.arrivals
-  pub script : HoldsScript members task
-  -- the job of the task takes no more than its cost, and its cost fits its deadline
+  pub arrivals : HoldsArrivals members task.timing.period task.arrivals
+  pub script : HoldsScript members task.script
+  -- a job takes no more than the cost
   pub enough : ticks_of task.script ≤ task.timing.cost
-  pub in_time : task.timing.cost ≤ task.timing.deadline
 
 -- the one high task that a document declares
 pub record HasHigh (document : Members) (highs : List High) : Type 0 where
@@ -86,16 +88,16 @@ pub record HasHeap (document : Members) (heap : HeapKeys) : Type 0 where
   pub held : HoldsTable document (codes "heap") members
   pub is : IsHeap members heap
 
--- what the heap's geometry is made of
-abbrev pub sizes_of : Sheet → Sizes
-sizes_of sheet = record {
-  live = sheet.heap.live;
-  alloc = sheet.heap.alloc;
-  reserve = sheet.heap.reserve;
-  high = length sheet.high;
-  low = length sheet.low;
-  refs = sheet.heap.refs;
-  nums = sheet.heap.nums;
+-- what the heap's geometry is made of, for so many high and low tasks
+abbrev pub sizes_for : HeapKeys → ℕ → ℕ → Sizes
+sizes_for heap high low = record {
+  live = heap.live;
+  alloc = heap.alloc;
+  reserve = heap.reserve;
+  high = high;
+  low = low;
+  refs = heap.refs;
+  nums = heap.nums;
 }
 
 -- A cycle of the collector takes at most 37 + 9 * live + 7 * alloc events. At the heap's rate they are done by the time
@@ -105,13 +107,13 @@ IsCollected heap = 37 + 9 * heap.live + 7 * heap.alloc ≤ heap.rate * (heap.all
 
 -- the document is of the first form, and this is its sheet
 pub record IsFirstForm (document : Members) (sheet : Sheet) : Type 0 where
-  pub keys : HasOnly sheet_keys document
+  pub keys : IsTrue (has_only (keys_of Top) document)
   pub version : HoldsInteger document (codes "version") 1 1 1
   pub ticks : HoldsInteger document (codes "ticks") 1 MAX_TICKS sheet.ticks
   pub heap : HasHeap document sheet.heap
   pub high : HasHigh document sheet.high
   pub low : sheet.low ≡ []
-  pub geometry : first_error (sizes_of sheet) ≡ None
+  pub geometry : first_error (sizes_for sheet.heap (length sheet.high) (length sheet.low)) ≡ None
   pub collected : IsCollected sheet.heap
 
 -- the sheet is that of a document of the first form

@@ -1,11 +1,16 @@
 -- What the keys of a TOML table hold.
-use Rattle.std.specs.Prelude.{◌≡◌, ℕ, ◌≤◌, pos, List, Contains, Some}
+use Rattle.std.specs.Prelude.{◌≡◌, ℕ, ◌≤◌, Bool, true, ◌&&◌, pos, List, Some, bytes_eq}
+use Rattle.std.specs.List.{list_any}
 use Rattle.toml.specs.Data.{integer, string, array, table, no_items, item, Members, no_members, member, get_member}
 
+-- the key is one of these
+abbrev pub is_among : List (List ℕ) → List ℕ → Bool
+is_among keys key = list_any (λ other. bytes_eq other key) keys
+
 -- each key of the table is one of these
-abbrev pub HasOnly : List (List ℕ) → Members → Type 0
-HasOnly keys no_members = Unit {0}
-HasOnly keys (member key value rest) = Contains keys key × HasOnly keys rest
+abbrev pub has_only : List (List ℕ) → Members → Bool
+has_only keys no_members = true
+has_only keys (member key value rest) = is_among keys key && has_only keys rest
 
 -- the key holds an integer, which is this value, from low to high
 pub record HoldsInteger (members : Members) (key : List ℕ) (low high value : ℕ) : Type 0 where

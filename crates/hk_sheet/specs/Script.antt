@@ -24,6 +24,10 @@ abbrev pub line_of : Statement → List ℕ
 line_of (Work ticks) = codes "work " ++ decimal ticks
 line_of (Out variable) = codes "out v" ++ decimal variable
 
+-- the line is that of the statement, whose numbers are in their ranges
+abbrev pub IsLineOf : List ℕ → Statement → Type 0
+IsLineOf line statement = IsStatement statement × (line ≡ line_of statement)
+
 -- the line feed
 abbrev pub newline : List ℕ
 newline = 10 ∷ []

@@ -1,3 +1,5 @@
+ghost use Rattle.std.specs.Prelude.{◌≡◌};
+
 use std::marker::Model;
 
 /// Ticks, in the order in which they were written. A contract sees the list of the numbers.
@@ -21,4 +23,19 @@ pub enum Arrivals {
     Every { first: u64, step: u64 },
     /// One job at each of these ticks.
     List(Ticks),
+}
+
+impl Arrivals {
+    ghost use Rattle.hk_sheet.specs.Arrivals.{arrival_of};
+
+    /// The tick at which a job arrives; jobs count from 0. None where the list has no such job, or where the tick is
+    /// above 2^64 - 1.
+    pub fn at(&self, job: u64) -> Option<u64>
+        ensures { result ≡ arrival_of self.now job }
+    {
+        match self {
+            Arrivals::Every { first, step } => job.checked_mul(*step)?.checked_add(*first),
+            Arrivals::List(ticks) => ticks.items.get(job as usize).copied(),
+        }
+    }
 }

@@ -3,8 +3,10 @@
 #![tactic(auto)]
 
 mod arrivals;
+mod keys;
 mod reader;
 mod script;
+mod section;
 mod sheet;
 
 pub use arrivals::{Arrivals, Ticks};

@@ -1,0 +1,6 @@
+mod AnswerLemmas
+mod NumberLemmas
+mod OneSheet
+mod ParseLemmas
+mod ScriptLemmas
+mod TableLemmas

@@ -2,7 +2,7 @@
 -- row that goes first among those that have arrived and aren't ended. Of two rows the one of the lesser task goes
 -- first, and of two rows of one task the one at the lesser place. Ticks count from 0; tick t lies between the
 -- moments t and t + 1, and t ticks have been given at the moment t.
-use Rattle.std.specs.Prelude.{◌≡◌, ℕ, zero, suc, ◌+◌, ◌-◌, ◌<◌, ◌≤◌, Bool, ◌&&◌, ◌||◌, nat_eq, nat_lt, nat_le, if◌then◌else◌, List, Option, Some, None, length, slice_index_or}
+use Rattle.std.specs.Prelude.{◌≡◌, ℕ, zero, suc, ◌+◌, ◌-◌, ◌<◌, ◌≤◌, ◌⊎◌, ◌↔◌, Bool, ◌&&◌, ◌||◌, nat_eq, nat_lt, nat_le, if◌then◌else◌, List, Option, Some, None, length, slice_index_or}
 use Rattle.hk_plan.specs.declared.Row.{Row}
 
 -- a row without ticks, which stands for a place where there is none
@@ -63,6 +63,34 @@ had_after rows (suc t) k = had_after rows t k + tick_for (chosen rows (had_after
 abbrev pub row_at : List Row → ℕ → Option ℕ
 row_at rows t = chosen rows (had_after rows t) t
 
+-- the row at a place is ready at a moment: it has arrived, and has had fewer ticks than it takes
+pub record IsReady (rows : List Row) (t k : ℕ) : Type 0 where
+  pub within : k < length rows
+  pub arrived : arrival_of rows k ≤ t
+  pub unended : had_after rows t k < ticks_of rows k
+
+-- no row is ready at a moment
+abbrev pub IsIdle : List Row → ℕ → Type 0
+IsIdle rows t = (k : ℕ) → ¬ (IsReady rows t k)
+
+-- the row at the first place is of a lesser task than the other, or of the same task and at no greater place
+abbrev pub ComesFirst : List Row → ℕ → ℕ → Type 0
+ComesFirst rows k j = (task_of rows k < task_of rows j) ⊎ ((task_of rows k ≡ task_of rows j) × (k ≤ j))
+
+-- of the rows that are ready at a moment the one at this place goes first
+pub record GoesFirst (rows : List Row) (t k : ℕ) : Type 0 where
+  pub ready : IsReady rows t k
+  pub first : (j : ℕ) → IsReady rows t j → ComesFirst rows k j
+
+-- a tick goes to a row exactly where that one is ready and goes first, and to nobody exactly where no row is ready
+pub record FollowsOrder (rows : List Row) (t : ℕ) : Type 0 where
+  pub to_row : (k : ℕ) → (row_at rows t ≡ Some k) ↔ GoesFirst rows t k
+  pub to_nobody : (row_at rows t ≡ None) ↔ IsIdle rows t
+
+-- so it is with each tick of all rows
+abbrev pub EachTickFollowsOrder : Type 0
+EachTickFollowsOrder = (rows : List Row) (t : ℕ) → FollowsOrder rows t
+
 -- the row at a place has had all its ticks at a moment
 abbrev pub IsEnded : List Row → ℕ → ℕ → Type 0
 IsEnded rows t k = ticks_of rows k ≤ had_after rows t k
@@ -73,10 +101,11 @@ pub record EndsAt (rows : List Row) (k e : ℕ) : Type 0 where
   pub last : row_at rows (e - 1) ≡ Some k
   pub whole : had_after rows e k ≡ ticks_of rows k
 
--- each row takes at least one tick
-pub record TakesTicks (row : Row) : Type 0 where
-  pub some : 1 ≤ row.ticks
+-- a row takes at least one tick
+abbrev pub TakesTicks : Row → Type 0
+TakesTicks row = 1 ≤ row.ticks
 
--- the rows of one task stand in order of arrival
-abbrev pub InOrder : List Row → Type 0
-InOrder rows = (j k : ℕ) → j < k → k < length rows → task_of rows j ≡ task_of rows k → arrival_of rows j ≤ arrival_of rows k
+-- rows, and how many ticks were given to them so far
+pub record Progress : Type 0 where
+  pub rows : List Row
+  pub given : ℕ

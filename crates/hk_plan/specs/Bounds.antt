@@ -14,9 +14,10 @@ pub record KeepsTiming (rows : List Row) (task : ℕ) (timing : Timing) : Type 0
   pub ticks_few : (k : ℕ) → k < length rows → task_of rows k ≡ task → ticks_of rows k ≤ timing.cost
   pub apart : (j k : ℕ) → j < k → k < length rows → task_of rows j ≡ task → task_of rows k ≡ task → arrival_of rows j + timing.period ≤ arrival_of rows k
 
--- the row at a place ends, and at most so many ticks after its arrival
+-- the row at a place ends at most so many ticks after its arrival: from then on it has had all its ticks, it ends
+-- once, and no later
 pub record EndsWithin (rows : List Row) (k bound : ℕ) : Type 0 where
-  pub whole : had_after rows (arrival_of rows k + bound) k ≡ ticks_of rows k
+  pub whole : (t : ℕ) → arrival_of rows k + bound ≤ t → had_after rows t k ≡ ticks_of rows k
   pub ends : (e : ℕ) × EndsAt rows k e
   pub bounded : (e : ℕ) → EndsAt rows k e → e ≤ arrival_of rows k + bound
 

@@ -1,9 +1,10 @@
 -- The work that periodic tasks and loads bring into a window of time.
-use Rattle.std.specs.Prelude.{ℕ, ◌+◌, ◌*◌, ◌<◌, ◌≤◌, ◌^◌, List, slice_index_or}
+use Rattle.std.specs.Prelude.{ℕ, ◌*◌, ◌≤◌, List, slice_index_or}
 use Rattle.std.specs.List.{sum_by}
 use Rattle.std.specs.Int.{div_ceil}
 use Rattle.hk_rta.specs.declared.Timing.{Timing}
 use Rattle.hk_rta.specs.declared.Load.{Load}
+use Rattle.hk_rta.specs.declared.TheConstants.{MAX_TICKS, MAX_WORK}
 
 -- how often a period can begin in a window: the periods that the window holds, rounded up
 abbrev pub starts_in : ℕ → ℕ → ℕ
@@ -25,21 +26,9 @@ work_of window load = starts_in window load.period * load.work
 abbrev pub work_in : List Load → ℕ → ℕ
 work_in loads window = sum_by (work_of window) loads
 
--- the greatest cost, period, deadline, or length of a busy period
-abbrev pub GREATEST_TIME : ℕ
-GREATEST_TIME = 2 ^ 24
-
--- the greatest work of a load at one arrival
-abbrev pub GREATEST_WORK : ℕ
-GREATEST_WORK = 2 ^ 37
-
--- the most tasks or loads
-abbrev pub MOST_TASKS : ℕ
-MOST_TASKS = 31
-
 -- a time from 1 to the greatest
 abbrev pub IsTime : ℕ → Type 0
-IsTime n = (1 ≤ n) × (n ≤ GREATEST_TIME)
+IsTime n = (1 ≤ n) × (n ≤ MAX_TICKS)
 
 -- each of a task's times is in range
 pub record IsTimed (task : Timing) : Type 0 where
@@ -50,7 +39,7 @@ pub record IsTimed (task : Timing) : Type 0 where
 -- a load's period and work are in range
 pub record IsLoad (load : Load) : Type 0 where
   pub period : IsTime load.period
-  pub work : load.work ≤ GREATEST_WORK
+  pub work : load.work ≤ MAX_WORK
 
 -- a task without times, which stands for a place where there is none
 abbrev pub no_timing : Timing

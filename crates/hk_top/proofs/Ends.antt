@@ -87,7 +87,7 @@ module _ (first every size horizon : ℕ) (some : 0 < size) (apart : size ≤ ev
       let f = ticks_is first every size horizon some apart k inside in
       ne_eqb (had_after rows t k) (ticks_of rows k) (λ h. omega (arith, e, f, early, h))
 
-  stay_of-ended : (k : ℕ) → k < count → arrives first every k + size ≤ horizon → stay_of rows horizon k ≡ Some size
+  pub stay_of-ended : (k : ℕ) → k < count → arrives first every k + size ≤ horizon → stay_of rows horizon k ≡ Some size
   stay_of-ended k inside over =
       let test : ℕ → Bool = λ t. had_after rows t k == ticks_of rows k in
       let a = arrival_is first every size horizon some apart k inside in
@@ -98,7 +98,7 @@ module _ (first every size horizon : ℕ) (some : 0 < size) (apart : size ≤ ev
       let z : 0 + (arrives first every k + size) - arrival_of rows k ≡ size = omega (arith, a) in
       ap (option_map (λ moment. moment - arrival_of rows k)) e ∙ ap Some z
 
-  stay_of-running : (k : ℕ) → k < count → horizon < arrives first every k + size → stay_of rows horizon k ≡ None
+  pub stay_of-running : (k : ℕ) → k < count → horizon < arrives first every k + size → stay_of rows horizon k ≡ None
   stay_of-running k inside early =
       let test : ℕ → Bool = λ t. had_after rows t k == ticks_of rows k in
       let e = find-none test 0 (horizon + 1)

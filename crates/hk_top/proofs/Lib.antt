@@ -6,3 +6,5 @@ pub mod Scripts
 pub mod ProgressLemmas
 pub mod Written
 pub mod ReportLemmas
+pub mod BoundsLemmas
+pub mod ToolLemmas

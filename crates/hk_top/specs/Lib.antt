@@ -4,3 +4,4 @@ pub mod Progress
 pub mod Periodic
 pub mod Text
 pub mod Report
+pub mod Tool

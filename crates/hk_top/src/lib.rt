@@ -1,6 +1,9 @@
-//! The top call of the program.
+//! The top call of the program: from its words and its input to what it writes and how it ends.
 #![tactic(auto)]
 
 mod lines;
 mod progress;
 mod report;
+mod tool;
+
+pub use tool::run_tool;

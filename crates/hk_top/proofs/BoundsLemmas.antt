@@ -91,10 +91,10 @@ KeepsBounds-first_form sheet (document, form) =
     let in_time = is.timing.in_time in
     let deadline = is.timing.deadline.at_most in
     let same : jobs sheet ≡ rows_from task.script sheet.ticks task.arrivals =
-        jobs-rows_from sheet ∙ ap (λ t. rows_from t.script sheet.ticks t.arrivals) first in
+    jobs-rows_from sheet ∙ ap (λ t. rows_from t.script sheet.ticks t.arrivals) first in
     let rows : KeepsRows (rows_from task.script sheet.ticks task.arrivals) sheet.ticks task.timing.cost =
-        rows_from-keeps form.high.members task.script is.script.text sheet.ticks task.timing.period task.timing.cost task.arrivals
-          is.arrivals is.script.is is.enough (omega (arith, in_time, deadline)) in
+    rows_from-keeps form.high.members task.script is.script.text sheet.ticks task.timing.period task.timing.cost task.arrivals
+    is.arrivals is.script.is is.enough (omega (arith, in_time, deadline)) in
     let jobs_keep : KeepsRows (jobs sheet) sheet.ticks task.timing.cost = subst (λ r. KeepsRows r sheet.ticks task.timing.cost) (sym same) rows in
     let cost_is : task.timing.cost ≡ response_of sheet = ap (λ t. t.timing.cost) (sym first) in
     let keep : KeepsRows (jobs sheet) sheet.ticks (response_of sheet) = subst (λ r. KeepsRows (jobs sheet) sheet.ticks r) cost_is jobs_keep in

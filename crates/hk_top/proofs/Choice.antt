@@ -13,7 +13,6 @@ first_is rows P (Some j) n old new =
     elim (goes_before rows n j) as (λ b. P (cond b n j)) [ true ↦ new | false ↦ old j refl ]
 
 module _ (rows : List Row) (had : ℕ → ℕ) (t : ℕ) where
-
   -- a place is below n, and its row is ready
   abbrev pub Eligible : ℕ → ℕ → Type 0
   Eligible n k = (k < n) × (is_ready rows had t k ≡ true)
@@ -23,33 +22,33 @@ module _ (rows : List Row) (had : ℕ → ℕ) (t : ℕ) where
   chosen_below-ready zero k e = cc
   chosen_below-ready (suc n) k e =
       let old : (j : ℕ) → chosen_below rows had t n ≡ Some j → Eligible (suc n) j
-          = λ j is. let r = chosen_below-ready n j is in (omega arith, r.1) in
+      = λ j is. let r = chosen_below-ready n j is in (omega arith, r.1) in
       ⊎_elim
-        (λ (ready : is_ready rows had t n ≡ true).
-          let s = sym (cond-true (is_ready rows had t n) (Some (first_of rows (chosen_below rows had t n) n)) (chosen_below rows had t n) ready) ∙ e in
-          let f = first_is rows (Eligible (suc n)) (chosen_below rows had t n) n old (omega arith, ready) in
-          let same : first_of rows (chosen_below rows had t n) n ≡ k = cc in
-          let P : ℕ → Type 0 = Eligible (suc n) in
-          subst P same f)
-        (λ (not_ready : is_ready rows had t n ≡ false).
-          old k (sym (cond-false (is_ready rows had t n) (Some (first_of rows (chosen_below rows had t n) n)) (chosen_below rows had t n) not_ready) ∙ e))
-        (cases_Bool (is_ready rows had t n))
+      (λ (ready : is_ready rows had t n ≡ true).
+      let s = sym (cond-true (is_ready rows had t n) (Some (first_of rows (chosen_below rows had t n) n)) (chosen_below rows had t n) ready) ∙ e in
+      let f = first_is rows (Eligible (suc n)) (chosen_below rows had t n) n old (omega arith, ready) in
+      let same : first_of rows (chosen_below rows had t n) n ≡ k = cc in
+      let P : ℕ → Type 0 = Eligible (suc n) in
+      subst P same f)
+      (λ (not_ready : is_ready rows had t n ≡ false).
+      old k (sym (cond-false (is_ready rows had t n) (Some (first_of rows (chosen_below rows had t n) n)) (chosen_below rows had t n) not_ready) ∙ e))
+      (cases_Bool (is_ready rows had t n))
 
   pub chosen_below-none : (n : ℕ) → chosen_below rows had t n ≡ None → (k : ℕ) → Eligible n k → ⊥
   unfolding chosen_below
   chosen_below-none zero e k h = omega (arith, h.0)
   chosen_below-none (suc n) e k h =
       ⊎_elim
-        (λ (ready : is_ready rows had t n ≡ true).
-          let s = sym (cond-true (is_ready rows had t n) (Some (first_of rows (chosen_below rows had t n) n)) (chosen_below rows had t n) ready) ∙ e in
-          cc)
-        (λ (not_ready : is_ready rows had t n ≡ false).
-          let s = sym (cond-false (is_ready rows had t n) (Some (first_of rows (chosen_below rows had t n) n)) (chosen_below rows had t n) not_ready) ∙ e in
-          ⊎_elim (λ (below : k < n). chosen_below-none n s k (below, h.1))
-            (λ (last : n ≤ k). let same : n ≡ k = omega (arith, h.0) in
-              let r : is_ready rows had t n ≡ true = rw same h.1 in both_ways _ not_ready r)
-            (cases_lt k n))
-        (cases_Bool (is_ready rows had t n))
+      (λ (ready : is_ready rows had t n ≡ true).
+      let s = sym (cond-true (is_ready rows had t n) (Some (first_of rows (chosen_below rows had t n) n)) (chosen_below rows had t n) ready) ∙ e in
+      cc)
+      (λ (not_ready : is_ready rows had t n ≡ false).
+      let s = sym (cond-false (is_ready rows had t n) (Some (first_of rows (chosen_below rows had t n) n)) (chosen_below rows had t n) not_ready) ∙ e in
+      ⊎_elim (λ (below : k < n). chosen_below-none n s k (below, h.1))
+      (λ (last : n ≤ k). let same : n ≡ k = omega (arith, h.0) in
+      let r : is_ready rows had t n ≡ true = rw same h.1 in both_ways _ not_ready r)
+      (cases_lt k n))
+      (cases_Bool (is_ready rows had t n))
 
 -- what a tick adds
 pub tick_for-same : (o : Option ℕ) (k : ℕ) → o ≡ Some k → tick_for o k ≡ 1

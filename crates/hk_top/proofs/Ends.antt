@@ -24,8 +24,8 @@ find-first test from (suc more) (suc count) few hit misses =
     let m : test from ≡ false = rw (sym e) (misses 0 (omega arith)) in
     let s : from + 1 + more ≡ from + suc more = omega arith in
     rw m (find-first test (from + 1) more count (omega (arith, few)) (rw s hit)
-      (λ i h. let q : from + 1 + i ≡ from + suc i = omega arith in rw q (misses (suc i) (omega (arith, h))))
-      ∙ ap Some s)
+    (λ i h. let q : from + 1 + i ≡ from + suc i = omega arith in rw q (misses (suc i) (omega (arith, h))))
+    ∙ ap Some s)
 
 -- none of some numbers passes a test
 pub find-none : (test : ℕ → Bool) (from count : ℕ) → ((i : ℕ) → i < count → test (from + i) ≡ false) → find test (range_with_len from count) ≡ None
@@ -34,7 +34,7 @@ find-none test from (suc count) misses =
     let e : from + 0 ≡ from = omega arith in
     let m : test from ≡ false = rw (sym e) (misses 0 (omega arith)) in
     rw m (find-none test (from + 1) count
-      (λ i h. let q : from + 1 + i ≡ from + suc i = omega arith in rw q (misses (suc i) (omega (arith, h)))))
+    (λ i h. let q : from + 1 + i ≡ from + suc i = omega arith in rw q (misses (suc i) (omega (arith, h)))))
 
 -- the first of some numbers all give the same, and the others nothing
 pub filter_map-front : (f : ℕ → Option ℕ) (value from front count : ℕ) → front ≤ count
@@ -46,13 +46,13 @@ filter_map-front f value from zero (suc count) few given not_given =
     let e : from + 0 ≡ from = omega arith in
     let m : f from ≡ None = rw (sym e) (not_given 0 (omega arith) (omega arith)) in
     rw m (filter_map-front f value (from + 1) zero count (omega arith) (λ i h. absurd (omega (arith, h)))
-      (λ i a b. let q : from + 1 + i ≡ from + suc i = omega arith in rw q (not_given (suc i) (omega arith) (omega (arith, b)))))
+    (λ i a b. let q : from + 1 + i ≡ from + suc i = omega arith in rw q (not_given (suc i) (omega arith) (omega (arith, b)))))
 filter_map-front f value from (suc front) (suc count) few given not_given =
     let e : from + 0 ≡ from = omega arith in
     let m : f from ≡ Some value = rw (sym e) (given 0 (omega arith)) in
     rw m (ap (λ l. value ∷ l) (filter_map-front f value (from + 1) front count (omega (arith, few))
-      (λ i h. let q : from + 1 + i ≡ from + suc i = omega arith in rw q (given (suc i) (omega (arith, h))))
-      (λ i a b. let q : from + 1 + i ≡ from + suc i = omega arith in rw q (not_given (suc i) (omega (arith, a)) (omega (arith, b))))))
+    (λ i h. let q : from + 1 + i ≡ from + suc i = omega arith in rw q (given (suc i) (omega (arith, h))))
+    (λ i a b. let q : from + 1 + i ≡ from + suc i = omega arith in rw q (not_given (suc i) (omega (arith, a)) (omega (arith, b))))))
 
 fold-max-replicate : (count value : ℕ) → fold max value (replicate count value) ≡ value
 fold-max-replicate zero value = refl
@@ -68,7 +68,6 @@ greatest-replicate (suc count) value =
     ap (λ m. fold max m (replicate count value)) e ∙ fold-max-replicate count value ∙ sym (cond-false (suc count == 0) 0 value n)
 
 module _ (first every size horizon : ℕ) (some : 0 < size) (apart : size ≤ every) where
-
   abbrev rows : List Row
   rows = periodic first every size horizon
 
@@ -92,9 +91,9 @@ module _ (first every size horizon : ℕ) (some : 0 < size) (apart : size ≤ ev
       let test : ℕ → Bool = λ t. had_after rows t k == ticks_of rows k in
       let a = arrival_is first every size horizon some apart k inside in
       let e = find-first test 0 (arrives first every k + size) (horizon + 1) (omega (arith, over))
-        (let z : 0 + (arrives first every k + size) ≡ arrives first every k + size = omega arith in
-          rw z (had_all (arrives first every k + size) k inside (omega arith)))
-        (λ i h. let z : 0 + i ≡ i = omega arith in rw z (had_less i k inside h)) in
+      (let z : 0 + (arrives first every k + size) ≡ arrives first every k + size = omega arith in
+      rw z (had_all (arrives first every k + size) k inside (omega arith)))
+      (λ i h. let z : 0 + i ≡ i = omega arith in rw z (had_less i k inside h)) in
       let z : 0 + (arrives first every k + size) - arrival_of rows k ≡ size = omega (arith, a) in
       ap (option_map (λ moment. moment - arrival_of rows k)) e ∙ ap Some z
 
@@ -102,7 +101,7 @@ module _ (first every size horizon : ℕ) (some : 0 < size) (apart : size ≤ ev
   stay_of-running k inside early =
       let test : ℕ → Bool = λ t. had_after rows t k == ticks_of rows k in
       let e = find-none test 0 (horizon + 1)
-        (λ i h. let z : 0 + i ≡ i = omega arith in rw z (had_less i k inside (omega (arith, h, early)))) in
+      (λ i h. let z : 0 + i ≡ i = omega arith in rw z (had_less i k inside (omega (arith, h, early)))) in
       ap (option_map (λ moment. moment - arrival_of rows k)) e
 
   -- the jobs before job j end by the horizon, and the others don't
@@ -111,18 +110,18 @@ module _ (first every size horizon : ℕ) (some : 0 < size) (apart : size ≤ ev
   stays-periodic j running ended =
       let long = length-periodic first every size horizon in
       let past : (i : ℕ) → i < j → arrives first every i + size ≤ horizon
-          = λ i h. let b = arrives-apart first every i j h in let c = ended (omega (arith, h)) in omega (arith, b, c) in
+      = λ i h. let b = arrives-apart first every i j h in let c = ended (omega (arith, h)) in omega (arith, b, c) in
       let yet : (i : ℕ) → j ≤ i → horizon < arrives first every i + size
-          = λ i h. ⊎_elim (λ (later : j < i). let b = arrives-apart first every j i later in omega (arith, b, running))
-              (λ (not_later : i ≤ j). let same : i ≡ j = omega (arith, h, not_later) in
-                let P : ℕ → Type 0 = λ k. horizon < arrives first every k + size in subst P (sym same) running) (cases_lt j i) in
+      = λ i h. ⊎_elim (λ (later : j < i). let b = arrives-apart first every j i later in omega (arith, b, running))
+      (λ (not_later : i ≤ j). let same : i ≡ j = omega (arith, h, not_later) in
+      let P : ℕ → Type 0 = λ k. horizon < arrives first every k + size in subst P (sym same) running) (cases_lt j i) in
       let inside : (i : ℕ) → i < j → i < count
-          = λ i h. starts_in-has (horizon - first) every i (omega arith) (let p = past i h in omega (arith, p, some)) in
+      = λ i h. starts_in-has (horizon - first) every i (omega arith) (let p = past i h in omega (arith, p, some)) in
       let few : j ≤ count = ⊎_elim (λ (out : count < j). absurd (let p = inside count out in omega (arith, p))) (λ (fits : j ≤ count). fits) (cases_lt count j) in
       ap (λ n. filter_map (stay_of rows horizon) (range_with_len 0 n)) long
       ∙ filter_map-front (stay_of rows horizon) size 0 j count few
-        (λ i h. let z : 0 + i ≡ i = omega arith in rw z (stay_of-ended i (inside i h) (past i h)))
-        (λ i a b. let z : 0 + i ≡ i = omega arith in rw z (stay_of-running i b (yet i a)))
+      (λ i h. let z : 0 + i ≡ i = omega arith in rw z (stay_of-ended i (inside i h) (past i h)))
+      (λ i a b. let z : 0 + i ≡ i = omega arith in rw z (stay_of-running i b (yet i a)))
 
   -- each job ends when it has had its size from its arrival on
   pub EndsAt-periodic : (k : ℕ) → k < count → EndsAt rows k (arrives first every k + size)

@@ -33,10 +33,10 @@ pub starts_in-has : (window every k : ℕ) → 0 < every → k * every < window 
 starts_in-has window every k some inside =
     let t = div_ceil_times window every some in
     ⊎_elim (λ (below : k < starts_in window every). below)
-      (λ (above : starts_in window every ≤ k).
-        let m : starts_in window every * every ≤ k * every = grind arith in
-        absurd (omega (arith, t.0)))
-      (cases_lt k (starts_in window every))
+    (λ (above : starts_in window every ≤ k).
+    let m : starts_in window every * every ≤ k * every = grind arith in
+    absurd (omega (arith, t.0)))
+    (cases_lt k (starts_in window every))
 
 pub length-periodic : (first every size horizon : ℕ) → length (periodic first every size horizon) ≡ starts_in (horizon - first) every
 length-periodic first every size horizon =
@@ -54,7 +54,6 @@ row_of-periodic first every size horizon k inside =
     ∙ get_or-map-range_with_len (λ j. job size (first + j * every)) 0 (starts_in (horizon - first) every) k k no_row inside (omega arith)
 
 module _ (first every size horizon : ℕ) (some : 0 < size) (apart : size ≤ every) where
-
   abbrev pub rows : List Row
   rows = periodic first every size horizon
 
@@ -84,23 +83,23 @@ module _ (first every size horizon : ℕ) (some : 0 < size) (apart : size ≤ ev
       let e = arrival_is k inside in
       let f = ticks_is k inside in
       and_from (nat_le (arrival_of rows k) t) (nat_lt (had k) (ticks_of rows k))
-        (le-leb (arrival_of rows k) t (omega (arith, arrived, e))) (lt-ltb (had k) (ticks_of rows k) (omega (arith, few, f)))
+      (le-leb (arrival_of rows k) t (omega (arith, arrived, e))) (lt-ltb (had k) (ticks_of rows k) (omega (arith, few, f)))
 
   pub Closed-periodic : (t : ℕ) → Closed first every size count (λ t k. had_after rows t k) t
   Closed-periodic t =
       let long = length-periodic first every size horizon in
       closed_from first every size count (λ t k. had_after rows t k) (λ t. row_at rows t) apart
-        (λ k inside. had_after-zero rows k)
-        (λ t k is.
-          let r = chosen_below-ready rows (had_after rows t) t (length rows) k is in
-          let inside : k < count = omega (arith, r.0, long) in
-          let q = ready_tells (had_after rows t) t k inside r.1 in
-          (inside, q.0, q.1))
-        (λ t is k inside arrived few.
-          chosen_below-none rows (had_after rows t) t (length rows) is k (omega (arith, inside, long), ready_from (had_after rows t) t k inside arrived few))
-        (λ t k is. had_after-suc rows t k ∙ ap (λ n. had_after rows t k + n) (tick_for-same (row_at rows t) k is))
-        (λ t k is. had_after-suc rows t k ∙ ap (λ n. had_after rows t k + n) (tick_for-other (row_at rows t) k is) ∙ omega arith)
-        t
+      (λ k inside. had_after-zero rows k)
+      (λ t k is.
+      let r = chosen_below-ready rows (had_after rows t) t (length rows) k is in
+      let inside : k < count = omega (arith, r.0, long) in
+      let q = ready_tells (had_after rows t) t k inside r.1 in
+      (inside, q.0, q.1))
+      (λ t is k inside arrived few.
+      chosen_below-none rows (had_after rows t) t (length rows) is k (omega (arith, inside, long), ready_from (had_after rows t) t k inside arrived few))
+      (λ t k is. had_after-suc rows t k ∙ ap (λ n. had_after rows t k + n) (tick_for-same (row_at rows t) k is))
+      (λ t k is. had_after-suc rows t k ∙ ap (λ n. had_after rows t k + n) (tick_for-other (row_at rows t) k is) ∙ omega arith)
+      t
 
   pub had_after-periodic : (t k : ℕ) → k < count → had_after rows t k ≡ min size (t - arrives first every k)
   had_after-periodic t k inside = Closed-periodic t k inside
@@ -113,7 +112,7 @@ module _ (first every size horizon : ℕ) (some : 0 < size) (apart : size ≤ ev
       at None is =
           let few : had_after rows t k < size = let e = Closed-periodic t k inside in omega (arith, e, arrived, within) in
           absurd (chosen_below-none rows (had_after rows t) t (length rows) is k
-            (let long = length-periodic first every size horizon in omega (arith, inside, long), ready_from (had_after rows t) t k inside arrived few))
+          (let long = length-periodic first every size horizon in omega (arith, inside, long), ready_from (had_after rows t) t k inside arrived few))
       at (Some j) is =
           let long = length-periodic first every size horizon in
           let r = chosen_below-ready rows (had_after rows t) t (length rows) j is in
@@ -142,17 +141,17 @@ module _ (first every size horizon : ℕ) (some : 0 < size) (apart : size ≤ ev
       at (Some k) is =
           let q = row_at-tells t k is in
           ⊎_elim
-            (λ (before : k < j).
-              let some_job : 0 < j = omega (arith, before) in
-              let a = late some_job in
-              let b : arrives first every k + every ≤ arrives first every j = arrives-apart first every k j before in
-              absurd (omega (arith, a, b, q.2)))
-            (λ (not_before : j ≤ k).
-              ⊎_elim (λ (after : j < k). let b = arrives-apart first every j k after in absurd (omega (arith, early, q.1, b)))
-                (λ (not_after : k ≤ j).
-                  let same : k ≡ j = omega (arith, not_before, not_after) in
-                  let f = q.1 in
-                  let g : arrives first every j ≤ t = rw (sym same) f in
-                  absurd (omega (arith, g, early)))
-                (cases_lt j k))
-            (cases_lt k j)
+          (λ (before : k < j).
+          let some_job : 0 < j = omega (arith, before) in
+          let a = late some_job in
+          let b : arrives first every k + every ≤ arrives first every j = arrives-apart first every k j before in
+          absurd (omega (arith, a, b, q.2)))
+          (λ (not_before : j ≤ k).
+          ⊎_elim (λ (after : j < k). let b = arrives-apart first every j k after in absurd (omega (arith, early, q.1, b)))
+          (λ (not_after : k ≤ j).
+          let same : k ≡ j = omega (arith, not_before, not_after) in
+          let f = q.1 in
+          let g : arrives first every j ≤ t = rw (sym same) f in
+          absurd (omega (arith, g, early)))
+          (cases_lt j k))
+          (cases_lt k j)

@@ -44,7 +44,6 @@ idle_in-more rows tick =
     ap (sum_by idle) (range_with_len_more tick) ∙ sum_by-append idle (range_with_len 0 tick) (tick ∷ []) ∙ ap (λ n. sum_by idle (range_with_len 0 tick) + n) z
 
 module _ (task : PeriodicTask) (right : IsRight task) (tick : ℕ) (inside : tick < task.ticks) where
-
   idle-none : row_at (rows_of task) tick ≡ None → idle_in (rows_of task) (tick + 1) ≡ idle_in (rows_of task) tick + 1
   idle-none is = idle_in-more (rows_of task) tick ∙ ap (λ o. idle_in (rows_of task) tick + cond (is_none o) 1 0) is
 
@@ -57,7 +56,7 @@ module _ (task : PeriodicTask) (right : IsRight task) (tick : ℕ) (inside : tic
       let a = at.arrival in
       let e = at.ended in
       row_at-between task.first task.every (size_of task) task.ticks (size_some task right) right.apart tick p.job
-        (omega (arith, a, early)) (λ some. omega (arith, a, e some))
+      (omega (arith, a, early)) (λ some. omega (arith, a, e some))
 
   -- the tick goes to the job that has arrived
   pub row_at-here : (p : Progress) → IsAt task tick p → p.arrival ≤ tick → (p.job < starts_in (task.ticks - task.first) task.every) × (row_at (rows_of task) tick ≡ Some p.job)
@@ -65,7 +64,7 @@ module _ (task : PeriodicTask) (right : IsRight task) (tick : ℕ) (inside : tic
       let a = at.arrival in
       let r = at.running in
       let there : p.job < starts_in (task.ticks - task.first) task.every
-          = starts_in-has (task.ticks - task.first) task.every p.job (omega (arith, size_some task right, right.apart)) (omega (arith, a, arrived, inside)) in
+      = starts_in-has (task.ticks - task.first) task.every p.job (omega (arith, size_some task right, right.apart)) (omega (arith, a, arrived, inside)) in
       (there, row_at-inside task.first task.every (size_of task) task.ticks (size_some task right) right.apart tick p.job there (omega (arith, a, arrived)) (omega (arith, a, r)))
 
   pub output_in-early : (p : Progress) → IsAt task tick p → tick < p.arrival → output_in (rows_of task) task.script.now tick ≡ None
@@ -176,9 +175,9 @@ module _ (task : PeriodicTask) (right : IsRight task) (tick : ℕ) (inside : tic
       let q = right.apart in
       let taken : tick + 1 - p.arrival ≡ size_of task = omega (arith, h, m, w) in
       let before : p.latest ≤ size_of task =
-          ⊎_elim (λ (none : p.job ≡ 0). omega (arith, over.latest ∙ cond-true (p.job == 0) 0 (size_of task) (eq-eqb p.job 0 none)))
-            (λ (some : p.job ≡ 0 → ⊥). omega (arith, over.latest ∙ cond-false (p.job == 0) 0 (size_of task) (ne_eqb p.job 0 some)))
-            (cases_eq p.job 0) in
+      ⊎_elim (λ (none : p.job ≡ 0). omega (arith, over.latest ∙ cond-true (p.job == 0) 0 (size_of task) (eq-eqb p.job 0 none)))
+      (λ (some : p.job ≡ 0 → ⊥). omega (arith, over.latest ∙ cond-false (p.job == 0) 0 (size_of task) (ne_eqb p.job 0 some)))
+      (cases_eq p.job 0) in
       record {
         arrival = (let e : (p.job + 1) * task.every ≡ p.job * task.every + task.every = grind arith in omega (arith, b, e));
         running = omega (arith, taken, a, q, z);

@@ -27,7 +27,7 @@ analysis-parts sheet = refl
 
 pub closing-parts : (sheet : Sheet)
     → (done_line (first_task sheet).name (length (stays (jobs sheet) sheet.ticks)) (greatest (stays (jobs sheet) sheet.ticks)) ++ idle_line (idle_in (jobs sheet) sheet.ticks))
-      ++ end_line sheet.ticks ≡ closing sheet
+    ++ end_line sheet.ticks ≡ closing sheet
 unfolding closing
 closing-parts sheet = refl
 
@@ -43,11 +43,11 @@ pub jobs-rows_of : (sheet : Sheet) (task : PeriodicTask) → IsTaskOf sheet task
 unfolding jobs rows_from
 jobs-rows_of sheet task is =
     let a : rows_from (first_task sheet).script sheet.ticks (first_task sheet).arrivals ≡ rows_from (first_task sheet).script sheet.ticks (Every task.first task.every)
-        = ap (rows_from (first_task sheet).script sheet.ticks) is.arrivals in
+    = ap (rows_from (first_task sheet).script sheet.ticks) is.arrivals in
     let b : rows_from (first_task sheet).script sheet.ticks (Every task.first task.every) ≡ rows_from task.script.now sheet.ticks (Every task.first task.every)
-        = ap (λ s. rows_from s sheet.ticks (Every task.first task.every)) (sym is.script) in
+    = ap (λ s. rows_from s sheet.ticks (Every task.first task.every)) (sym is.script) in
     let c : rows_from task.script.now sheet.ticks (Every task.first task.every) ≡ rows_from task.script.now task.ticks (Every task.first task.every)
-        = ap (λ t. rows_from task.script.now t (Every task.first task.every)) (sym is.ticks) in
+    = ap (λ t. rows_from task.script.now t (Every task.first task.every)) (sym is.ticks) in
     a ∙ b ∙ c
 
 pub tick_text-task : (sheet : Sheet) (task : PeriodicTask) (tick : ℕ) → IsTaskOf sheet task
@@ -68,12 +68,13 @@ pub ticks_text-rest : (sheet : Sheet) (ticks more : ℕ) → (rest : List ℕ) �
 ticks_text-rest sheet ticks zero = ([], append-nil (ticks_text sheet ticks) ∙ ap (ticks_text sheet) (let e : ticks ≡ ticks + 0 = omega arith in e))
 ticks_text-rest sheet ticks (suc more) =
     let before = ticks_text-rest sheet ticks more in
-    let e : ticks + more + 1 ≡ ticks + suc more = omega arith in
-    (before.0 ++ tick_text sheet (ticks + more),
+    let e : ticks + more + 1 ≡ ticks + suc more = omega arith in (
+      before.0 ++ tick_text sheet (ticks + more),
       sym (append_assoc (ticks_text sheet ticks) before.0 (tick_text sheet (ticks + more)))
-      ∙ ap (λ x. x ++ tick_text sheet (ticks + more)) before.1
-      ∙ sym (ticks_text-more sheet (ticks + more))
-      ∙ ap (ticks_text sheet) e)
+          ∙ ap (λ x. x ++ tick_text sheet (ticks + more)) before.1
+          ∙ sym (ticks_text-more sheet (ticks + more))
+          ∙ ap (ticks_text sheet) e,
+    )
 
 -- the line for what a tick put out is the text of the tick
 pub tick_text-some : (sheet : Sheet) (task : PeriodicTask) (tick value : ℕ) (name text : List ℕ) → IsTaskOf sheet task
@@ -106,10 +107,10 @@ HasTotals-end sheet task at is right end =
     let a = end.arrival in
     let r = end.running in
     let s : stays (jobs sheet) sheet.ticks ≡ replicate at.job (size_of task)
-        = ap (λ rows. stays rows sheet.ticks) (jobs-rows_of sheet task is)
-          ∙ ap (stays (rows_of task)) (sym is.ticks)
-          ∙ stays-periodic task.first task.every (size_of task) task.ticks (size_some task right) right.apart at.job
-              (omega (arith, a, r)) (λ some. let e = end.ended some in omega (arith, a, e)) in
+    = ap (λ rows. stays rows sheet.ticks) (jobs-rows_of sheet task is)
+    ∙ ap (stays (rows_of task)) (sym is.ticks)
+    ∙ stays-periodic task.first task.every (size_of task) task.ticks (size_some task right) right.apart at.job
+    (omega (arith, a, r)) (λ some. let e = end.ended some in omega (arith, a, e)) in
     record {
       ended = sym (length-replicate at.job (size_of task)) ∙ sym (ap length s);
       latest = end.latest ∙ sym (greatest-replicate at.job (size_of task)) ∙ sym (ap greatest s);

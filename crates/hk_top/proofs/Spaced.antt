@@ -16,10 +16,10 @@ pub one_at_a_time : (first every size t j k : ℕ) → size ≤ every
     → arrives first every k ≤ t → t < arrives first every k + size → j ≡ k
 one_at_a_time first every size t j k apart ja jt ka kt =
     ⊎_elim (λ (below : j < k). absurd (omega (arith, arrives-apart first every j k below)))
-      (λ (not_below : k ≤ j).
-        ⊎_elim (λ (above : k < j). absurd (omega (arith, arrives-apart first every k j above)))
-          (λ (not_above : j ≤ k). omega arith) (cases_lt k j))
-      (cases_lt j k)
+    (λ (not_below : k ≤ j).
+    ⊎_elim (λ (above : k < j). absurd (omega (arith, arrives-apart first every k j above)))
+    (λ (not_above : j ≤ k). omega arith) (cases_lt k j))
+    (cases_lt j k)
 
 -- after t ticks each job has had the ticks since its arrival, up to its size
 abbrev pub Closed : ℕ → ℕ → ℕ → ℕ → (ℕ → ℕ → ℕ) → ℕ → Type 0
@@ -32,7 +32,6 @@ module _ (first every size count : ℕ) (had : ℕ → ℕ → ℕ) (who : ℕ �
     (idle : (t : ℕ) → who t ≡ None → (k : ℕ) → k < count → arrives first every k ≤ t → had t k < size → ⊥)
     (gained : (t k : ℕ) → who t ≡ Some k → had (suc t) k ≡ had t k + 1)
     (kept : (t k : ℕ) → ((who t ≡ Some k) → ⊥) → had (suc t) k ≡ had t k) where
-
   pub chosen_inside : (t k : ℕ) → Closed first every size count had t → who t ≡ Some k
       → (k < count) × (arrives first every k ≤ t) × (t < arrives first every k + size)
   chosen_inside t k closed is = let c = chosen t k is in let e = closed k c.0 in (c.0, c.1, omega (arith, e, c.1, c.2))
@@ -51,10 +50,10 @@ module _ (first every size count : ℕ) (had : ℕ → ℕ → ℕ) (who : ℕ �
       let before = closed_from t in
       let here = before k kn in
       ⊎_elim (λ (late : t < arrives first every k). kept t k (λ is. let c = chosen_inside t k before is in absurd (omega (arith, c.1))) ∙ omega arith)
-        (λ (arrived : arrives first every k ≤ t).
-          ⊎_elim (λ (inside : t < arrives first every k + size).
-              gained t k (whose t (who t) refl before k kn arrived inside) ∙ omega arith)
-            (λ (over : arrives first every k + size ≤ t).
-              kept t k (λ is. let c = chosen_inside t k before is in absurd (omega (arith, c.2))) ∙ omega arith)
-            (cases_lt t (arrives first every k + size)))
-        (cases_lt t (arrives first every k))
+      (λ (arrived : arrives first every k ≤ t).
+      ⊎_elim (λ (inside : t < arrives first every k + size).
+      gained t k (whose t (who t) refl before k kn arrived inside) ∙ omega arith)
+      (λ (over : arrives first every k + size ≤ t).
+      kept t k (λ is. let c = chosen_inside t k before is in absurd (omega (arith, c.2))) ∙ omega arith)
+      (cases_lt t (arrives first every k + size)))
+      (cases_lt t (arrives first every k))

@@ -15,7 +15,6 @@ use Rattle.hk_top.specs.Tool.{IsReportOf, IsRefusalOf, IsUnfit}
 use Rattle.hk_top.proofs.BoundsLemmas.{KeepsBounds-first_form}
 
 module _ (input : Option (List ℕ)) (bytes slice : List ℕ) (told : IfSome input (λ left. bytes ≡ left)) (same : slice ≡ bytes) where
-
   pub IsReportOf-read : (sheet : Sheet) → length bytes ≤ MAX_INPUT → IsOnlySheetOf slice sheet → IsReportOf input (report sheet)
   IsReportOf-read sheet short read = record {
     bytes = bytes;

@@ -4,14 +4,12 @@ use Rattle.hk_io.specs.Bytes.{AppendsPrefix, AppendsFront}
 use Rattle.hk_io.proofs.BytesLemmas.{AppendsPrefix-append, AppendsFront-trans, AppendsPrefix-behind}
 
 module _ (a b : Option (List ℕ)) where
-
   -- what is a first part of the first part of a text is a first part of the text
   pub prefix_first : (waiting line rest text : List ℕ) → line ++ rest ≡ text → AppendsPrefix a b (waiting ++ line) → AppendsPrefix a b (waiting ++ text)
   prefix_first waiting line rest text whole prefix =
       subst (AppendsPrefix a b) (append_assoc waiting line rest ∙ ap (λ x. waiting ++ x) whole) (AppendsPrefix-append a b (waiting ++ line) rest prefix)
 
 module _ (a b c : Option (List ℕ)) (waiting waiting1 line1 line2 text : List ℕ) (whole : line1 ++ line2 ≡ text) where
-
   -- two texts were added
   pub front_two : (waiting2 : List ℕ) → AppendsFront a b (waiting ++ line1) waiting1 → AppendsFront b c (waiting1 ++ line2) waiting2 → AppendsFront a c (waiting ++ text) waiting2
   front_two waiting2 first second =

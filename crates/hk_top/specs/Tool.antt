@@ -30,7 +30,7 @@ pub record KeepsBounds (sheet : Sheet) : Type 0 where
   pub in_time : response_of sheet ≤ (first_task sheet).timing.deadline
   pub ends : (job : ℕ) → job < length (jobs sheet) → EndsWithin (jobs sheet) job (response_of sheet)
   pub counted : (job : ℕ) → job < length (jobs sheet) → arrival_of (jobs sheet) job + response_of sheet ≤ sheet.ticks
-    → IsSomeAnd (stay_of (jobs sheet) sheet.ticks job) (λ stay. stay ≤ response_of sheet)
+      → IsSomeAnd (stay_of (jobs sheet) sheet.ticks job) (λ stay. stay ≤ response_of sheet)
 
 -- the input, where it is told, is not too long and a sheet of the first form, and this is the sheet's report
 pub record IsReportOf (input : Option (List ℕ)) (text : List ℕ) : Type 0 where

@@ -4,6 +4,8 @@
 mod lines;
 mod progress;
 mod report;
+#[cfg(test)]
+mod tests;
 mod tool;
 
 pub use tool::run_tool;

@@ -53,7 +53,7 @@ fn run_sheet<K: Sink>(alloc: Global, bytes: &[u8], sink: &mut K) -> Status
     ensures not_built { result ≡ Status.NotBuilt → HasNoSheet bytes.now × Appends (K.taken sink.old) (K.taken sink.new) not_built_line }
     ensures prefix { result ≡ Status.WriteFault → Rose (K.faults sink.old) (K.faults sink.new)
         × (((sheet : Sheet) × IsOnlySheetOf bytes.now sheet × AppendsPrefix (K.taken sink.old) (K.taken sink.new) (report sheet))
-          ⊎ (HasNoSheet bytes.now × AppendsPrefix (K.taken sink.old) (K.taken sink.new) not_built_line)) }
+        ⊎ (HasNoSheet bytes.now × AppendsPrefix (K.taken sink.old) (K.taken sink.new) not_built_line)) }
     ensures memory { result ≡ Status.Memory → sink.new ≡ sink.old }
     ensures other { result ≢ Status.ReadFault }
     ensures later { K.faults sink.old ≤ K.faults sink.new }
@@ -92,7 +92,7 @@ pub fn run_tool<S: Source, K: Sink>(
     // Where nothing fails, the input decides.
     ensures complete { IsRun words.now → ¬ (Rose (S.faults source.old) (S.faults source.new)) → ¬ (Rose (K.faults sink.old) (K.faults sink.new))
         → IfSome (S.left source.old) (λ bytes. (sheet : Sheet) → IsSheetOf bytes sheet → length bytes ≤ MAX_INPUT
-          → (result ≡ Status.Done) ⊎ (result ≡ Status.Memory)) }
+        → (result ≡ Status.Done) ⊎ (result ≡ Status.Memory)) }
     ensures refuses { IsRun words.now → ¬ (Rose (S.faults source.old) (S.faults source.new)) → ¬ (Rose (K.faults sink.old) (K.faults sink.new))
         → IfSome (S.left source.old) (λ bytes. IsUnfit bytes → (result ≡ Status.NotBuilt) ⊎ (result ≡ Status.Memory)) }
 

@@ -13,8 +13,8 @@ returns-in_err-write_analysis-clause-prefix g c =
     let ticks = ticks_text sheet sheet.ticks in
     let p = err_from_is_err_and c.from_residual.result c.from_residual.ensures.1 in
     rw p.1 (prefix_alone _ _ _ _ c.new-gather.ensures
-      (prefix_first _ _ _ (analysis sheet) (ticks ++ closing sheet) (report sheet)
-        (sym (append_assoc (analysis sheet) ticks (closing sheet)) ∙ report-parts sheet) c.in_err-write_analysis.ensures.prefix))
+    (prefix_first _ _ _ (analysis sheet) (ticks ++ closing sheet) (report sheet)
+    (sym (append_assoc (analysis sheet) ticks (closing sheet)) ∙ report-parts sheet) c.in_err-write_analysis.ensures.prefix))
 
 pub returns-in_err-progress-clause-prefix : goal.returns-in_err-progress-clause-prefix
 returns-in_err-progress-clause-prefix g c =
@@ -23,8 +23,8 @@ returns-in_err-progress-clause-prefix g c =
     let front = analysis sheet ++ ticks in
     let p = err_from_is_err_and c.from_residual-in_err-progress.result c.from_residual-in_err-progress.ensures.1 in
     rw p.1 (prefix_alone _ _ c.new-gather.result _ c.new-gather.ensures
-      (prefix_first _ _ c.new-gather.result front (closing sheet) (report sheet) (report-parts sheet)
-        (prefix_two _ _ _ c.new-gather.result _ (analysis sheet) ticks front refl c.in_ok-write_analysis.ensures.ok c.in_err-progress.ensures.prefix)))
+    (prefix_first _ _ c.new-gather.result front (closing sheet) (report sheet) (report-parts sheet)
+    (prefix_two _ _ _ c.new-gather.result _ (analysis sheet) ticks front refl c.in_ok-write_analysis.ensures.ok c.in_err-progress.ensures.prefix)))
 
 pub returns-in_err-write_closing-clause-prefix : goal.returns-in_err-write_closing-clause-prefix
 returns-in_err-write_closing-clause-prefix g c =
@@ -33,9 +33,9 @@ returns-in_err-write_closing-clause-prefix g c =
     let front = analysis sheet ++ ticks in
     let p = err_from_is_err_and c.from_residual-in_err-write_closing.result c.from_residual-in_err-write_closing.ensures.1 in
     rw p.1 (prefix_alone _ _ c.new-gather.result _ c.new-gather.ensures
-      (prefix_two _ _ _ c.new-gather.result _ front (closing sheet) (report sheet) (report-parts sheet)
-        (front_two _ _ _ c.new-gather.result _ (analysis sheet) ticks front refl _ c.in_ok-write_analysis.ensures.ok c.in_ok-progress.ensures.ok)
-        c.in_err-write_closing.ensures.prefix))
+    (prefix_two _ _ _ c.new-gather.result _ front (closing sheet) (report sheet) (report-parts sheet)
+    (front_two _ _ _ c.new-gather.result _ (analysis sheet) ticks front refl _ c.in_ok-write_analysis.ensures.ok c.in_ok-progress.ensures.ok)
+    c.in_err-write_closing.ensures.prefix))
 
 pub returns-clause-ok : goal.returns-clause-ok
 returns-clause-ok g c =
@@ -43,9 +43,9 @@ returns-clause-ok g c =
     let ticks = ticks_text sheet sheet.ticks in
     let front = analysis sheet ++ ticks in
     let whole = front_alone _ _ c.new-gather.result (report sheet) _ c.new-gather.ensures
-        (front_two _ _ _ c.new-gather.result _ front (closing sheet) (report sheet) (report-parts sheet) _
-          (front_two _ _ _ c.new-gather.result _ (analysis sheet) ticks front refl _ c.in_ok-write_analysis.ensures.ok c.in_ok-progress.ensures.ok)
-          c.in_ok-write_closing.ensures.ok) in
+    (front_two _ _ _ c.new-gather.result _ front (closing sheet) (report sheet) (report-parts sheet) _
+    (front_two _ _ _ c.new-gather.result _ (analysis sheet) ticks front refl _ c.in_ok-write_analysis.ensures.ok c.in_ok-progress.ensures.ok)
+    c.in_ok-write_closing.ensures.ok) in
     on_ok_weaker c.flush.result (Appends-all _ _ _ (report sheet) c.write_closing.new.gather whole) c.flush.ensures.ok
 
 pub returns-clause-prefix : goal.returns-clause-prefix
@@ -54,7 +54,7 @@ returns-clause-prefix g c =
     let ticks = ticks_text sheet sheet.ticks in
     let front = analysis sheet ++ ticks in
     let whole = front_alone _ _ c.new-gather.result (report sheet) _ c.new-gather.ensures
-        (front_two _ _ _ c.new-gather.result _ front (closing sheet) (report sheet) (report-parts sheet) _
-          (front_two _ _ _ c.new-gather.result _ (analysis sheet) ticks front refl _ c.in_ok-write_analysis.ensures.ok c.in_ok-progress.ensures.ok)
-          c.in_ok-write_closing.ensures.ok) in
+    (front_two _ _ _ c.new-gather.result _ front (closing sheet) (report sheet) (report-parts sheet) _
+    (front_two _ _ _ c.new-gather.result _ (analysis sheet) ticks front refl _ c.in_ok-write_analysis.ensures.ok c.in_ok-progress.ensures.ok)
+    c.in_ok-write_closing.ensures.ok) in
     on_err_weaker c.flush.result (AppendsPrefix-rest _ _ _ (report sheet) c.write_closing.new.gather whole) c.flush.ensures.prefix

@@ -25,13 +25,13 @@ returns-in_err-push-clause-prefix g c =
     let so_far = ticks_text sheet c.loop-tick.tick in
     let text = c.bytes.result.now in
     let is = tick_text-some sheet c.periodic-task.result c.loop-tick.tick c.in-Some.value c.name_of-name.result.now text c.periodic-task.ensures.task
-        c.in-Some.ensures.output c.name_of-name.ensures.value (c.bytes.ensures.value ∙ c.out_line.ensures) in
+    c.in-Some.ensures.output c.name_of-name.ensures.value (c.bytes.ensures.value ∙ c.out_line.ensures) in
     let inside : c.loop-tick.tick < sheet.ticks =
-        (let t = c.loop-tick-test.true in let e = c.periodic-task.ensures.task.ticks in omega (arith, t, e)) in
+    (let t = c.loop-tick-test.true in let e = c.periodic-task.ensures.task.ticks in omega (arith, t, e)) in
     let more = ticks_text-within sheet c.loop-tick.tick sheet.ticks text inside is in
     let p = err_from_is_err_and c.from_residual.result c.from_residual.ensures.1 in
     rw p.1 (prefix_first _ _ c.args.gather.now (so_far ++ text) more.0 _ more.1
-      (prefix_two _ _ _ c.args.gather.now _ so_far text (so_far ++ text) refl c.loop-tick.invariant.front c.in_err-push.ensures.prefix))
+    (prefix_two _ _ _ c.args.gather.now _ so_far text (so_far ++ text) refl c.loop-tick.invariant.front c.in_err-push.ensures.prefix))
 
 pub loop-tick-preserved : goal.loop-tick-preserved
 loop-tick-preserved g c =
@@ -41,21 +41,22 @@ loop-tick-preserved g c =
     record {
       at = c.tick.ensures.at;
       front = elim c.match-tick.branch [
-          in-Some+in_ok-push w ↦
+        | in-Some+in_ok-push w ↦
             let text = w.bytes.result.now in
             let is = tick_text-some sheet c.periodic-task.result c.loop-tick.tick w.in-Some.value c.name_of-name.result.now text c.periodic-task.ensures.task
-                w.in-Some.ensures.output c.name_of-name.ensures.value (w.bytes.ensures.value ∙ w.out_line.ensures) in
+            w.in-Some.ensures.output c.name_of-name.ensures.value (w.bytes.ensures.value ∙ w.out_line.ensures) in
             rw (w.gather-is, w.sink-is)
-              (front_two _ _ _ c.args.gather.now _ so_far text _ (ticks_text-step sheet c.loop-tick.tick text is) _ inv.front w.in_ok-push.ensures.ok)
+            (front_two _ _ _ c.args.gather.now _ so_far text _ (ticks_text-step sheet c.loop-tick.tick text is) _ inv.front w.in_ok-push.ensures.ok)
         | in_default w ↦
             let is = tick_text-none sheet c.periodic-task.result c.loop-tick.tick c.periodic-task.ensures.task w.in_default.ensures.output in
             let same = sym (append-nil so_far) ∙ ticks_text-step sheet c.loop-tick.tick [] is in
             rw (w.gather-is, w.sink-is)
-              (subst (λ x. AppendsFront (g.K.Sink.taken c.args.sink.now) (g.K.Sink.taken c.loop-tick.sink) (c.args.gather.now ++ x) c.loop-tick.gather) same inv.front)
-        ];
+            (subst (λ x. AppendsFront (g.K.Sink.taken c.args.sink.now) (g.K.Sink.taken c.loop-tick.sink) (c.args.gather.now ++ x) c.loop-tick.gather) same inv.front)
+      ];
       later = elim c.match-tick.branch [
-          in-Some+in_ok-push w ↦ let s = w.sink-is in let l = w.push.ensures.cause.later in rw s (omega (arith, l, inv.later))
-        | in_default w ↦ rw w.sink-is inv.later ];
+        | in-Some+in_ok-push w ↦ let s = w.sink-is in let l = w.push.ensures.cause.later in rw s (omega (arith, l, inv.later))
+        | in_default w ↦ rw w.sink-is inv.later
+      ];
     }
 
 pub returns-clause-totals : goal.returns-clause-totals

@@ -9,5 +9,5 @@ abbrev pub invariant-loop-tick : goal.invariant-loop-tick
 invariant-loop-tick g l = record {
   at : IsAt l.task l.tick l.progress;
   front : AppendsFront (g.K.Sink.taken l.initial.sink) (g.K.Sink.taken l.sink) (l.initial.gather ++ ticks_text l.sheet l.tick) l.gather;
-  later : g.K.Sink.faults l.initial.sink ≤ g.K.Sink.faults l.sink
+  later : g.K.Sink.faults l.initial.sink ≤ g.K.Sink.faults l.sink;
 }

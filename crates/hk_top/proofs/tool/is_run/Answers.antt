@@ -12,11 +12,12 @@ one_word [] word same some few is tested = absurd (omega (arith, some))
 one_word (x ∷ y ∷ rest) word same some few is tested = absurd (omega (arith, few))
 one_word (x ∷ []) word same some few is tested =
     let d = bytes_eq-Decides (string_bytes word) (codes "run") in
-    let e : string_bytes word ≡ string_bytes x = ap string_bytes is in
-    (λ h. ap (λ b. b ∷ []) (sym e ∙ d.0 (sym tested ∙ h)),
-      λ h. let f : string_bytes x ≡ codes "run" = cc in tested ∙ d.1 (e ∙ f))
+    let e : string_bytes word ≡ string_bytes x = ap string_bytes is in (
+      λ h. ap (λ b. b ∷ []) (sym e ∙ d.0 (sym tested ∙ h)),
+      λ h. let f : string_bytes x ≡ codes "run" = cc in tested ∙ d.1 (e ∙ f),
+    )
 
 pub returns-in-len1 : goal.returns-in-len1
 returns-in-len1 c =
     one_word c.args.words.now c.word-item.result c.eq.result c.in-len1.len_at_least c.in-len1.len_below c.word-item.is
-      (c.eq.ensures ∙ ap (λ b. bytes_eq b (codes "run")) c.as_str.ensures.value)
+    (c.eq.ensures ∙ ap (λ b. bytes_eq b (codes "run")) c.as_str.ensures.value)

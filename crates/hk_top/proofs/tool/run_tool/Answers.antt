@@ -42,23 +42,24 @@ returns-in-Ok-clause-prefix g c = λ failed.
     let told = told_as (g.S.Source.left c.args.source.now) c.in-Ok.bytes.items slice c.as_slice.ensures.value c.in-Ok.ensures.whole in
     let short : length slice ≤ MAX_INPUT = (let a = c.in-Ok.ensures.short in let b = c.as_slice.ensures.len in omega (arith, a, b)) in
     elim (c.run_sheet.ensures.prefix failed).1 [
-      inl found ↦ record {
+      | inl found ↦ record {
         text = report found.0;
         is = inl (c.if-not-is_run.ensures.0 refl, IsReportOf-read (g.S.Source.left c.args.source.now) slice slice told refl found.0 short found.1);
         written = found.2;
       }
-    | inr none ↦ record {
+      | inr none ↦ record {
         text = not_built_line;
         is = inr (record { cause = inr (IsUnfit-refused (g.S.Source.left c.args.source.now) slice slice told refl none.0); text_is = refl });
         written = none.1;
-      } ]
+      }
+    ]
 
 pub returns-in-Ok-clause-complete : goal.returns-in-Ok-clause-complete
 returns-in-Ok-clause-complete g c = λ _ _ kept.
     let slice = c.as_slice.result.now in
     let told = told_as (g.S.Source.left c.args.source.now) c.in-Ok.bytes.items slice c.as_slice.ensures.value c.in-Ok.ensures.whole in
     Done-complete c.run_sheet.result (g.S.Source.left c.args.source.now) slice slice told refl
-      c.run_sheet.ensures.other (λ failed. kept (c.run_sheet.ensures.prefix failed).0) (λ refused. (c.run_sheet.ensures.not_built refused).0)
+    c.run_sheet.ensures.other (λ failed. kept (c.run_sheet.ensures.prefix failed).0) (λ refused. (c.run_sheet.ensures.not_built refused).0)
 
 pub returns-in-Ok-clause-refuses : goal.returns-in-Ok-clause-refuses
 returns-in-Ok-clause-refuses g c = λ _ _ kept.
@@ -66,8 +67,8 @@ returns-in-Ok-clause-refuses g c = λ _ _ kept.
     let told = told_as (g.S.Source.left c.args.source.now) c.in-Ok.bytes.items slice c.as_slice.ensures.value c.in-Ok.ensures.whole in
     let short : length slice ≤ MAX_INPUT = (let a = c.in-Ok.ensures.short in let b = c.as_slice.ensures.len in omega (arith, a, b)) in
     NotBuilt-complete c.run_sheet.result (g.S.Source.left c.args.source.now) slice slice told refl
-      c.run_sheet.ensures.other (λ failed. kept (c.run_sheet.ensures.prefix failed).0) short
-      (λ done. let found = c.run_sheet.ensures.report done in (found.0, found.1.is))
+    c.run_sheet.ensures.other (λ failed. kept (c.run_sheet.ensures.prefix failed).0) short
+    (λ done. let found = c.run_sheet.ensures.report done in (found.0, found.1.is))
 
 pub returns-in-Err-Long-clause-prefix : goal.returns-in-Err-Long-clause-prefix
 returns-in-Err-Long-clause-prefix g c = λ failed.

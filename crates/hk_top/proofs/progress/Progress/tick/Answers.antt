@@ -17,7 +17,7 @@ returns-then-tick-self-clause-at c =
 pub pass-requires-clause-over : goal.pass-requires-clause-over
 pass-requires-clause-over c =
     IsOver-last c.args.task.now c.requires.right c.args.tick c.requires.inside c.args.self.now c.requires.at c.if-tick-self.false
-      (let some = c.requires.at.left_some in let none = c.if-self-eq0.true in omega (arith, some, none))
+    (let some = c.requires.at.left_some in let none = c.if-self-eq0.true in omega (arith, some, none))
 
 pub returns-clause-output : goal.returns-clause-output
 returns-clause-output c =
@@ -27,8 +27,9 @@ pub returns-clause-at : goal.returns-clause-at
 returns-clause-at c =
     let P : Progress → Type 0 = IsAt c.args.task.now (c.args.tick + 1) in
     elim c.if-self-eq0.branch [
-      then-self-eq0 w ↦ subst P (sym w.self-is) w.pass.ensures
-    | else-self-eq0 w ↦
-        let more : 1 < c.args.self.now.left = let some = c.requires.at.left_some in let left = w.if-self-eq0.false in omega (arith, some, left) in
-        subst P (sym w.self-is)
-          (IsAt-within c.args.task.now c.requires.right c.args.tick c.requires.inside c.args.self.now c.requires.at c.if-tick-self.false more) ]
+      | then-self-eq0 w ↦ subst P (sym w.self-is) w.pass.ensures
+      | else-self-eq0 w ↦
+          let more : 1 < c.args.self.now.left = let some = c.requires.at.left_some in let left = w.if-self-eq0.false in omega (arith, some, left) in
+          subst P (sym w.self-is)
+          (IsAt-within c.args.task.now c.requires.right c.args.tick c.requires.inside c.args.self.now c.requires.at c.if-tick-self.false more)
+    ]

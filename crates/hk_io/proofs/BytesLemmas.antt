@@ -1,9 +1,9 @@
 -- How calls that move told bytes follow one another.
 use Rattle.std.proofs.Common.{◌≡◌, ℕ, ◌+◌, ◌-◌, ◌<◌, ◌≤◌, min, List, [], ◌++◌, length, take, drop, Option, refl, sym, ap, ◌∙◌, subst, arith, append-nil, take-append-drop, length-append, length-drop}
 use Rattle.std.proofs.Math.Seq.{take-add}
-use Rattle.std.proofs.lemmas.List.{length-take-le, drop-drop, take-append-le, drop-append-le, take_min, drop_min, take_at, drop_at, drop_all, nil_from_length}
-use Rattle.std.proofs.KnownBytes.{Appends-nil, Appends-trans, Appends-kept, Consumes-trans}
-use Rattle.std.specs.Io.KnownBytes.{Appends, Consumes, Keeps}
+use Rattle.std.proofs.lemmas.List.{length-take-le, take_rest, drop-drop, take-append-le, drop-append-le, take_min, drop_min, take_at, drop_at, drop_all, nil_from_length}
+use Rattle.std.proofs.KnownBytes.{Appends-nil, Appends-trans, Appends-kept}
+use Rattle.std.specs.Io.KnownBytes.{Appends, Keeps}
 use Rattle.hk_io.specs.Bytes.{AppendsPrefix, AppendsFront}
 
 -- nothing was taken yet, and all waits
@@ -73,11 +73,6 @@ AppendsFront-trans a b c text waiting bytes rest front more =
 pub AppendsPrefix-kept : (a b c : Option (List ℕ)) (bytes rest : List ℕ) → AppendsFront a b bytes rest → Keeps b c → AppendsPrefix a c bytes
 AppendsPrefix-kept a b c bytes rest front kept = record { count = front.count; taken = Appends-kept a b c _ front.taken kept }
 
--- a read gave some more, which stands at the front of a longer array
-pub Consumes-more : (a b c : Option (List ℕ)) (bytes piece rest : List ℕ) (n : ℕ) → n ≤ length piece → Consumes a b bytes → Consumes b c (take n piece) → Consumes a c (bytes ++ take n (piece ++ rest))
-Consumes-more a b c bytes piece rest n within first more =
-    subst (λ w. Consumes a c (bytes ++ w)) (sym (take-append-le n piece rest within)) (Consumes-trans a b c _ _ first more)
-
 -- what is a first part of some bytes is one of these with more behind them
 pub AppendsPrefix-append : (a b : Option (List ℕ)) (bytes more : List ℕ) → AppendsPrefix a b bytes → AppendsPrefix a b (bytes ++ more)
 AppendsPrefix-append a b bytes more prefix =
@@ -110,3 +105,15 @@ read-front bytes buf piece at n copied count =
     ∙ ap (λ w. take n (drop at bytes) ++ w) (sym (drop-drop n at bytes))
     ∙ take-append-drop n (drop at bytes) in
     (sym whole, λ none some. drop_all (at + n) bytes (omega (arith, length-append piece (drop n buf), length-drop n buf)))
+
+-- the same, of a slice's rest
+pub AppendsFront-rest : (a b c : Option (List ℕ)) (bytes rest : List ℕ) (n : ℕ) → AppendsFront a b bytes rest → Appends b c (take n rest)
+    → AppendsFront a c bytes (take (length rest - n) (drop n rest))
+AppendsFront-rest a b c bytes rest n front more =
+    subst (AppendsFront a c bytes) (sym (take_rest rest n)) (AppendsFront-more a b c bytes rest n front more)
+
+-- how calls of `Sink::write` follow one another
+pub ruleset written = (AppendsFront-none, AppendsFront-rest, Appends-whole, AppendsPrefix-kept)
+
+-- how calls of `Gather` follow one another
+pub ruleset gathered = (AppendsFront-none, AppendsFront-behind, AppendsFront-trans, Appends-all, AppendsPrefix-behind, AppendsPrefix-rest, AppendsPrefix-append)

@@ -2,19 +2,19 @@
 use Rattle.std.specs.Prelude.{◌≡◌, ℕ, List, length, take, drop, Option}
 use Rattle.std.specs.Io.KnownBytes.{Appends, Consumes}
 
--- told bytes grow by a first part of these bytes
+-- told bytes grow by a prefix of these bytes
 pub record AppendsPrefix (old new : Option (List ℕ)) (bytes : List ℕ) : Type 0 where
   pub count : ℕ
   pub taken : Appends old new (take count bytes)
 
--- told bytes grow by a first part of these bytes, and the rest of these waits
+-- told bytes grow by a prefix of these bytes, and the rest of these bytes waits
 pub record AppendsFront (old new : Option (List ℕ)) (bytes waiting : List ℕ) : Type 0 where
   pub count : ℕ
   pub taken : Appends old new (take count bytes)
   pub waits : waiting ≡ drop count bytes
 
--- told bytes lose a first part, whose length is so
-pub record ConsumesFront (old new : Option (List ℕ)) (IsSo : ℕ → Type 0) : Type 0 where
+-- told bytes lose a prefix whose length meets a condition
+pub record ConsumesFront (old new : Option (List ℕ)) (Fits : ℕ → Type 0) : Type 0 where
   pub front : List ℕ
-  pub length_is : IsSo (length front)
+  pub fits : Fits (length front)
   pub consumed : Consumes old new front

@@ -39,6 +39,7 @@ impl Gather {
     }
 
     /// Adds bytes behind those that wait. Where they don't fit, those that wait are written first.
+    #[tactic(auto, using(crate::proofs::BytesLemmas::gathered))]
     pub fn push<K: Sink>(&mut self, sink: &mut K, bytes: &[u8]) -> Result<(), Failed>
         requires { length bytes.now ≤ GATHER_ROOM }
         ensures ok { OnOk result (AppendsFront (K.taken sink.old) (K.taken sink.new) (self.old ++ bytes.now) self.new) }

@@ -4,22 +4,26 @@
 ghost use Rattle.std.specs.Prelude.{◌≡◌};
 ghost use Rattle.hk_io.specs.Status.{number_of};
 
-mod adapters;
 mod buffer;
 mod faults;
 mod gather;
-mod in_memory;
 mod line;
+mod mem_sink;
+mod mem_source;
+mod std_sink;
+mod std_source;
 mod streams;
 #[cfg(test)]
 mod tests;
 mod whole;
 
-pub use adapters::{StdSink, StdSource};
 pub use faults::{Failed, Memory, TakeFault};
 pub use gather::{GATHER_ROOM, Gather};
-pub use in_memory::{MemSink, MemSource};
 pub use line::{LINE_ROOM, Line};
+pub use mem_sink::MemSink;
+pub use mem_source::MemSource;
+pub use std_sink::StdSink;
+pub use std_source::StdSource;
 pub use streams::{Sink, Source};
 pub use whole::{MAX_INPUT, put_all, take_all};
 

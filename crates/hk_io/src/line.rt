@@ -50,9 +50,8 @@ impl Line {
         requires { length (with_number self.old value) ≤ LINE_ROOM }
         ensures { self.new ≡ with_number self.old value }
     {
-        if !self.held.as_slice().is_empty() {
-            self.held.push(b" ");
-        }
+        // the space alone
+        self.word(b"");
         self.digits(value);
     }
 

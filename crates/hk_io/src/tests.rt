@@ -68,9 +68,9 @@ impl Sink for Slow {
 
     ghost faults = { λ slow. min slow.sink.faults (2 ^ 64 - 1) };
 
-    ghost use Rattle.std.proofs.Common.{rules};
+    ghost use Rattle.std.proofs.Math.Nat.{min-le_right};
 
-    ghost faults_fit = { λ slow. Prim.search rules };
+    ghost faults_fit = { λ slow. min-le_right slow.sink.faults (2 ^ 64 - 1) };
 
     fn write(&mut self, piece: &[u8]) -> Result<usize, Failed> {
         self.sink.write(&piece[..1])

@@ -14,7 +14,9 @@ pub const MAX_INPUT: usize = 1_048_576;
 /// How many bytes are read at once.
 const PIECE: usize = 4096;
 
-/// Writes these bytes whole. After a failure a first part of them was taken. It takes no memory.
+/// Writes these bytes whole. After a failure a prefix of them was taken, and the sink's count of faults rose in this
+/// call. It takes no memory.
+#[tactic(auto, using(crate::proofs::BytesLemmas::written))]
 pub fn put_all<K: Sink>(sink: &mut K, bytes: &[u8]) -> Result<(), Failed>
     ensures ok { OnOk result (Appends (K.taken sink.old) (K.taken sink.new) bytes.now) }
     ensures prefix { OnErr result (AppendsPrefix (K.taken sink.old) (K.taken sink.new) bytes.now) }
@@ -28,7 +30,9 @@ pub fn put_all<K: Sink>(sink: &mut K, bytes: &[u8]) -> Result<(), Failed>
     Ok(())
 }
 
-/// Reads an input to its end. Where it is longer than [`MAX_INPUT`] bytes, reading stops after one byte more.
+/// Reads an input to its end. Where it is longer than [`MAX_INPUT`] bytes, reading stops after one byte more, and the
+/// answer is `Long`. `Failed` is answered only where the source's count of faults rose in this call: a failed read is
+/// no end of input.
 pub fn take_all<S: Source>(alloc: Global, source: &mut S) -> Result<Vec<u8>, TakeFault>
     // The whole input, where it is told.
     ensures whole { IfOk result (λ bytes. IfSome (S.left source.old) (λ left. bytes.items ≡ left)) }
@@ -38,7 +42,7 @@ pub fn take_all<S: Source>(alloc: Global, source: &mut S) -> Result<Vec<u8>, Tak
     // More came than an input has.
     ensures long { IsErrOf result TakeFault.Long → ConsumesFront (S.left source.old) (S.left source.new) (λ count. count ≡ MAX_INPUT + 1) }
 
-    // Reading stops.
+    // Reading stops, whatever the answer.
     ensures stops { ConsumesFront (S.left source.old) (S.left source.new) (λ count. count ≤ MAX_INPUT + 1) }
 
     ensures failed { IsErrOf result TakeFault.Failed → Rose (S.faults source.old) (S.faults source.new) }
@@ -46,15 +50,13 @@ pub fn take_all<S: Source>(alloc: Global, source: &mut S) -> Result<Vec<u8>, Tak
 {
     let mut bytes = Vec::new(alloc);
     let mut piece = [0; PIECE];
-    loop {
+    while bytes.len() <= MAX_INPUT {
         let room = PIECE.min(MAX_INPUT + 1 - bytes.len());
-        let count = source.read(&mut piece[..room])?;
-        if count == 0 {
-            return Ok(bytes);
-        }
-        bytes.extend_from_slice(&piece[..count])?;
-        if bytes.len() > MAX_INPUT {
-            return Err(TakeFault::Long);
+        match source.read(&mut piece[..room]) {
+            Ok(0) => return Ok(bytes),
+            Ok(count) => bytes.extend_from_slice(&piece[..count])?,
+            Err(Failed) => return Err(TakeFault::Failed),
         }
     }
+    Err(TakeFault::Long)
 }

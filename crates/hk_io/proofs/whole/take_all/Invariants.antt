@@ -4,12 +4,12 @@ use Rattle.hk_io.specs.declared.whole.TheConstants.{MAX_INPUT}
 use Rattle.hk_io.proofs.whole.take_all.Given as goal
 
 -- the bytes so far are those that the source has lost, they are few enough, and the count of faults has not fallen
-abbrev pub invariant-loop-bytes : goal.invariant-loop-bytes
-invariant-loop-bytes g l = record {
+abbrev pub invariant-loop-piece : goal.invariant-loop-piece
+invariant-loop-piece g l = record {
   consumed : Consumes (g.S.Source.left l.initial.source) (g.S.Source.left l.source) l.bytes.items;
-  short : vec_len l.bytes ≤ MAX_INPUT;
+  short : vec_len l.bytes ≤ MAX_INPUT + 1;
   later : g.S.Source.faults l.initial.source ≤ g.S.Source.faults l.source;
 }
 
-abbrev pub decreases-loop-bytes : goal.decreases-loop-bytes
-decreases-loop-bytes g l = MAX_INPUT + 1 - vec_len l.bytes
+abbrev pub decreases-loop-piece : goal.decreases-loop-piece
+decreases-loop-piece g l = MAX_INPUT + 1 - vec_len l.bytes

@@ -1,6 +1,6 @@
 use Rattle.std.proofs.Common.{◌≡◌, ◌∙◌, ◌+◌, ◌-◌, ap, sym, length, take, drop, min}
 use Rattle.hk_io.proofs.BytesLemmas.{read-front}
-use Rattle.hk_io.proofs.in_memory.MemSourceSource.read.Goals as goal
+use Rattle.hk_io.proofs.mem_source.MemSourceSource.read.Goals as goal
 
 pub returns-clause-bytes : goal.returns-clause-bytes
 returns-clause-bytes c =

@@ -1,11 +1,10 @@
 -- The decimal spelling of a number, and what `parse` reads of it.
-use Rattle.std.proofs.Common.{◌≡◌, ◌≢◌, ℕ, ◌+◌, ◌^◌, ◌<◌, ◌≤◌, List, [], ◌∷◌, length, get_or, Result, Ok, Err, decimal, refl, sym, ◌∙◌, ap, subst, inl, inr, arith, rules}
+use Rattle.std.proofs.Common.{◌≡◌, ◌≢◌, ℕ, ◌^◌, ◌<◌, ◌≤◌, List, [], ◌∷◌, length, get_or, Result, Ok, Err, decimal, sym, ◌∙◌, ap, inl, inr, arith}
 use Rattle.std.specs.Result.{result_ok}
 use Rattle.std.specs.Str.Parse.{AllDigits, digits_value, ParsesUnsigned}
 use Rattle.std.proofs.lemmas.Bool.{cases_eq}
 use Rattle.std.proofs.lemmas.Str.Parse.{IsNumeralModel, numerals_by_value, tells_digits, parse_plain, digit_at}
 use Rattle.std.proofs.lemmas.Fmt.{digits_decimal, digits_value-decimal, decimal-digits_value, decimal_nonempty, decimal_digit, first_decimal}
-use Rattle.std.proofs.lemmas.Result.{Ok-from_Ok_iff}
 use Rattle.std.specs.Result.{OkIff}
 use Rattle.hk_sheet.specs.Answers.{Finds}
 
@@ -30,11 +29,11 @@ pub no_zero : (text : List ℕ) (n : ℕ) → IsDecimal text n → 1 < length te
 no_zero text n is long zero =
     elim (cases_eq n 0) [
       | inl none ↦ (
-        let one : length text ≡ 1 = ap length (is.1 ∙ ap decimal none ∙ decimal_digit 0 (omega arith)) in
-        absurd (omega arith))
+          let one : length text ≡ 1 = ap length (is.1 ∙ ap decimal none ∙ decimal_digit 0 (omega arith)) in
+          absurd (omega arith))
       | inr some ↦ (
-        let first : get_or (decimal n) 0 0 ≡ 48 = rw (← is.1) zero in
-        absurd (omega (arith, first_decimal n (omega arith) (omega arith), first)))
+          let first : get_or (decimal n) 0 0 ≡ 48 = rw (← is.1) zero in
+          absurd (omega (arith, first_decimal n (omega arith) (omega arith), first)))
     ]
 
 found : {E : Type 0} (text : List ℕ) (r : Result ℕ E) → OkIff r (AllDigits 10 text × (0 < length text) × (digits_value 10 text < 2 ^ 16)) (digits_value 10 text)

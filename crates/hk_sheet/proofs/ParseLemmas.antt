@@ -1,7 +1,7 @@
 -- How far a script has been parsed.
-use Rattle.std.proofs.Common.{◌≡◌, ℕ, ◌+◌, ◌<◌, ◌≤◌, List, [], ◌∷◌, ◌++◌, length, refl, sym, ◌∙◌, ap, subst, inl, inr, arith, append_assoc}
+use Rattle.std.proofs.Common.{◌≡◌, ℕ, ◌+◌, ◌<◌, ◌≤◌, List, [], ◌∷◌, ◌++◌, length, refl, sym, ◌∙◌, ap, subst, arith, append_assoc}
 use Rattle.std.specs.List.{AllByRecursion, before_first, after_first, position_or_len}
-use Rattle.std.proofs.lemmas.List.{append-nil, append_cancel_left, length_push, length-append, length-drop}
+use Rattle.std.proofs.lemmas.List.{length_push, length-append, length-drop}
 use Rattle.hk_sheet.specs.declared.script.Statement.{Statement}
 use Rattle.hk_sheet.specs.declared.script.TheConstants.{MAX_STATEMENTS}
 use Rattle.hk_sheet.specs.Lines.{is_newline}
@@ -39,13 +39,13 @@ pub next_statement : (text : List ℕ) (items : List Statement) (rest : List ℕ
     → (s : Statement) × (tail : List Statement) × (script ≡ items ++ s ∷ tail) × IsLineOf (before_first is_newline rest) s × Writes (after_first is_newline rest) tail
 next_statement text items rest p some script is = going (p.back script is)
   where
-  going : (tail : List Statement) × (script ≡ items ++ tail) × Writes rest tail
-      → (s : Statement) × (tail : List Statement) × (script ≡ items ++ s ∷ tail) × IsLineOf (before_first is_newline rest) s × Writes (after_first is_newline rest) tail
-  going ([], same, w) = absurd (omega (arith, ap length (to_nothing rest w)))
-  going (s ∷ tail, same, w) =
-      let right : AllByRecursion IsStatement (s ∷ tail) = right_rest items (s ∷ tail) (subst (AllByRecursion IsStatement) same is.right) in
-      let (line, more) = cut rest s tail (is_small s right.0) w in
-      (s, tail, same, (right.0, line), more)
+    going : (tail : List Statement) × (script ≡ items ++ tail) × Writes rest tail
+        → (s : Statement) × (tail : List Statement) × (script ≡ items ++ s ∷ tail) × IsLineOf (before_first is_newline rest) s × Writes (after_first is_newline rest) tail
+    going ([], same, w) = absurd (omega (arith, ap length (to_nothing rest w)))
+    going (s ∷ tail, same, w) =
+        let right : AllByRecursion IsStatement (s ∷ tail) = right_rest items (s ∷ tail) (subst (AllByRecursion IsStatement) same is.right) in
+        let (line, more) = cut rest s tail (is_small s right.0) w in
+        (s, tail, same, (right.0, line), more)
 
 -- after one more line
 pub parsed_more : (text : List ℕ) (items : List Statement) (rest : List ℕ) (s : Statement) → IsParsed text items rest → 0 < length rest → IsLineOf (before_first is_newline rest) s → length items < MAX_STATEMENTS
@@ -57,11 +57,11 @@ parsed_more text items rest s p some is room = record {
   back = λ script its. again script (next_statement text items rest p some script its);
 }
   where
-  again : (script : List Statement) → (t : Statement) × (tail : List Statement) × (script ≡ items ++ t ∷ tail) × IsLineOf (before_first is_newline rest) t × Writes (after_first is_newline rest) tail
-      → (tail : List Statement) × (script ≡ (items ++ s ∷ []) ++ tail) × Writes (after_first is_newline rest) tail
-  again script (t, tail, same, line, w) =
-      let one : t ≡ s = same_line t s (is_small t line.0) (is_small s is.0) (sym line.1 ∙ is.1) in
-      (tail, same ∙ ap (λ u. items ++ u ∷ tail) one ∙ sym (append_assoc items (s ∷ []) tail), w)
+    again : (script : List Statement) → (t : Statement) × (tail : List Statement) × (script ≡ items ++ t ∷ tail) × IsLineOf (before_first is_newline rest) t × Writes (after_first is_newline rest) tail
+        → (tail : List Statement) × (script ≡ (items ++ s ∷ []) ++ tail) × Writes (after_first is_newline rest) tail
+    again script (t, tail, same, line, w) =
+        let one : t ≡ s = same_line t s (is_small t line.0) (is_small s is.0) (sym line.1 ∙ is.1) in
+        (tail, same ∙ ap (λ u. items ++ u ∷ tail) one ∙ sym (append_assoc items (s ∷ []) tail), w)
 
 -- the rest is shorter after each line
 pub shorter : (rest : List ℕ) → 0 < length rest → length (after_first is_newline rest) < length rest

@@ -1,5 +1,5 @@
 -- Laws of the lines of a script: a text has one script at most.
-use Rattle.std.proofs.Common.{◌≡◌, ◌≢◌, ℕ, suc, ◌+◌, ◌*◌, ◌^◌, ◌<◌, ◌≤◌, Bool, true, false, not, eqb, List, [], ◌∷◌, ◌++◌, length, get_or, take, drop, flat_map, codes, decimal, ◌⊎◌, inl, inr, refl, sym, ◌∙◌, ap, subst, arith, append_assoc, rules}
+use Rattle.std.proofs.Common.{◌≡◌, ◌≢◌, ℕ, ◌+◌, ◌*◌, ◌^◌, ◌<◌, ◌≤◌, Bool, true, false, not, eqb, List, [], ◌∷◌, ◌++◌, length, get_or, take, drop, codes, decimal, inl, inr, refl, sym, ◌∙◌, ap, subst, arith, append_assoc}
 use Rattle.std.specs.List.{AllByRecursion, list_all, before_first, after_first, position_or_len}
 use Rattle.std.specs.Str.Parse.{AllDigits}
 use Rattle.std.proofs.lemmas.Bool.{and_parts, cases_lt, eqb-true}
@@ -7,11 +7,11 @@ use Rattle.std.proofs.lemmas.Bool.Decides.{nat_tests}
 use Rattle.std.proofs.lemmas.List.{append_cancel_left, append-nil, length-append, same_from_push, take_all, take_at, drop_all, drop_at, drop-drop}
 use Rattle.std.proofs.lemmas.List.Sums.{split_at_first, passes_at_first, sum_by-le}
 use Rattle.std.proofs.lemmas.List.Elements.{All-from_recursion}
-use Rattle.std.proofs.lemmas.Fmt.{decimal_injective, digits_decimal}
-use Rattle.std.proofs.lemmas.Str.Parse.{IsNumeralModel, digit_from_value}
+use Rattle.std.proofs.lemmas.Fmt.{decimal_injective}
+use Rattle.std.proofs.lemmas.Str.Parse.{digit_from_value}
 use Rattle.hk_sheet.specs.declared.script.Statement.{Statement}
 use Rattle.hk_sheet.specs.declared.script.Statement.TheVariants.{Work, Out}
-use Rattle.hk_sheet.specs.declared.script.TheConstants.{MAX_WORK, MAX_STATEMENTS}
+use Rattle.hk_sheet.specs.declared.script.TheConstants.{MAX_WORK}
 use Rattle.hk_sheet.specs.Lines.{is_newline}
 use Rattle.hk_sheet.specs.Script.{IsStatement, IsLineOf, line_of, newline, text_of, Writes, IsScript, ticks_of, ticks_of_statement}
 use Rattle.hk_sheet.proofs.NumberLemmas.{IsDecimal, digits_only}
@@ -128,7 +128,7 @@ cut_rest text s [] line e =
 cut_rest text s (t ∷ rest) line e =
     let (front, is) = ends t rest in
     let same : text ≡ line_of s ++ 10 ∷ front =
-        (same_from_push text (line_of s ++ 10 ∷ front) 10 10 (e ∙ text_of-more s (t ∷ rest) ∙ ap (λ more. line_of s ++ 10 ∷ more) is ∙ sym (append_assoc (line_of s) (10 ∷ front) newline))).0 in
+    (same_from_push text (line_of s ++ 10 ∷ front) 10 10 (e ∙ text_of-more s (t ∷ rest) ∙ ap (λ more. line_of s ++ 10 ∷ more) is ∙ sym (append_assoc (line_of s) (10 ∷ front) newline))).0 in
     (rw same (before-line (line_of s) front line), rw (same, after-line (line_of s) front line) (inr (sym is)))
 
 pub cut : (text : List ℕ) (s : Statement) (rest : List Statement) → IsSmall s → Writes text (s ∷ rest) → (before_first is_newline text ≡ line_of s) × Writes (after_first is_newline text) rest
@@ -166,14 +166,14 @@ joined text s tail line rest =
     let place = position_or_len is_newline text in
     elim (cases_lt place (length text)) [
       | inl within ↦ (
-        let byte : get_or text place 0 ≡ 10 = eqb-true _ _ (passes_at_first is_newline text 0 within) in
-        let split : text ≡ line_of s ++ 10 ∷ after_first is_newline text =
-            split_at_first is_newline text 0 within ∙ ap (λ l. l ++ get_or text place 0 ∷ after_first is_newline text) line ∙ ap (λ b. line_of s ++ b ∷ after_first is_newline text) byte in
-        joined-line text s tail (after_first is_newline text) split rest)
+          let byte : get_or text place 0 ≡ 10 = eqb-true _ _ (passes_at_first is_newline text 0 within) in
+          let split : text ≡ line_of s ++ 10 ∷ after_first is_newline text =
+          split_at_first is_newline text 0 within ∙ ap (λ l. l ++ get_or text place 0 ∷ after_first is_newline text) line ∙ ap (λ b. line_of s ++ b ∷ after_first is_newline text) byte in
+          joined-line text s tail (after_first is_newline text) split rest)
       | inr past ↦ (
-        let whole : text ≡ line_of s = sym (take_all place text past) ∙ line in
-        let empty : after_first is_newline text ≡ [] = drop_all (place + 1) text (omega arith) in
-        joined-only text s tail whole (subst (λ (t : List ℕ). Writes t tail) empty rest))
+          let whole : text ≡ line_of s = sym (take_all place text past) ∙ line in
+          let empty : after_first is_newline text ≡ [] = drop_all (place + 1) text (omega arith) in
+          joined-only text s tail whole (subst (λ (t : List ℕ). Writes t tail) empty rest))
     ]
 
 -- a right statement takes at most so many ticks

@@ -1,11 +1,11 @@
 -- Laws of the keys of a table, and of arrays of a known length.
-use Rattle.std.proofs.Common.{◌≡◌, ℕ, suc, ◌<◌, ◌≤◌, List, [], ◌∷◌, length, get_or, map, Bool, ◌&&◌, String, Global, string_bytes, Option, Some, None, option_map, Bor, refl, ap, ◌∙◌, sym, arith, rules}
+use Rattle.std.proofs.Common.{◌≡◌, ℕ, suc, pos, List, [], ◌∷◌, length, get_or, Bool, ◌&&◌, String, Global, string_bytes, Option, Some, refl, ap}
 use Rattle.std.specs.List.{list_all}
 use Rattle.std.specs.Map.{keys_of}
-use Rattle.toml.specs.Data.{Data, array, as_array, Items, no_items, item}
-use Rattle.toml.specs.View.{view, members_view, items_view, array_view}
+use Rattle.toml.specs.Data.{Data, array, as_array, integer, Items, no_items, item, Members, get_member}
+use Rattle.toml.specs.View.{view, members_view, items_view}
 use Rattle.toml.specs.declared.value.Value.{Value}
-use Rattle.hk_sheet.specs.Keys.{is_among, has_only}
+use Rattle.hk_sheet.specs.Keys.{is_among, has_only, HoldsPair}
 
 -- whether such a key is one of these
 abbrev pub is_key : List (List ℕ) → String Global → Bool
@@ -23,6 +23,11 @@ held_items got d items held found seen holds =
     let same : d ≡ array held = cc in
     let read : Some items ≡ as_array (array held) = rw same at seen in
     cc
+
+-- so the items are two integers where the key holds a pair of them
+pub held_pair : (entries : Members) (key : List ℕ) (high : ℕ) (d : Data) (items : Items) (a b : ℕ) → Some d ≡ get_member key entries → Some items ≡ as_array d → HoldsPair entries key high a b
+    → items ≡ item (integer (pos a)) (item (integer (pos b)) no_items)
+held_pair entries key high d items a b found seen holds = held_items (get_member key entries) d items _ found seen holds.held
 
 -- how many items there are
 abbrev pub item_count : Items → ℕ

@@ -13,20 +13,20 @@ use Rattle.hk_sheet.specs.declared.sheet.High.{High}
 use Rattle.hk_sheet.specs.declared.sheet.Sheet.{Sheet}
 use Rattle.hk_sheet.specs.declared.script.Statement.{Statement}
 use Rattle.hk_rta.specs.declared.Timing.{Timing}
-use Rattle.hk_sheet.specs.declared.sheet.TheConstants.{MAX_TICKS, MAX_SIZE, MAX_RATE, MAX_FIELDS, MAX_NAME}
+use Rattle.hk_sheet.specs.declared.sheet.TheConstants.{MAX_TICKS, MAX_SIZE, MAX_RATE, MAX_BOARD, MAX_NAME}
 use Rattle.hk_sheet.specs.Keys.{has_only, HoldsInteger, HoldsPair, HoldsText, HoldsTable, HoldsOneTable}
 use Rattle.hk_sheet.specs.Section.{keys_of}
 use Rattle.hk_sheet.specs.declared.section.Section.TheVariants.{Top, Heap, Task}
 use Rattle.hk_sheet.specs.Script.{IsScript, ticks_of}
 
 -- the heap that a table declares
-pub record IsHeap (members : Members) (heap : HeapKeys) : Type 0 where
-  pub keys : IsTrue (has_only (keys_of Heap) members)
-  pub live : HoldsInteger members (codes "live") 0 MAX_SIZE heap.live
-  pub alloc : HoldsInteger members (codes "alloc") 0 MAX_SIZE heap.alloc
-  pub reserve : HoldsInteger members (codes "reserve") 0 MAX_SIZE heap.reserve
-  pub rate : HoldsInteger members (codes "rate") 1 MAX_RATE heap.rate
-  pub board : HoldsPair members (codes "board") MAX_FIELDS heap.refs heap.nums
+pub record IsHeap (entries : Members) (heap : HeapKeys) : Type 0 where
+  pub keys : IsTrue (has_only (keys_of Heap) entries)
+  pub live : HoldsInteger entries (codes "live") 0 MAX_SIZE heap.live
+  pub alloc : HoldsInteger entries (codes "alloc") 0 MAX_SIZE heap.alloc
+  pub reserve : HoldsInteger entries (codes "reserve") 0 MAX_SIZE heap.reserve
+  pub rate : HoldsInteger entries (codes "rate") 1 MAX_RATE heap.rate
+  pub board : HoldsPair entries (codes "board") MAX_BOARD heap.refs heap.nums
 
 -- a byte of a name
 abbrev pub is_name_byte : ℕ → Bool
@@ -39,54 +39,54 @@ IsName (first ∷ rest) = (is_ascii_lowercase first ≡ true) × (list_all is_na
 
 -- the arrivals that a table declares: a job every so many ticks, which are no fewer than the period
 abbrev pub HoldsArrivals : Members → ℕ → Arrivals → Type 0
-HoldsArrivals members period (Every first step) =
-    HoldsInteger members (codes "first") 0 MAX_TICKS first
-    × HoldsInteger members (codes "every") 1 MAX_TICKS step
+HoldsArrivals entries period (Every first step) =
+    HoldsInteger entries (codes "first") 0 MAX_TICKS first
+    × HoldsInteger entries (codes "every") 1 MAX_TICKS step
     × (period ≤ step)
-HoldsArrivals members period (arrivals.List ticks) = ⊥
+HoldsArrivals entries period (arrivals.List ticks) = ⊥
 
 -- the script that a table declares, in canonical form
-pub record HoldsScript (members : Members) (script : List Statement) : Type 0 where
+pub record HoldsScript (entries : Members) (script : List Statement) : Type 0 where
   pub text : List ℕ
-  pub held : HoldsText members (codes "script") text
+  pub held : HoldsText entries (codes "script") text
   pub is : IsScript text script
 
 -- the name that a table declares
-pub record HoldsName (members : Members) (name : List ℕ) : Type 0 where
-  pub held : HoldsText members (codes "name") name
+pub record HoldsName (entries : Members) (name : List ℕ) : Type 0 where
+  pub held : HoldsText entries (codes "name") name
   pub is : IsName name
 
 -- The times that a table declares: the cost fits the deadline, and the deadline the period.
-pub record HoldsTiming (members : Members) (timing : Timing) : Type 0 where
-  pub period : HoldsInteger members (codes "period") 1 MAX_TICKS timing.period
-  pub deadline : HoldsInteger members (codes "deadline") 1 timing.period timing.deadline
-  pub cost : HoldsInteger members (codes "cost") 1 MAX_TICKS timing.cost
+pub record HoldsTiming (entries : Members) (timing : Timing) : Type 0 where
+  pub period : HoldsInteger entries (codes "period") 1 MAX_TICKS timing.period
+  pub deadline : HoldsInteger entries (codes "deadline") 1 timing.period timing.deadline
+  pub cost : HoldsInteger entries (codes "cost") 1 MAX_TICKS timing.cost
   pub in_time : timing.cost ≤ timing.deadline
 
 -- the high task that a table declares
-pub record IsHigh (members : Members) (task : High) : Type 0 where
-  pub keys : IsTrue (has_only (keys_of Task) members)
-  pub name : HoldsName members task.name
-  pub timing : HoldsTiming members task.timing
-  pub words : HoldsInteger members (codes "words") 0 0 task.words
-  pub arrivals : HoldsArrivals members task.timing.period task.arrivals
-  pub script : HoldsScript members task.script
+pub record IsHigh (entries : Members) (task : High) : Type 0 where
+  pub keys : IsTrue (has_only (keys_of Task) entries)
+  pub name : HoldsName entries task.name
+  pub timing : HoldsTiming entries task.timing
+  pub words : HoldsInteger entries (codes "words") 0 0 task.words
+  pub arrivals : HoldsArrivals entries task.timing.period task.arrivals
+  pub script : HoldsScript entries task.script
   -- a job takes no more than the cost
   pub enough : ticks_of task.script ≤ task.timing.cost
 
 -- the one high task that a document declares
 pub record HasHigh (document : Members) (highs : List High) : Type 0 where
-  pub members : Members
+  pub entries : Members
   pub task : High
-  pub held : HoldsOneTable document (codes "high") members
-  pub is : IsHigh members task
+  pub held : HoldsOneTable document (codes "high") entries
+  pub is : IsHigh entries task
   pub only : highs ≡ task ∷ []
 
 -- the heap that a document declares
 pub record HasHeap (document : Members) (heap : HeapKeys) : Type 0 where
-  pub members : Members
-  pub held : HoldsTable document (codes "heap") members
-  pub is : IsHeap members heap
+  pub entries : Members
+  pub held : HoldsTable document (codes "heap") entries
+  pub is : IsHeap entries heap
 
 -- what the heap's geometry is made of, for so many high and low tasks
 abbrev pub sizes_for : HeapKeys → ℕ → ℕ → Sizes

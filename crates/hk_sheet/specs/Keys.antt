@@ -13,25 +13,25 @@ has_only keys no_members = true
 has_only keys (member key value rest) = is_among keys key && has_only keys rest
 
 -- the key holds an integer, which is this value, from low to high
-pub record HoldsInteger (members : Members) (key : List ℕ) (low high value : ℕ) : Type 0 where
-  pub held : get_member key members ≡ Some (integer (pos value))
+pub record HoldsInteger (entries : Members) (key : List ℕ) (low high value : ℕ) : Type 0 where
+  pub held : get_member key entries ≡ Some (integer (pos value))
   pub at_least : low ≤ value
   pub at_most : value ≤ high
 
 -- the key holds an array of two integers, which are these, from 0 to high
-pub record HoldsPair (members : Members) (key : List ℕ) (high first second : ℕ) : Type 0 where
-  pub held : get_member key members ≡ Some (array (item (integer (pos first)) (item (integer (pos second)) no_items)))
+pub record HoldsPair (entries : Members) (key : List ℕ) (high first second : ℕ) : Type 0 where
+  pub held : get_member key entries ≡ Some (array (item (integer (pos first)) (item (integer (pos second)) no_items)))
   pub first_at_most : first ≤ high
   pub second_at_most : second ≤ high
 
 -- the key holds this string
 abbrev pub HoldsText : Members → List ℕ → List ℕ → Type 0
-HoldsText members key text = get_member key members ≡ Some (string text)
+HoldsText entries key text = get_member key entries ≡ Some (string text)
 
 -- the key holds this table
 abbrev pub HoldsTable : Members → List ℕ → Members → Type 0
-HoldsTable members key inner = get_member key members ≡ Some (table inner)
+HoldsTable entries key inner = get_member key entries ≡ Some (table inner)
 
 -- the key holds an array of one element, which is this table
 abbrev pub HoldsOneTable : Members → List ℕ → Members → Type 0
-HoldsOneTable members key inner = get_member key members ≡ Some (array (item (table inner) no_items))
+HoldsOneTable entries key inner = get_member key entries ≡ Some (array (item (table inner) no_items))

@@ -8,8 +8,13 @@ mod reader;
 mod script;
 mod section;
 mod sheet;
+#[cfg(test)]
+mod tests;
 
 pub use arrivals::{Arrivals, Ticks};
 pub use reader::{ReadError, read};
-pub use script::{Script, Statement};
-pub use sheet::{HeapKeys, High, Highs, Low, Lows, Name, Sheet};
+pub use script::{MAX_STATEMENTS, MAX_WORK, Script, Statement, VARIABLES};
+pub use sheet::{
+    HeapKeys, High, Highs, Low, Lows, MAX_BOARD, MAX_NAME, MAX_RATE, MAX_SIZE, MAX_TICKS, Name,
+    Sheet,
+};

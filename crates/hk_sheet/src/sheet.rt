@@ -12,7 +12,7 @@ pub const MAX_SIZE: u64 = 1_000_000;
 pub const MAX_RATE: u64 = 4_096;
 
 /// The greatest number that a sheet can give for the fields of the board of one kind.
-pub const MAX_FIELDS: u64 = 255;
+pub const MAX_BOARD: u64 = 255;
 
 /// The most bytes of a name.
 pub const MAX_NAME: usize = 16;

@@ -1,4 +1,4 @@
-use Rattle.std.proofs.Common.{arith, sym, ap, ◌≡◌}
+use Rattle.std.proofs.Common.{arith, ap}
 use Rattle.std.proofs.lemmas.Result.{err_from_is_err_and}
 use Rattle.toml.specs.View.{table_view}
 use Rattle.hk_sheet.specs.FirstForm.{HoldsScript, IsHigh}
@@ -10,9 +10,9 @@ use Rattle.hk_sheet.proofs.reader.read_high.Goals as goal
 
 pub returns-in_err-script : goal.returns-in_err-script
 returns-in_err-script c =
-    let members = table_view c.args.table.now in
+    let entries = table_view c.args.table.now in
     let p = err_from_is_err_and c.from_residual-in_err-script.result c.from_residual-in_err-script.ensures.1 in
-    rw (p.1, p.2) (no_whole _ (IsHigh members) (HoldsScript members) (λ task is. (task.script, is.script)) c.in_err-script.ensures)
+    rw (p.1, p.2) (no_whole _ (IsHigh entries) (HoldsScript entries) (λ task is. (task.script, is.script)) c.in_err-script.ensures)
 
 pub ticks-requires : goal.ticks-requires
 ticks-requires c =
@@ -21,7 +21,7 @@ ticks-requires c =
 
 pub returns-then-ticks-timing : goal.returns-then-ticks-timing
 returns-then-ticks-timing c task is =
-    let members = table_view c.args.table.now in
-    let script = one_held_script members task.script c.in_ok-script.script is.script c.in_ok-script.ensures in
-    let timing = one_timing members task.timing c.in-Some.timing is.timing c.in-Some.ensures in
+    let entries = table_view c.args.table.now in
+    let script = one_held_script entries task.script c.in_ok-script.script is.script c.in_ok-script.ensures in
+    let timing = one_timing entries task.timing c.in-Some.timing is.timing c.in-Some.ensures in
     absurd (omega (arith, is.enough, ap ticks_of script, ap (λ t. t.cost) timing))

@@ -1,4 +1,4 @@
-use Rattle.std.proofs.Common.{◌≡◌, ◌≢◌, true, length, get_or, lit<, arith}
+use Rattle.std.proofs.Common.{◌≡◌, ◌≢◌, length, get_or, lit<, arith}
 use Rattle.std.proofs.lemmas.Str.Pattern.{starts_char}
 use Rattle.hk_sheet.proofs.NumberLemmas.{no_plus, no_zero, parsed, one_byte}
 use Rattle.hk_sheet.proofs.script.number_of.Goals as goal
@@ -23,10 +23,10 @@ returns c =
     let short : get_or text 0 0 ≡ 48 → length text ≡ 1 = λ zero.
     elim c.else-text-gt1.branch [
       | else-text-gt1-via-then-text-gt1+else-starts_with-2 w ↦ (
-        let again = w.starts_with-then-text-gt1 in
-        let told = (starts_char 48 text again.result again.ensures.cases (lit< tt) (lit< tt)).1 zero in
-        let found = w.if-starts_with-2.false in
-        cc)
+          let again = w.starts_with-then-text-gt1 in
+          let told = (starts_char 48 text again.result again.ensures.cases (lit< tt) (lit< tt)).1 zero in
+          let found = w.if-starts_with-2.false in
+          cc)
       | else-text-gt1-via-else-text-gt1 w ↦ one_byte text (omega arith) zero
     ] in
     rw c.ok.ensures.value (parsed text c.parse.result c.parse.ensures.value.0 no_sign short)

@@ -1,10 +1,6 @@
-use Rattle.std.proofs.Common.{◌≡◌, ◌<◌, ◌++◌, ◌∷◌, [], length, sym, subst, arith, rules, tests}
-use Rattle.std.specs.List.{before_first, after_first}
-use Rattle.std.proofs.lemmas.Bool.Decides.{nat_tests}
+use Rattle.std.proofs.Common.{◌<◌, length, arith, rules}
 use Rattle.std.proofs.lemmas.Grind.{common_steps}
-use Rattle.hk_sheet.specs.Lines.{is_newline}
-use Rattle.hk_sheet.specs.Script.{IsLineOf}
-use Rattle.hk_sheet.proofs.ParseLemmas.{IsParsed, next_statement, parsed_more, no_statement}
+use Rattle.hk_sheet.proofs.ParseLemmas.{next_statement, parsed_more, no_statement}
 use Rattle.hk_sheet.proofs.script.parse.Goals as goal
 
 pub returns-in_default : goal.returns-in_default
@@ -21,7 +17,7 @@ loop-rest-preserved c =
     let line = rw c.cut_line.ensures.line at c.in-Some.ensures in
     record {
       parsed = rw (c.in_ok-push.ensures.items, c.cut_line.ensures.rest)
-        (parsed_more c.args.text.now c.loop-rest.items.items rest c.in-Some.statement c.loop-rest.invariant.parsed some line (omega arith));
+          (parsed_more c.args.text.now c.loop-rest.items.items rest c.in-Some.statement c.loop-rest.invariant.parsed some line (omega arith));
       text = search rules;
     }
 

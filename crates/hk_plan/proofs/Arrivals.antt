@@ -1,5 +1,5 @@
 -- How many arrivals a window holds, where any two are a period apart.
-use Rattle.std.proofs.Common.{◌≡◌, ℕ, zero, suc, ◌+◌, ◌*◌, ◌/◌, ◌%◌, ◌<◌, ◌≤◌, Bool, true, false, ◌&&◌, nat_lt, nat_le, min, refl, ap, arith, inl, inr}
+use Rattle.std.proofs.Common.{◌≡◌, ℕ, zero, suc, ◌+◌, ◌*◌, ◌<◌, ◌≤◌, Bool, true, false, ◌&&◌, nat_lt, nat_le, refl, ap, arith, inl, inr}
 use Rattle.std.proofs.lemmas.Bool.{cases_lt, cases_Bool, and_parts, ltb-true, leb-true}
 use Rattle.std.proofs.lemmas.Grind.{div_ceil_times}
 use Rattle.std.proofs.Math.Nat.{mul-le-mul_right}
@@ -34,8 +34,9 @@ falls_from mine moment s w k e =
 pub starts_above : (a period w : ℕ) → 0 < period → a * period < w → a < starts_in w period
 starts_above a period w some below =
     elim (cases_lt a (starts_in w period)) [
-      inl fine ↦ fine
-    | inr less ↦ absurd (omega (arith, div_ceil_times w period some, mul-le-mul_right period less)) ]
+      | inl fine ↦ fine
+      | inr less ↦ absurd (omega (arith, div_ceil_times w period some, mul-le-mul_right period less))
+    ]
 
 one_more : (mine : ℕ → Bool) (moment : ℕ → ℕ) (s w n : ℕ) → falls_in mine moment s w n ≡ true → arrivals mine moment s w (suc n) ≡ arrivals mine moment s w n + 1
 one_more mine moment s w n e = rw e refl
@@ -49,15 +50,16 @@ pub pushed_on : (mine : ℕ → Bool) (moment : ℕ → ℕ) (period count s w n
 pushed_on mine moment period count s w zero m a past within meant late = omega arith
 pushed_on mine moment period count s w (suc n) m a past within meant late =
     elim (cases_Bool (falls_in mine moment s w n)) [
-      inl e ↦
-        let f : FallsIn mine moment s w n = falls_from mine moment s w n e in
-        let before = pushed_on mine moment period count s w n n a (omega arith) (omega arith) f.meant f.from in
-        let one = ap (λ x. x * period) (one_more mine moment s w n e) in
-        omega (arith, before, one, a.apart n m (omega arith) within f.meant meant)
-    | inr e ↦
-        let before = pushed_on mine moment period count s w n m a (omega arith) within meant late in
-        let none = ap (λ x. x * period) (none_more mine moment s w n e) in
-        omega (arith, before, none) ]
+      | inl e ↦
+          let f : FallsIn mine moment s w n = falls_from mine moment s w n e in
+          let before = pushed_on mine moment period count s w n n a (omega arith) (omega arith) f.meant f.from in
+          let one = ap (λ x. x * period) (one_more mine moment s w n e) in
+          omega (arith, before, one, a.apart n m (omega arith) within f.meant meant)
+      | inr e ↦
+          let before = pushed_on mine moment period count s w n m a (omega arith) within meant late in
+          let none = ap (λ x. x * period) (none_more mine moment s w n e) in
+          omega (arith, before, none)
+    ]
 
 -- a window holds at most as many arrivals as periods can begin in it
 pub arrivals-le : (mine : ℕ → Bool) (moment : ℕ → ℕ) (period count s w n : ℕ) → Apart mine moment period count → n ≤ count
@@ -65,9 +67,10 @@ pub arrivals-le : (mine : ℕ → Bool) (moment : ℕ → ℕ) (period count s w
 arrivals-le mine moment period count s w zero a fits = omega arith
 arrivals-le mine moment period count s w (suc n) a fits =
     elim (cases_Bool (falls_in mine moment s w n)) [
-      inl e ↦
-        let f : FallsIn mine moment s w n = falls_from mine moment s w n e in
-        let pushed = pushed_on mine moment period count s w n n a (omega arith) (omega arith) f.meant f.from in
-        let above = starts_above (arrivals mine moment s w n) period w a.some (omega (arith, pushed, f.before)) in
-        omega (arith, above, one_more mine moment s w n e)
-    | inr e ↦ omega (arith, arrivals-le mine moment period count s w n a (omega arith), none_more mine moment s w n e) ]
+      | inl e ↦
+          let f : FallsIn mine moment s w n = falls_from mine moment s w n e in
+          let pushed = pushed_on mine moment period count s w n n a (omega arith) (omega arith) f.meant f.from in
+          let above = starts_above (arrivals mine moment s w n) period w a.some (omega (arith, pushed, f.before)) in
+          omega (arith, above, one_more mine moment s w n e)
+      | inr e ↦ omega (arith, arrivals-le mine moment period count s w n a (omega arith), none_more mine moment s w n e)
+    ]

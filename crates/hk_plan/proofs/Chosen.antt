@@ -1,8 +1,8 @@
 -- Who goes first among the ready rows.
-use Rattle.std.proofs.Common.{◌≡◌, ℕ, zero, suc, ◌+◌, ◌-◌, ◌<◌, ◌≤◌, ◌⊎◌, Bool, true, false, ◌&&◌, ◌||◌, nat_eq, nat_lt, nat_le, if◌then◌else◌, cond, List, Option, Some, None, MatchOption, IfSome, length, get_or, refl, sym, ap, ◌∙◌, subst, arith, inl, inr, add-one}
-use Rattle.std.proofs.lemmas.Bool.{cases_Bool, cases_eq, cases_lt, and_parts, and_from, or_cases, or_parts, and_cases, ltb-true, ltb-false, leb-true, leb-false, eqb-true, eqb-false, lt-ltb, le-leb, le-ltb, ne_eqb, false≢true, false_from_ne_true}
+use Rattle.std.proofs.Common.{◌≡◌, ℕ, zero, suc, ◌+◌, ◌<◌, ◌≤◌, Bool, true, false, ◌&&◌, nat_eq, nat_lt, nat_le, if◌then◌else◌, List, Option, Some, None, MatchOption, IfSome, refl, sym, ap, ◌∙◌, subst, arith, inl, inr, add-one}
+use Rattle.std.proofs.lemmas.Bool.{cases_Bool, cases_eq, and_parts, and_from, or_cases, or_parts, and_cases, ltb-true, ltb-false, leb-true, eqb-true, eqb-false, lt-ltb, le-leb, false≢true, false_from_ne_true}
 use Rattle.hk_plan.specs.declared.Row.{Row}
-use Rattle.hk_plan.specs.Alone.{task_of, arrival_of, ticks_of, is_ready, goes_before, first_of, chosen_below, chosen, ComesFirst}
+use Rattle.hk_plan.specs.Alone.{task_of, arrival_of, ticks_of, is_ready, goes_before, first_of, chosen_below, ComesFirst}
 
 -- the row at a place has arrived and isn't ended, where each row has had so many ticks
 pub record Ready (rows : List Row) (had : ℕ → ℕ) (t k : ℕ) : Type 0 where
@@ -35,20 +35,23 @@ ready-true rows had t k r = and_from _ _ (le-leb _ _ r.arrived) (lt-ltb _ _ r.un
 pub before_from : (rows : List Row) (j k : ℕ) → goes_before rows j k ≡ true → ComesFirst rows j k
 before_from rows j k e =
     elim (or_cases (nat_lt (task_of rows j) (task_of rows k)) (nat_eq (task_of rows j) (task_of rows k) && nat_lt j k) e) [
-      inl less ↦ inl (ltb-true _ _ less)
-    | inr same ↦
-        let parts = and_parts (nat_eq (task_of rows j) (task_of rows k)) (nat_lt j k) same in
-        inr (eqb-true _ _ parts.0, omega (arith, ltb-true j k parts.1)) ]
+      | inl less ↦ inl (ltb-true _ _ less)
+      | inr same ↦
+          let parts = and_parts (nat_eq (task_of rows j) (task_of rows k)) (nat_lt j k) same in
+          inr (eqb-true _ _ parts.0, omega (arith, ltb-true j k parts.1))
+    ]
 
 pub after_from : (rows : List Row) (j k : ℕ) → goes_before rows j k ≡ false → ComesFirst rows k j
 after_from rows j k e =
     let parts = or_parts (nat_lt (task_of rows j) (task_of rows k)) (nat_eq (task_of rows j) (task_of rows k) && nat_lt j k) e in
     let above : task_of rows k ≤ task_of rows j = ltb-false _ _ parts.0 in
     elim (cases_eq (task_of rows j) (task_of rows k)) [
-      inl same ↦ elim (and_cases (nat_eq (task_of rows j) (task_of rows k)) (nat_lt j k) parts.1) [
-          inl other ↦ absurd (eqb-false _ _ other same)
-        | inr past ↦ inr (sym same, ltb-false _ _ past) ]
-    | inr other ↦ inl (omega arith) ]
+      | inl same ↦ elim (and_cases (nat_eq (task_of rows j) (task_of rows k)) (nat_lt j k) parts.1) [
+        | inl other ↦ absurd (eqb-false _ _ other same)
+        | inr past ↦ inr (sym same, ltb-false _ _ past)
+      ]
+      | inr other ↦ inl (omega arith)
+    ]
 
 -- coming first goes on from one to the next
 pub comes_on : (rows : List Row) (i j k : ℕ) → ComesFirst rows i j → ComesFirst rows j k → ComesFirst rows i k
@@ -62,47 +65,53 @@ pub law_more : (rows : List Row) (had : ℕ → ℕ) (t n : ℕ) (before : Optio
     → Law rows had t n before → Law rows had t (suc n) (if b then Some (first_of rows before n) else before)
 law_more rows had t n None false e none = λ k below r.
     elim (cases_eq k n) [
-      inl same ↦ let P : ℕ → Type 0 = Ready rows had t in false≢true (sym e ∙ ready-true rows had t n (subst P same r))
-    | inr other ↦ none k (omega arith) r ]
+      | inl same ↦ let P : ℕ → Type 0 = Ready rows had t in false≢true (sym e ∙ ready-true rows had t n (subst P same r))
+      | inr other ↦ none k (omega arith) r
+    ]
 law_more rows had t n (Some j) false e best = record {
   within = omega (arith, best.within);
   ready = best.ready;
   first = λ k below r.
       elim (cases_eq k n) [
-        inl same ↦ let P : ℕ → Type 0 = Ready rows had t in absurd (false≢true (sym e ∙ ready-true rows had t n (subst P same r)))
-      | inr other ↦ best.first k (omega arith) r ]
+        | inl same ↦ let P : ℕ → Type 0 = Ready rows had t in absurd (false≢true (sym e ∙ ready-true rows had t n (subst P same r)))
+        | inr other ↦ best.first k (omega arith) r
+      ];
 }
 law_more rows had t n None true e none = record {
   within = omega arith;
   ready = ready_from rows had t n e;
   first = λ k below r.
       elim (cases_eq k n) [
-        inl same ↦ inr (ap (λ i. task_of rows i) (sym same), omega arith)
-      | inr other ↦ absurd (none k (omega arith) r) ]
+        | inl same ↦ inr (ap (λ i. task_of rows i) (sym same), omega arith)
+        | inr other ↦ absurd (none k (omega arith) r)
+      ];
 }
 law_more rows had t n (Some j) true e best =
     let now : Ready rows had t n = ready_from rows had t n e in
     elim (cases_Bool (goes_before rows n j)) [
-      inl goes ↦
-        let before : ComesFirst rows n j = before_from rows n j goes in
-        rw goes (record {
-          within = omega arith;
-          ready = now;
-          first = λ k below r.
-              elim (cases_eq k n) [
-                inl same ↦ inr (ap (λ i. task_of rows i) (sym same), omega arith)
-              | inr other ↦ comes_on rows n j k before (best.first k (omega arith) r) ]
-        })
-    | inr stays ↦
-        let after : ComesFirst rows j n = after_from rows n j stays in
-        rw stays (record {
-          within = omega (arith, best.within);
-          ready = best.ready;
-          first = λ k below r.
-              elim (cases_eq k n) [
-                inl same ↦ let P : ℕ → Type 0 = ComesFirst rows j in subst P (sym same) after
-              | inr other ↦ best.first k (omega arith) r ]
-        }) ]
+      | inl goes ↦
+          let before : ComesFirst rows n j = before_from rows n j goes in
+          rw goes (record {
+            within = omega arith;
+            ready = now;
+            first = λ k below r.
+                elim (cases_eq k n) [
+                  | inl same ↦ inr (ap (λ i. task_of rows i) (sym same), omega arith)
+                  | inr other ↦ comes_on rows n j k before (best.first k (omega arith) r)
+                ];
+          })
+      | inr stays ↦
+          let after : ComesFirst rows j n = after_from rows n j stays in
+          rw stays (record {
+            within = omega (arith, best.within);
+            ready = best.ready;
+            first = λ k below r.
+                elim (cases_eq k n) [
+                  | inl same ↦ let P : ℕ → Type 0 = ComesFirst rows j in subst P (sym same) after
+                  | inr other ↦ best.first k (omega arith) r
+                ];
+          })
+    ]
 
 -- who goes first among the places below n
 pub chosen_below_law : (rows : List Row) (had : ℕ → ℕ) (t n : ℕ) → Law rows had t n (chosen_below rows had t n)

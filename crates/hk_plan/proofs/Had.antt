@@ -1,16 +1,16 @@
 -- How the ticks that each row has had grow.
-use Rattle.std.proofs.Common.{◌≡◌, ℕ, zero, suc, ◌+◌, ◌-◌, ◌<◌, ◌≤◌, ◌⊎◌, Bool, true, false, nat_eq, List, Option, Some, None, MatchOption, IfSome, length, refl, sym, ap, ◌∙◌, subst, arith, inl, inr, add-zero, add-suc, add-one}
+use Rattle.std.proofs.Common.{◌≡◌, ℕ, zero, suc, ◌+◌, ◌-◌, ◌≤◌, ◌⊎◌, List, Option, Some, None, MatchOption, length, refl, ap, ◌∙◌, subst, arith, inl, inr, add-zero, add-suc, add-one}
 use Rattle.std.proofs.lemmas.Bool.{cases_eq, eq-eqb, ne_eqb}
 use Rattle.hk_plan.specs.declared.Row.{Row}
-use Rattle.hk_plan.specs.Alone.{task_of, arrival_of, ticks_of, chosen, tick_for, had_after, row_at, IsReady, IsIdle, GoesFirst, ComesFirst, FollowsOrder, EachTickFollowsOrder}
-use Rattle.hk_plan.proofs.Chosen.{Ready, NoneBelow, FirstBelow, Law, chosen_below_law}
+use Rattle.hk_plan.specs.Alone.{ticks_of, tick_for, had_after, row_at, IsIdle, GoesFirst, ComesFirst, FollowsOrder, EachTickFollowsOrder}
+use Rattle.hk_plan.proofs.Chosen.{Law, chosen_below_law}
 
 -- the law of one tick, from what is ready among all places
 whole_law : (rows : List Row) (t : ℕ) (choice : Option ℕ) → Law rows (had_after rows t) t (length rows) choice → MatchOption choice (IsIdle rows t) (GoesFirst rows t)
 whole_law rows t None none = λ k r. none k r.within (record { arrived = r.arrived; unended = r.unended })
 whole_law rows t (Some k) best = record {
   ready = record { within = best.within; arrived = best.ready.arrived; unended = best.ready.unended };
-  first = λ j r. best.first j r.within (record { arrived = r.arrived; unended = r.unended })
+  first = λ j r. best.first j r.within (record { arrived = r.arrived; unended = r.unended });
 }
 
 -- a tick goes to the ready row that goes first
@@ -34,13 +34,14 @@ same_first rows j k (inr a) (inr b) = omega (arith, a.1, b.1)
 follows_order : (rows : List Row) (t : ℕ) (o : Option ℕ) → row_at rows t ≡ o → MatchOption o (IsIdle rows t) (GoesFirst rows t) → FollowsOrder rows t
 follows_order rows t None e idle = record {
   to_row = λ k. (λ some. cc, λ first. absurd (idle k first.ready));
-  to_nobody = (λ _. idle, λ _. e)
+  to_nobody = (λ _. idle, λ _. e);
 }
 follows_order rows t (Some l) e best = record {
-  to_row = λ k.
-    ( (λ some. let same : l ≡ k = cc in let P : ℕ → Type 0 = GoesFirst rows t in subst P same best)
-    , (λ first. e ∙ ap (λ i. Some i) (same_first rows l k (best.first k first.ready) (first.first l best.ready))) );
-  to_nobody = (λ none. cc, λ idle. absurd (idle l best.ready))
+  to_row = λ k. (
+    (λ some. let same : l ≡ k = cc in let P : ℕ → Type 0 = GoesFirst rows t in subst P same best),
+    (λ first. e ∙ ap (λ i. Some i) (same_first rows l k (best.first k first.ready) (first.first l best.ready))),
+  );
+  to_nobody = (λ none. cc, λ idle. absurd (idle l best.ready));
 }
 
 pub each_tick_follows_order : EachTickFollowsOrder
@@ -75,16 +76,18 @@ pub tick_for_cases : (o : Option ℕ) (k : ℕ) → (o ≡ Some k) ⊎ (tick_for
 tick_for_cases None k = inr refl
 tick_for_cases (Some j) k =
     elim (cases_eq j k) [
-      inl same ↦ inl (ap (λ i. Some i) same)
-    | inr other ↦ inr (tick_for_other (Some j) j k refl other) ]
+      | inl same ↦ inl (ap (λ i. Some i) same)
+      | inr other ↦ inr (tick_for_other (Some j) j k refl other)
+    ]
 
 -- no row has more ticks than it takes
 pub had-le-ticks : (rows : List Row) (t k : ℕ) → had_after rows t k ≤ ticks_of rows k
 had-le-ticks rows zero k = omega (arith, had_none rows k)
 had-le-ticks rows (suc t) k =
     elim (tick_for_cases (row_at rows t) k) [
-      inl mine ↦ omega (arith, had_more rows t k, tick_for_same (row_at rows t) k mine, (gets_first rows t k mine).ready.unended)
-    | inr other ↦ omega (arith, had_more rows t k, other, had-le-ticks rows t k) ]
+      | inl mine ↦ omega (arith, had_more rows t k, tick_for_same (row_at rows t) k mine, (gets_first rows t k mine).ready.unended)
+      | inr other ↦ omega (arith, had_more rows t k, other, had-le-ticks rows t k)
+    ]
 
 -- what a row has had is never taken back
 pub had_grows : (rows : List Row) (t x k : ℕ) → had_after rows t k ≤ had_after rows (t + x) k

@@ -1,6 +1,6 @@
 -- The interval in which the ticks go to a row and to rows of lesser tasks alone.
-use Rattle.std.proofs.Common.{◌≡◌, ℕ, zero, suc, ◌+◌, ◌-◌, ◌*◌, ◌<◌, ◌≤◌, ◌⊎◌, Bool, true, false, ◌&&◌, ◌||◌, nat_eq, nat_lt, nat_le, List, Option, Some, None, MatchOption, length, take, refl, sym, ap, ◌∙◌, subst, arith, inl, inr, add-zero, add-suc}
-use Rattle.std.proofs.lemmas.Bool.{cases_lt, cases_eq, cases_Bool, and_parts, and_from, or_from, or_left, or_right, eq-eqb, eqb-true, ne_eqb, ltb-true, lt-ltb, le-ltb, leb-true, le-leb}
+use Rattle.std.proofs.Common.{◌≡◌, ℕ, zero, suc, ◌+◌, ◌<◌, ◌≤◌, ◌⊎◌, Bool, true, ◌||◌, nat_eq, nat_lt, List, Option, Some, None, MatchOption, length, refl, subst, arith, inl, inr, add-suc}
+use Rattle.std.proofs.lemmas.Bool.{cases_lt, cases_eq, cases_Bool, ne_eqb}
 use Rattle.hk_plan.specs.declared.Row.{Row}
 use Rattle.hk_plan.specs.Alone.{task_of, arrival_of, ticks_of, had_after, row_at, IsReady, IsIdle, GoesFirst}
 use Rattle.hk_plan.proofs.Arrivals.{falls_in}
@@ -43,22 +43,27 @@ pending_or_quiet : (rows : List Row) (i t n : ℕ) → n ≤ length rows → Pen
 pending_or_quiet rows i t zero fits = inr (λ l below lesser arrived. absurd (omega arith))
 pending_or_quiet rows i t (suc n) fits =
     elim (pending_or_quiet rows i t n (omega arith)) [
-      inl p ↦ inl p
-    | inr quiet ↦
-        let keep : (task_of rows n < i → arrival_of rows n < t → ticks_of rows n ≤ had_after rows t n) → QuietBelow rows i t (suc n) =
-            λ here l below lesser arrived. elim (cases_eq n l) [
-                inl same ↦
-                  let P : ℕ → Type 0 = λ k. task_of rows k < i → arrival_of rows k < t → ticks_of rows k ≤ had_after rows t k in
-                  let there : P l = subst P same here in
-                  there lesser arrived
-              | inr other ↦ quiet l (omega arith) lesser arrived ] in
-        elim (cases_lt (task_of rows n) i) [
-          inr no_lesser ↦ inr (keep (λ a b. absurd (omega arith)))
-        | inl lesser ↦ elim (cases_lt (arrival_of rows n) t) [
-              inr later ↦ inr (keep (λ a b. absurd (omega arith)))
-            | inl arrived ↦ elim (cases_lt (had_after rows t n) (ticks_of rows n)) [
-                  inr ended ↦ inr (keep (λ a b. ended))
-                | inl unended ↦ inl (record { place = n; within = omega arith; lesser = lesser; arrived = arrived; unended = unended }) ] ] ] ]
+      | inl p ↦ inl p
+      | inr quiet ↦
+          let keep : (task_of rows n < i → arrival_of rows n < t → ticks_of rows n ≤ had_after rows t n) → QuietBelow rows i t (suc n) =
+          λ here l below lesser arrived. elim (cases_eq n l) [
+            | inl same ↦
+                let P : ℕ → Type 0 = λ k. task_of rows k < i → arrival_of rows k < t → ticks_of rows k ≤ had_after rows t k in
+                let there : P l = subst P same here in
+                there lesser arrived
+            | inr other ↦ quiet l (omega arith) lesser arrived
+          ] in
+          elim (cases_lt (task_of rows n) i) [
+            | inr no_lesser ↦ inr (keep (λ a b. absurd (omega arith)))
+            | inl lesser ↦ elim (cases_lt (arrival_of rows n) t) [
+              | inr later ↦ inr (keep (λ a b. absurd (omega arith)))
+              | inl arrived ↦ elim (cases_lt (had_after rows t n) (ticks_of rows n)) [
+                | inr ended ↦ inr (keep (λ a b. ended))
+                | inl unended ↦ inl (record { place = n; within = omega arith; lesser = lesser; arrived = arrived; unended = unended })
+              ]
+            ]
+          ]
+    ]
 
 -- a row of a lesser task is ready
 pub record LesserReady (rows : List Row) (i t : ℕ) : Type 0 where
@@ -78,28 +83,30 @@ last_quiet rows i zero = record {
   start = 0;
   before = omega arith;
   quiet = λ l within lesser arrived. absurd (omega arith);
-  busy = λ u from below. absurd (omega arith)
+  busy = λ u from below. absurd (omega arith);
 }
 last_quiet rows i (suc a) =
     elim (pending_or_quiet rows i (suc a) (length rows) (omega arith)) [
-      inr quiet ↦ record { start = suc a; before = omega arith; quiet = quiet; busy = λ u from below. absurd (omega arith) }
-    | inl p ↦
-        let since : Since rows i a = last_quiet rows i a in
-        let ready : IsReady rows a p.place = record {
-          within = p.within;
-          arrived = omega (arith, p.arrived);
-          unended = omega (arith, p.unended, had-le-had rows a (suc a) p.place (omega arith))
-        } in
-        record {
-          start = since.start;
-          before = omega (arith, since.before);
-          quiet = since.quiet;
-          busy = λ u from below. elim (cases_eq a u) [
-              inl same ↦
-                let P : ℕ → Type 0 = LesserReady rows i in
-                subst P same (record { place = p.place; lesser = p.lesser; ready = ready })
-            | inr other ↦ since.busy u from (omega arith) ]
-        } ]
+      | inr quiet ↦ record { start = suc a; before = omega arith; quiet = quiet; busy = λ u from below. absurd (omega arith) }
+      | inl p ↦
+          let since : Since rows i a = last_quiet rows i a in
+          let ready : IsReady rows a p.place = record {
+            within = p.within;
+            arrived = omega (arith, p.arrived);
+            unended = omega (arith, p.unended, had-le-had rows a (suc a) p.place (omega arith));
+          } in
+          record {
+            start = since.start;
+            before = omega (arith, since.before);
+            quiet = since.quiet;
+            busy = λ u from below. elim (cases_eq a u) [
+              | inl same ↦
+                  let P : ℕ → Type 0 = LesserReady rows i in
+                  subst P same (record { place = p.place; lesser = p.lesser; ready = ready })
+              | inr other ↦ since.busy u from (omega arith)
+            ];
+          }
+    ]
 
 -- ---- the ticks of an interval
 
@@ -113,8 +120,8 @@ done_more rows member t l gets in_it =
     let within : l < length rows = (gets_first rows t l gets).ready.within in
     let more : had_after rows t l + 1 ≤ had_after rows (suc t) l = omega (arith, had_more rows t l, tick_for_same (row_at rows t) l gets) in
     total_more (λ k. pick (member k) (had_after rows t k)) (λ k. pick (member k) (had_after rows (suc t) k)) l (length rows) within
-      (λ k below. pick-le (member k) _ _ (had-le-had rows t (suc t) k (omega arith)))
-      (rw in_it more)
+    (λ k below. pick-le (member k) _ _ (had-le-had rows t (suc t) k (omega arith)))
+    (rw in_it more)
 
 -- a tick goes to a place that passes
 pub record GoesTo (rows : List Row) (member : ℕ → Bool) (t : ℕ) : Type 0 where
@@ -143,8 +150,9 @@ pub done-le : (rows : List Row) (i s w k t : ℕ) → k < length rows
     → done rows (counts rows i s w k) t ≤ total (λ l. pick (is_lesser rows i s w l) (ticks_of rows l)) (length rows) + had_after rows t k
 done-le rows i s w k t within =
     total_but_one (λ l. pick (counts rows i s w k l) (had_after rows t l)) (λ l. pick (is_lesser rows i s w l) (ticks_of rows l))
-      (had_after rows t k) k (length rows)
-      (λ l below other. elim (cases_Bool (is_lesser rows i s w l)) [
-          inl e ↦ rw e (had-le-ticks rows t l)
-        | inr e ↦ rw (e, ne_eqb l k other) (omega arith) ])
-      (omega (arith, pick-le-self (counts rows i s w k k) (had_after rows t k)))
+    (had_after rows t k) k (length rows)
+    (λ l below other. elim (cases_Bool (is_lesser rows i s w l)) [
+      | inl e ↦ rw e (had-le-ticks rows t l)
+      | inr e ↦ rw (e, ne_eqb l k other) (omega arith)
+    ])
+    (omega (arith, pick-le-self (counts rows i s w k k) (had_after rows t k)))

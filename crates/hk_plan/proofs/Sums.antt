@@ -1,7 +1,6 @@
 -- Sums over the places below a bound.
 use Rattle.std.proofs.Common.{◌≡◌, ℕ, zero, suc, ◌+◌, ◌*◌, ◌<◌, ◌≤◌, Bool, true, false, cond, refl, sym, subst, arith, inl, inr}
 use Rattle.std.proofs.lemmas.Bool.{cases_eq}
-use Rattle.std.proofs.Math.Nat.{mul-le-mul_right}
 
 -- the sum of f over the places below n
 abbrev pub total : (ℕ → ℕ) → ℕ → ℕ
@@ -35,22 +34,24 @@ pub total_more : (f g : ℕ → ℕ) (l n : ℕ) → l < n → ((k : ℕ) → k 
 total_more f g l zero below h more = absurd (omega arith)
 total_more f g l (suc n) below h more =
     elim (cases_eq l n) [
-      inl same ↦
-        let P : ℕ → Type 0 = λ i. f i + 1 ≤ g i in
-        let here : f n + 1 ≤ g n = subst P same more in
-        omega (arith, here, total-le f g n (λ k b. h k (omega arith)))
-    | inr other ↦ omega (arith, h n (omega arith), total_more f g l n (omega arith) (λ k b. h k (omega arith)) more) ]
+      | inl same ↦
+          let P : ℕ → Type 0 = λ i. f i + 1 ≤ g i in
+          let here : f n + 1 ≤ g n = subst P same more in
+          omega (arith, here, total-le f g n (λ k b. h k (omega arith)))
+      | inr other ↦ omega (arith, h n (omega arith), total_more f g l n (omega arith) (λ k b. h k (omega arith)) more)
+    ]
 
 -- at one place the term may be larger by c
 pub total_but_one : (f g : ℕ → ℕ) (c l n : ℕ) → ((k : ℕ) → k < n → (k ≡ l → ⊥) → f k ≤ g k) → f l ≤ g l + c → total f n ≤ total g n + c
 total_but_one f g c l zero h one = omega arith
 total_but_one f g c l (suc n) h one =
     elim (cases_eq n l) [
-      inl same ↦
-        let P : ℕ → Type 0 = λ i. f i ≤ g i + c in
-        let here : f n ≤ g n + c = subst P (sym same) one in
-        omega (arith, here, total-le f g n (λ k b. h k (omega arith) (λ e. omega arith)))
-    | inr other ↦ omega (arith, h n (omega arith) other, total_but_one f g c l n (λ k b. h k (omega arith)) one) ]
+      | inl same ↦
+          let P : ℕ → Type 0 = λ i. f i ≤ g i + c in
+          let here : f n ≤ g n + c = subst P (sym same) one in
+          omega (arith, here, total-le f g n (λ k b. h k (omega arith) (λ e. omega arith)))
+      | inr other ↦ omega (arith, h n (omega arith) other, total_but_one f g c l n (λ k b. h k (omega arith)) one)
+    ]
 
 -- a picked number is at most one that is as large
 pub pick-le : (b : Bool) (x y : ℕ) → x ≤ y → pick b x ≤ pick b y

@@ -1,5 +1,5 @@
 -- How a plan keeps track of its rows.
-use Rattle.std.proofs.Common.{◌≡◌, ℕ, zero, suc, ◌+◌, ◌-◌, ◌<◌, ◌≤◌, ◌↔◌, List, Option, Some, None, MatchOption, IsNone, All, length, replicate, get_or, set, slice_index, refl, sym, ap, ◌∙◌, subst, arith, inl, inr, get_or-set_same, get_or-set_other}
+use Rattle.std.proofs.Common.{◌≡◌, ℕ, ◌+◌, ◌-◌, ◌<◌, ◌≤◌, ◌↔◌, List, Option, Some, None, MatchOption, IsNone, All, length, replicate, get_or, set, slice_index, refl, sym, ap, ◌∙◌, subst, arith, inl, inr, get_or-set_same, get_or-set_other}
 use Rattle.std.proofs.lemmas.List.{length-set, length-replicate, get_or-replicate, get_or_read}
 use Rattle.std.proofs.lemmas.List.Elements.{All-get_or}
 use Rattle.std.proofs.lemmas.Bool.{cases_eq, true≢false}
@@ -7,7 +7,7 @@ use Rattle.hk_plan.specs.declared.Row.{Row}
 use Rattle.hk_plan.specs.Alone.{ticks_of, chosen, tick_for, had_after, row_at, EndsAt, TakesTicks, no_row}
 use Rattle.hk_plan.specs.Kept.{KeepsTrack}
 use Rattle.hk_plan.proofs.Chosen.{chosen_below_agrees}
-use Rattle.hk_plan.proofs.Had.{had_none, had_next, had-le-had, had-le-ticks, tick_for_same, tick_for_other, tick_for_nobody, gets_first}
+use Rattle.hk_plan.proofs.Had.{had_none, had_next, had-le-had, tick_for_same, tick_for_other, tick_for_nobody, gets_first}
 
 -- before the first tick
 pub track_none : (rows : List Row) → All TakesTicks rows → KeepsTrack rows (replicate (length rows) 0) (replicate (length rows) None) 0
@@ -18,7 +18,7 @@ track_none rows some = record {
   finish_is = λ k below.
       let P : Option ℕ → Type 0 = λ o. MatchOption o (had_after rows 0 k < ticks_of rows k) (λ e. EndsAt rows k e × (e ≤ 0)) in
       let less : had_after rows 0 k < ticks_of rows k = omega (arith, had_none rows k, All-get_or TakesTicks rows k no_row below some) in
-      subst P (sym (get_or-replicate (length rows) k None None below)) less
+      subst P (sym (get_or-replicate (length rows) k None None below)) less;
 }
 
 pub track_open : (rows copied : List Row) (had : List ℕ) (finish : List (Option ℕ)) → All TakesTicks rows
@@ -69,12 +69,12 @@ pub track_idle : (rows : List Row) (had : List ℕ) (finish : List (Option ℕ))
     → row_at rows given ≡ None → KeepsTrack rows had finish (given + 1)
 track_idle rows had finish given kept idle =
     let same : (k : ℕ) → had_after rows (given + 1) k ≡ had_after rows given k =
-        λ k. (omega (arith, had_next rows given k, tick_for_nobody (row_at rows given) k idle)) in
+    λ k. (omega (arith, had_next rows given k, tick_for_nobody (row_at rows given) k idle)) in
     record {
       had_length = kept.had_length;
       finish_length = kept.finish_length;
       had_is = λ k below. kept.had_is k below ∙ sym (same k);
-      finish_is = λ k below. other_finish rows given k (get_or finish k None) (same k) (kept.finish_is k below)
+      finish_is = λ k below. other_finish rows given k (get_or finish k None) (same k) (kept.finish_is k below);
     }
 
 -- the ticks after one that goes to a row
@@ -82,14 +82,15 @@ had_set : (rows : List Row) (had : List ℕ) (finish : List (Option ℕ)) (given
     → row_at rows given ≡ Some k → k < length rows → j < length rows → get_or (set had k (get_or had k 0 + 1)) j 0 ≡ had_after rows (given + 1) j
 had_set rows had finish given k j kept mine within below =
     elim (cases_eq j k) [
-      inl same ↦
-        let P : ℕ → Type 0 = λ i. get_or (set had k (get_or had k 0 + 1)) i 0 ≡ had_after rows (given + 1) i in
-        let in_had : k < length had = omega (arith, kept.had_length) in
-        subst P (sym same) (rw get_or-set_same
+      | inl same ↦
+          let P : ℕ → Type 0 = λ i. get_or (set had k (get_or had k 0 + 1)) i 0 ≡ had_after rows (given + 1) i in
+          let in_had : k < length had = omega (arith, kept.had_length) in
+          subst P (sym same) (rw get_or-set_same
           (omega (arith, had_next rows given k, tick_for_same (row_at rows given) k mine, kept.had_is k within)))
-    | inr other ↦
-        let apart : k ≡ j → ⊥ = λ e. other (sym e) in
-        rw get_or-set_other (omega (arith, had_next rows given j, tick_for_other (row_at rows given) k j mine apart, kept.had_is j below)) ]
+      | inr other ↦
+          let apart : k ≡ j → ⊥ = λ e. other (sym e) in
+          rw get_or-set_other (omega (arith, had_next rows given j, tick_for_other (row_at rows given) k j mine apart, kept.had_is j below))
+    ]
 
 -- a tick that goes to a row and isn't its last
 pub track_more : (rows : List Row) (had : List ℕ) (finish : List (Option ℕ)) (given k : ℕ) → KeepsTrack rows had finish given
@@ -102,15 +103,16 @@ track_more rows had finish given k kept mine within unlike = record {
   finish_is = λ j below.
       let more : had_after rows (given + 1) j ≡ had_after rows given j + tick_for (row_at rows given) j = had_next rows given j in
       elim (cases_eq j k) [
-        inl same ↦
-          let P : ℕ → Type 0 = λ i. MatchOption (get_or finish i None) (had_after rows (given + 1) i < ticks_of rows i) (λ e. EndsAt rows i e × (e ≤ given + 1)) in
-          let unended : had_after rows given k < ticks_of rows k = (gets_first rows given k mine).ready.unended in
-          let still : had_after rows (given + 1) k < ticks_of rows k =
-              (omega (arith, had_next rows given k, tick_for_same (row_at rows given) k mine, kept.had_is k within, unlike, unended)) in
-          subst P (sym same) (own_finish rows given k (get_or finish k None) unended still (kept.finish_is k within))
-      | inr other ↦
-          let none : tick_for (row_at rows given) j ≡ 0 = tick_for_other (row_at rows given) k j mine (λ e. other (sym e)) in
-          other_finish rows given j (get_or finish j None) (omega arith) (kept.finish_is j below) ]
+        | inl same ↦
+            let P : ℕ → Type 0 = λ i. MatchOption (get_or finish i None) (had_after rows (given + 1) i < ticks_of rows i) (λ e. EndsAt rows i e × (e ≤ given + 1)) in
+            let unended : had_after rows given k < ticks_of rows k = (gets_first rows given k mine).ready.unended in
+            let still : had_after rows (given + 1) k < ticks_of rows k =
+            (omega (arith, had_next rows given k, tick_for_same (row_at rows given) k mine, kept.had_is k within, unlike, unended)) in
+            subst P (sym same) (own_finish rows given k (get_or finish k None) unended still (kept.finish_is k within))
+        | inr other ↦
+            let none : tick_for (row_at rows given) j ≡ 0 = tick_for_other (row_at rows given) k j mine (λ e. other (sym e)) in
+            other_finish rows given j (get_or finish j None) (omega arith) (kept.finish_is j below)
+      ];
 }
 
 -- a tick that goes to a row as its last
@@ -124,22 +126,23 @@ track_last rows had finish given k kept mine within whole = record {
   finish_is = λ j below.
       let more : had_after rows (given + 1) j ≡ had_after rows given j + tick_for (row_at rows given) j = had_next rows given j in
       elim (cases_eq j k) [
-        inl same ↦
-          let P : ℕ → Type 0 = λ i. MatchOption (get_or (set finish k (Some (given + 1))) i None) (had_after rows (given + 1) i < ticks_of rows i) (λ e. EndsAt rows i e × (e ≤ given + 1)) in
-          let in_finish : k < length finish = omega (arith, kept.finish_length) in
-          let back : (given + 1) - 1 ≡ given = omega arith in
-          let Q : ℕ → Type 0 = λ t. row_at rows t ≡ Some k in
-          let ends : EndsAt rows k (given + 1) = record {
-            later = omega arith;
-            last = subst Q (sym back) mine;
-            whole = (omega (arith, had_next rows given k, tick_for_same (row_at rows given) k mine, kept.had_is k within, whole))
-          } in
-          subst P (sym same) (rw get_or-set_same (ends, omega arith))
-      | inr other ↦
-          let none : tick_for (row_at rows given) j ≡ 0 = tick_for_other (row_at rows given) k j mine (λ e. other (sym e)) in
-          let same : had_after rows (given + 1) j ≡ had_after rows given j = omega arith in
-          let kept_there = other_finish rows given j (get_or finish j None) same (kept.finish_is j below) in
-          rw get_or-set_other kept_there ]
+        | inl same ↦
+            let P : ℕ → Type 0 = λ i. MatchOption (get_or (set finish k (Some (given + 1))) i None) (had_after rows (given + 1) i < ticks_of rows i) (λ e. EndsAt rows i e × (e ≤ given + 1)) in
+            let in_finish : k < length finish = omega (arith, kept.finish_length) in
+            let back : (given + 1) - 1 ≡ given = omega arith in
+            let Q : ℕ → Type 0 = λ t. row_at rows t ≡ Some k in
+            let ends : EndsAt rows k (given + 1) = record {
+              later = omega arith;
+              last = subst Q (sym back) mine;
+              whole = (omega (arith, had_next rows given k, tick_for_same (row_at rows given) k mine, kept.had_is k within, whole));
+            } in
+            subst P (sym same) (rw get_or-set_same (ends, omega arith))
+        | inr other ↦
+            let none : tick_for (row_at rows given) j ≡ 0 = tick_for_other (row_at rows given) k j mine (λ e. other (sym e)) in
+            let same : had_after rows (given + 1) j ≡ had_after rows given j = omega arith in
+            let kept_there = other_finish rows given j (get_or finish j None) same (kept.finish_is j below) in
+            rw get_or-set_other kept_there
+      ];
 }
 
 -- the same by what the code reads: the choice, the ticks that the chosen row has had, and the row
@@ -159,7 +162,7 @@ reads_at rows had finish given k x row o kept choice some had_read row_read =
       mine = mine;
       within = within;
       had_read = sym (get_or_read had k x in_had had_read 0);
-      row_read = ap (λ r. r.ticks) (sym (get_or_read rows k row within row_read no_row))
+      row_read = ap (λ r. r.ticks) (sym (get_or_read rows k row within row_read no_row));
     }
 
 -- the chosen row has had fewer ticks than it takes

@@ -63,11 +63,15 @@ had_after rows (suc t) k = had_after rows t k + tick_for (chosen rows (had_after
 abbrev pub row_at : List Row → ℕ → Option ℕ
 row_at rows t = chosen rows (had_after rows t) t
 
--- the row at a place is ready at a moment: it has arrived, and has had fewer ticks than it takes
+-- the row at a place has had fewer ticks at a moment than it takes
+abbrev pub IsUnended : List Row → ℕ → ℕ → Type 0
+IsUnended rows t k = had_after rows t k < ticks_of rows k
+
+-- the row at a place is ready at a moment: it has arrived and isn't ended
 pub record IsReady (rows : List Row) (t k : ℕ) : Type 0 where
   pub within : k < length rows
   pub arrived : arrival_of rows k ≤ t
-  pub unended : had_after rows t k < ticks_of rows k
+  pub unended : IsUnended rows t k
 
 -- no row is ready at a moment
 abbrev pub IsIdle : List Row → ℕ → Type 0
@@ -90,10 +94,6 @@ pub record FollowsOrder (rows : List Row) (t : ℕ) : Type 0 where
 -- so it is with each tick of all rows
 abbrev pub EachTickFollowsOrder : Type 0
 EachTickFollowsOrder = (rows : List Row) (t : ℕ) → FollowsOrder rows t
-
--- the row at a place has had all its ticks at a moment
-abbrev pub IsEnded : List Row → ℕ → ℕ → Type 0
-IsEnded rows t k = ticks_of rows k ≤ had_after rows t k
 
 -- the row at a place ends at the moment e: the tick before it goes to the row, and is its last
 pub record EndsAt (rows : List Row) (k e : ℕ) : Type 0 where

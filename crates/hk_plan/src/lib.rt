@@ -1,8 +1,9 @@
 //! The plain schedule of rows of work whose lengths are known: fixed priorities with preemption, in counted ticks.
 #![tactic(auto)]
+
 ghost use Rattle.std.specs.Prelude.{◌≡◌, ℕ, ◌+◌, ◌<◌, ◌≤◌, ◌^◌, ◌↔◌, length, slice_index, All, IfOk, IfSome, IsNone};
 ghost use Rattle.std.specs.Option.{ForSome};
-ghost use Rattle.hk_plan.specs.Alone.{chosen, first_of, row_at, had_after, ticks_of, TakesTicks, EndsAt, EachTickFollowsOrder};
+ghost use Rattle.hk_plan.specs.Alone.{chosen, first_of, row_at, IsUnended, TakesTicks, EndsAt, EachTickFollowsOrder};
 ghost use Rattle.hk_plan.specs.Bounds.{ResponseBounds};
 
 use std::alloc::{AllocError, AllocFailed, Global};
@@ -102,7 +103,7 @@ impl Plan {
         requires { row < length self.now.rows }
         ensures ends { IfSome result (λ e. EndsAt self.now.rows row e) }
         ensures by_now { IfSome result (λ e. e ≤ self.now.given) }
-        ensures none { IsNone result ↔ (had_after self.now.rows self.now.given row < ticks_of self.now.rows row) }
+        ensures none { IsNone result ↔ IsUnended self.now.rows self.now.given row }
     {
         self.finish[row]
     }
@@ -113,8 +114,7 @@ impl Plan {
 /// such row.
 pub fn each_tick_follows_order()
     ensures { EachTickFollowsOrder }
-{
-}
+{}
 
 /// The law of response times: where the rows of each task keep to its timing, that is, take from one tick to the
 /// cost and arrive at least a period apart in the order of their places, and the deadline of a task is at most its
@@ -123,8 +123,7 @@ pub fn each_tick_follows_order()
 /// any rows, and not of a plan that was opened, so it serves rows too whose lengths are known only afterwards.
 pub fn response_bounds_every_finish()
     ensures { ResponseBounds }
-{
-}
+{}
 
 /// The place of the row that goes first among those that have arrived by a moment and have had fewer ticks than
 /// they take.
@@ -152,5 +151,128 @@ fn first_of(rows: &[Row], lesser: Option<usize>, greater: usize) -> usize
     match lesser {
         Some(place) if rows[place].task <= rows[greater].task => place,
         _ => greater,
+    }
+}
+
+#[cfg(test)]
+mod tests {
+    use super::*;
+    use std::process::Abort;
+    use std::test::Fail;
+
+    /// Opens a plan of rows of (task, arrival, ticks), and compares who gets its ticks and how its rows end.
+    fn check(
+        rt: &impl Abort,
+        alloc: Global,
+        rows: &[(u8, u64, u64)],
+        ticks: &[Option<usize>],
+        ends: &[Option<u64>],
+    ) -> Result<(), Fail> {
+        let rows: Vec<Row> = rows
+            .iter()
+            .map(|(task, arrival, ticks)| Row {
+                task: *task,
+                arrival: *arrival,
+                ticks: *ticks,
+            })
+            .collect(alloc)?;
+        assert!(rt; rows.iter().all(|row| row.ticks >= 1));
+        assert!(rt; ticks.len() < 100 && ends.len() == rows.len());
+        let mut plan = Plan::open(alloc, &rows)?;
+        for (tick, want) in ticks.iter().enumerate() {
+            assert_eq!(rt; plan.tick(), *want, "who gets tick {tick}");
+        }
+        for (place, want) in ends.iter().enumerate() {
+            assert_eq!(rt; plan.finish_of(place), *want, "the end of row {place}");
+        }
+        Ok(())
+    }
+
+    #[test]
+    fn ticks_and_ends(rt: HostRuntime) -> Result<(), Fail> {
+        const LAST: u64 = u64::MAX;
+        let cases: [(&[(u8, u64, u64)], &[Option<usize>], &[Option<u64>]); 13] = [
+            (
+                &[(0, 1, 1), (1, 0, 2)],
+                &[Some(1), Some(0), Some(1), None],
+                &[Some(2), Some(3)],
+            ),
+            (&[], &[None, None], &[]),
+            // before the first tick, and after some
+            (&[(0, 0, 2)], &[], &[None]),
+            (&[(0, 0, 2)], &[Some(0)], &[None]),
+            // an arrival later than the first tick
+            (
+                &[(0, 2, 3)],
+                &[None, None, Some(0), Some(0), Some(0), None],
+                &[Some(5)],
+            ),
+            // rows of one task go in order
+            (
+                &[(0, 0, 2), (0, 1, 1)],
+                &[Some(0), Some(0), Some(1)],
+                &[Some(2), Some(3)],
+            ),
+            (
+                &[(3, 0, 1), (3, 0, 1)],
+                &[Some(0), Some(1), None],
+                &[Some(1), Some(2)],
+            ),
+            // the lesser task goes first, wherever it stands
+            (
+                &[(5, 0, 2), (4, 0, 2)],
+                &[Some(1), Some(1), Some(0), Some(0)],
+                &[Some(4), Some(2)],
+            ),
+            // one row is held up by another, and that one by a third
+            (
+                &[(2, 0, 3), (1, 1, 2), (0, 2, 1)],
+                &[Some(0), Some(1), Some(2), Some(1), Some(0), Some(0), None],
+                &[Some(6), Some(4), Some(3)],
+            ),
+            // nobody is ready between two rows
+            (
+                &[(0, 0, 1), (0, 3, 1)],
+                &[Some(0), None, None, Some(1)],
+                &[Some(1), Some(4)],
+            ),
+            // the last moment, and the greatest length
+            (&[(0, LAST, 1)], &[None, None], &[None]),
+            (
+                &[(0, 0, LAST), (1, 0, 1)],
+                &[Some(0), Some(0), Some(0)],
+                &[None, None],
+            ),
+            // tasks of (cost, period) (1, 4), (2, 6) and (3, 12) over 12 ticks
+            (
+                &[
+                    (0, 0, 1),
+                    (0, 4, 1),
+                    (0, 8, 1),
+                    (1, 0, 2),
+                    (1, 6, 2),
+                    (2, 0, 3),
+                ],
+                &[
+                    Some(0),
+                    Some(3),
+                    Some(3),
+                    Some(5),
+                    Some(1),
+                    Some(5),
+                    Some(4),
+                    Some(4),
+                    Some(2),
+                    Some(5),
+                    None,
+                    None,
+                ],
+                &[Some(1), Some(5), Some(9), Some(3), Some(8), Some(10)],
+            ),
+        ];
+        for (rows, ticks, ends) in cases {
+            check(&rt, rt.alloc(), rows, ticks, ends)?;
+        }
+        Ok(())
     }
 }

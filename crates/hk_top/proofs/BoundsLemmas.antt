@@ -93,7 +93,7 @@ KeepsBounds-first_form sheet (document, form) =
     let same : jobs sheet ≡ rows_from task.script sheet.ticks task.arrivals =
     jobs-rows_from sheet ∙ ap (λ t. rows_from t.script sheet.ticks t.arrivals) first in
     let rows : KeepsRows (rows_from task.script sheet.ticks task.arrivals) sheet.ticks task.timing.cost =
-    rows_from-keeps form.high.members task.script is.script.text sheet.ticks task.timing.period task.timing.cost task.arrivals
+    rows_from-keeps form.high.entries task.script is.script.text sheet.ticks task.timing.period task.timing.cost task.arrivals
     is.arrivals is.script.is is.enough (omega (arith, in_time, deadline)) in
     let jobs_keep : KeepsRows (jobs sheet) sheet.ticks task.timing.cost = subst (λ r. KeepsRows r sheet.ticks task.timing.cost) (sym same) rows in
     let cost_is : task.timing.cost ≡ response_of sheet = ap (λ t. t.timing.cost) (sym first) in

@@ -38,7 +38,7 @@ IsUnfit-long None after front = tt
 IsUnfit-long (Some left) None front = absurd front.consumed
 IsUnfit-long (Some left) (Some rest) front =
     let e = ap length front.consumed ∙ length-append front.front rest in
-    let n = front.length_is in
+    let n = front.fits in
     inl (omega (arith, e, n))
 
 -- an input of the first form is run

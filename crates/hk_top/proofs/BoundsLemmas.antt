@@ -1,7 +1,10 @@
 -- The one high task of a sheet of the first form keeps its bounds.
-use Rattle.std.proofs.Common.{◌≡◌, ℕ, zero, suc, ◌+◌, ◌-◌, ◌*◌, ◌<◌, ◌≤◌, List, [], ◌∷◌, length, map, refl, sym, ap, ◌∙◌, subst, arith, Some, None, IsSomeAnd}
+use Rattle.std.proofs.Common.{◌≡◌, ℕ, zero, suc, ◌+◌, ◌-◌, ◌*◌, ◌<◌, ◌≤◌, List, [], ◌∷◌, length, map, refl, sym, ap, ◌∙◌, subst, arith, Some, None, IsSomeAnd, ⊎_elim}
+use Rattle.std.proofs.lemmas.Bool.{cases_lt}
 use Rattle.std.specs.Prelude.{slice_index_or}
 use Rattle.hk_rta.specs.declared.Timing.{Timing}
+use Rattle.hk_rta.specs.declared.Load.{Load}
+use Rattle.hk_rta.specs.Busy.{Busy, Suffices}
 use Rattle.hk_rta.specs.Demand.{starts_in}
 use Rattle.hk_rta.specs.Least.{IsLeast}
 use Rattle.hk_rta.specs.Response.{Response, Solves}
@@ -22,7 +25,7 @@ use Rattle.hk_top.specs.Schedule.{stay_of}
 use Rattle.hk_top.specs.Report.{response_of}
 use Rattle.hk_top.specs.Tool.{KeepsBounds}
 use Rattle.hk_top.proofs.Spaced.{arrives}
-use Rattle.hk_top.proofs.Periodic.{periodic, length-periodic, arrival_is, ticks_is, had_after-periodic}
+use Rattle.hk_top.proofs.Periodic.{periodic, starts_in-holds, starts_in-has, length-periodic, arrival_is, ticks_is, had_after-periodic}
 use Rattle.hk_top.proofs.Ends.{stay_of-ended, EndsAt-periodic, EndsAt-bounded}
 use Rattle.hk_top.proofs.Scripts.{some_ticks, ticks_of-take-le}
 
@@ -32,6 +35,37 @@ Response-alone timing some = record {
   holds = record { positive = some; balanced = omega arith };
   least = λ r solves. let b = solves.balanced in omega (arith, b);
 }
+
+-- the busy period of the only load is its work, where that fits the period
+Busy-alone : (period work : ℕ) → 0 < work → work ≤ period → Busy (record { period = period; work = work } ∷ []) 0 work
+Busy-alone period work some fits =
+    let period_some : 0 < period = omega arith in
+    let one : starts_in work period ≡ 1 =
+        (let a = starts_in-has work period 0 period_some (omega (arith, some)) in
+          ⊎_elim
+            (λ (more : 1 < starts_in work period). let b = starts_in-holds work period 1 period_some more in absurd (omega (arith, b, fits)))
+            (λ (no_more : starts_in work period ≤ 1). omega (arith, a, no_more))
+            (cases_lt 1 (starts_in work period))) in
+    record {
+      holds = record {
+        positive = some;
+        enough = (let e : starts_in work period * work ≡ work = ap (λ n. n * work) one ∙ omega arith in omega (arith, e));
+      };
+      least = λ window suffices.
+          let a = starts_in-has window period 0 period_some (let p = suffices.positive in omega (arith, p)) in
+          let b : 1 * work ≤ starts_in window period * work = grind arith in
+          let c = suffices.enough in
+          omega (arith, b, c);
+    }
+
+Busy-task : (rate : ℕ) (task : High) → task.words ≤ 0 → 0 < task.timing.cost → task.timing.cost ≤ task.timing.period
+    → Busy (record { period = task.timing.period; work = task.timing.cost + rate * task.words } ∷ []) 0 task.timing.cost
+Busy-task rate task none some fits =
+    let no_words : task.words ≡ 0 = omega (arith, none) in
+    let same : task.timing.cost ≡ task.timing.cost + rate * task.words =
+        sym (ap (λ words. task.timing.cost + rate * words) no_words ∙ omega arith) in
+    subst (λ work. Busy (record { period = task.timing.period; work = work } ∷ []) 0 task.timing.cost) same
+      (Busy-alone task.timing.period task.timing.cost some fits)
 
 size_some : (text : List ℕ) (statements : List Statement) → script.IsScript text statements → 0 < script.ticks_of statements
 size_some text statements is =
@@ -101,6 +135,9 @@ KeepsBounds-first_form sheet (document, form) =
     record {
       response = subst (λ highs. Response (map (λ t. t.timing) highs) 0 (slice_index_or highs 0 no_task).timing.cost) (sym only)
           (Response-alone task.timing (omega (arith, cost)));
+      busy = subst
+          (λ highs. Busy (map (λ t. record { period = t.timing.period; work = t.timing.cost + sheet.heap.rate * t.words }) highs) 0 (slice_index_or highs 0 no_task).timing.cost)
+          (sym only) (Busy-task sheet.heap.rate task is.words.at_most (omega (arith, cost)) (omega (arith, in_time, deadline)));
       in_time = subst (λ t. t.timing.cost ≤ t.timing.deadline) (sym first) in_time;
       ends = keep.ends;
       counted = keep.counted;

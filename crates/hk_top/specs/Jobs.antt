@@ -1,6 +1,7 @@
 -- The jobs of a sheet's one high task.
 use Rattle.std.specs.Prelude.{ℕ, ◌+◌, ◌-◌, ◌*◌, nat_lt, List, [], ◌∷◌, map, filter, slice_index_or}
 use Rattle.std.specs.List.{range_with_len}
+use Rattle.hk_rta.specs.declared.Load.{Load}
 use Rattle.hk_rta.specs.declared.Timing.{Timing}
 use Rattle.hk_rta.specs.Demand.{starts_in, no_timing}
 use Rattle.hk_plan.specs.declared.Row.{Row}
@@ -35,3 +36,8 @@ jobs sheet = map (job_of (first_task sheet)) (arrivals_before sheet.ticks (first
 -- what the analysis knows of the sheet's high tasks
 abbrev pub timings : Sheet → List Timing
 timings sheet = map (λ task. task.timing) sheet.high
+
+-- the work that the sheet's high tasks bring: with each arrival a job, and the events that the collector owes for the
+-- words that the job takes
+abbrev pub loads : Sheet → List Load
+loads sheet = map (λ task. record { period = task.timing.period; work = task.timing.cost + sheet.heap.rate * task.words }) sheet.high

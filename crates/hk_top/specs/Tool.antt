@@ -8,14 +8,15 @@ use Rattle.hk_io.specs.declared.Status.TheVariants.{Done, Memory, ReadFault, Wri
 use Rattle.hk_io.specs.declared.whole.TheConstants.{MAX_INPUT}
 use Rattle.hk_io.specs.Bytes.{AppendsPrefix}
 use Rattle.hk_io.specs.Faults.{Rose}
+use Rattle.hk_rta.specs.Busy.{Busy}
 use Rattle.hk_rta.specs.Response.{Response}
 use Rattle.hk_plan.specs.Alone.{arrival_of}
 use Rattle.hk_plan.specs.Bounds.{EndsWithin}
 use Rattle.hk_sheet.specs.declared.sheet.Sheet.{Sheet}
 use Rattle.hk_sheet.specs.FirstForm.{IsSheetOf, IsOnlySheetOf, HasNoSheet}
-use Rattle.hk_top.specs.Jobs.{first_task, jobs, timings}
+use Rattle.hk_top.specs.Jobs.{first_task, jobs, timings, loads}
 use Rattle.hk_top.specs.Schedule.{stay_of}
-use Rattle.hk_top.specs.Report.{response_of, report}
+use Rattle.hk_top.specs.Report.{response_of, busy_of, report}
 use Rattle.hk_top.specs.Text.{not_built_line}
 
 -- the words are the one word `run`
@@ -23,10 +24,11 @@ abbrev pub IsRun : List (String Global) → Type 0
 IsRun words = map string_bytes words ≡ codes "run" ∷ []
 
 -- The schedule keeps the sheet's bounds. The printed response time is the least solution of the response-time
--- equation, and within the deadline. Each job ends within it, and where it has room before the horizon, it is among
+-- equation, and within the deadline; the printed busy period is the least that has room for its work. Each job ends within it, and where it has room before the horizon, it is among
 -- the jobs that the report counts.
 pub record KeepsBounds (sheet : Sheet) : Type 0 where
   pub response : Response (timings sheet) 0 (response_of sheet)
+  pub busy : Busy (loads sheet) 0 (busy_of sheet)
   pub in_time : response_of sheet ≤ (first_task sheet).timing.deadline
   pub ends : (job : ℕ) → job < length (jobs sheet) → EndsWithin (jobs sheet) job (response_of sheet)
   pub counted : (job : ℕ) → job < length (jobs sheet) → arrival_of (jobs sheet) job + response_of sheet ≤ sheet.ticks

@@ -5,10 +5,9 @@
 use hk_io::{Status, StdSink, StdSource};
 use hk_top::run_tool;
 use std::alloc::AllocError;
-use std::env;
-use std::io;
 use std::process::ExitCode;
 use std::rt::Env;
+use std::{env, io};
 
 /// The words behind the program's name. Words that aren't Unicode are none that the program takes: they are answered
 /// like no words at all.

@@ -1,15 +1,13 @@
 -- The one high task of a sheet of the first form keeps its bounds.
-use Rattle.std.proofs.Common.{◌≡◌, ℕ, zero, suc, ◌+◌, ◌-◌, ◌*◌, ◌<◌, ◌≤◌, List, [], ◌∷◌, length, map, refl, sym, ap, ◌∙◌, subst, arith, Some, None, IsSomeAnd, ⊎_elim}
+use Rattle.std.proofs.Common.{◌≡◌, ℕ, ◌+◌, ◌-◌, ◌*◌, ◌<◌, ◌≤◌, List, [], ◌∷◌, length, map, refl, sym, ap, ◌∙◌, subst, arith, IsSomeAnd, ⊎_elim}
 use Rattle.std.proofs.lemmas.Bool.{cases_lt}
 use Rattle.std.specs.Prelude.{slice_index_or}
 use Rattle.hk_rta.specs.declared.Timing.{Timing}
-use Rattle.hk_rta.specs.declared.Load.{Load}
-use Rattle.hk_rta.specs.Busy.{Busy, Suffices}
+use Rattle.hk_rta.specs.Busy.{Busy}
 use Rattle.hk_rta.specs.Demand.{starts_in}
-use Rattle.hk_rta.specs.Least.{IsLeast}
-use Rattle.hk_rta.specs.Response.{Response, Solves}
+use Rattle.hk_rta.specs.Response.{Response}
 use Rattle.hk_plan.specs.declared.Row.{Row}
-use Rattle.hk_plan.specs.Alone.{arrival_of, ticks_of, had_after, EndsAt}
+use Rattle.hk_plan.specs.Alone.{arrival_of}
 use Rattle.hk_plan.specs.Bounds.{EndsWithin}
 use Rattle.hk_sheet.specs.declared.arrivals.Arrivals.{Arrivals}
 use Rattle.hk_sheet.specs.declared.arrivals.Arrivals.TheVariants.{Every}
@@ -17,10 +15,10 @@ use Rattle.hk_sheet.specs.declared.arrivals.Arrivals.TheVariants as arrivals
 use Rattle.hk_sheet.specs.declared.script.Statement.{Statement}
 use Rattle.hk_sheet.specs.declared.sheet.High.{High}
 use Rattle.hk_sheet.specs.declared.sheet.Sheet.{Sheet}
-use Rattle.hk_sheet.specs.FirstForm.{IsOfFirstForm, IsHigh, HoldsArrivals}
+use Rattle.hk_sheet.specs.FirstForm.{IsOfFirstForm, HoldsArrivals}
 use Rattle.hk_sheet.specs.Script as script
 use Rattle.toml.specs.Data.{Members}
-use Rattle.hk_top.specs.Jobs.{no_task, first_task, jobs, timings, arrivals_before}
+use Rattle.hk_top.specs.Jobs.{no_task, first_task, jobs, arrivals_before}
 use Rattle.hk_top.specs.Schedule.{stay_of}
 use Rattle.hk_top.specs.Report.{response_of}
 use Rattle.hk_top.specs.Tool.{KeepsBounds}
@@ -41,11 +39,11 @@ Busy-alone : (period work : ℕ) → 0 < work → work ≤ period → Busy (reco
 Busy-alone period work some fits =
     let period_some : 0 < period = omega arith in
     let one : starts_in work period ≡ 1 =
-        (let a = starts_in-has work period 0 period_some (omega (arith, some)) in
-          ⊎_elim
-            (λ (more : 1 < starts_in work period). let b = starts_in-holds work period 1 period_some more in absurd (omega (arith, b, fits)))
-            (λ (no_more : starts_in work period ≤ 1). omega (arith, a, no_more))
-            (cases_lt 1 (starts_in work period))) in
+    (let a = starts_in-has work period 0 period_some (omega (arith, some)) in
+    ⊎_elim
+    (λ (more : 1 < starts_in work period). let b = starts_in-holds work period 1 period_some more in absurd (omega (arith, b, fits)))
+    (λ (no_more : starts_in work period ≤ 1). omega (arith, a, no_more))
+    (cases_lt 1 (starts_in work period))) in
     record {
       holds = record {
         positive = some;
@@ -63,9 +61,9 @@ Busy-task : (rate : ℕ) (task : High) → task.words ≤ 0 → 0 < task.timing.
 Busy-task rate task none some fits =
     let no_words : task.words ≡ 0 = omega (arith, none) in
     let same : task.timing.cost ≡ task.timing.cost + rate * task.words =
-        sym (ap (λ words. task.timing.cost + rate * words) no_words ∙ omega arith) in
+    sym (ap (λ words. task.timing.cost + rate * words) no_words ∙ omega arith) in
     subst (λ work. Busy (record { period = task.timing.period; work = work } ∷ []) 0 task.timing.cost) same
-      (Busy-alone task.timing.period task.timing.cost some fits)
+    (Busy-alone task.timing.period task.timing.cost some fits)
 
 size_some : (text : List ℕ) (statements : List Statement) → script.IsScript text statements → 0 < script.ticks_of statements
 size_some text statements is =

@@ -1,9 +1,9 @@
 -- Which row a tick goes to: it is a ready one, and there is one where any is ready.
-use Rattle.std.proofs.Common.{◌≡◌, ℕ, zero, suc, ◌+◌, ◌-◌, ◌*◌, ◌<◌, ◌≤◌, ◌⊎◌, inl, inr, Option, Some, None, min, refl, sym, ◌∙◌, ap, arith, rules, Bool, true, false, ⊎_elim, List, length, cond, subst}
-use Rattle.std.proofs.lemmas.Bool.{cases_lt, cases_Bool, leb-true, ltb-true, le-leb, lt-ltb, and_parts, and_from, both_ways, eq-eqb, ne_eqb, cases_eq, cond-true, cond-false}
-use Rattle.std.specs.Prelude.{if◌then◌else◌, nat_eq}
+use Rattle.std.proofs.Common.{◌≡◌, ℕ, zero, suc, ◌+◌, ◌<◌, ◌≤◌, Option, Some, None, refl, sym, ◌∙◌, ap, arith, true, false, ⊎_elim, List, cond, subst}
+use Rattle.std.proofs.lemmas.Bool.{cases_lt, cases_Bool, both_ways, eq-eqb, ne_eqb, cond-true, cond-false}
+use Rattle.std.specs.Prelude.{nat_eq}
 use Rattle.hk_plan.specs.declared.Row.{Row}
-use Rattle.hk_plan.specs.Alone.{row_of, arrival_of, ticks_of, is_ready, first_of, goes_before, chosen_below, chosen, tick_for, had_after, row_at}
+use Rattle.hk_plan.specs.Alone.{is_ready, first_of, goes_before, chosen_below, tick_for, had_after, row_at}
 
 -- the first of a ready place and the one chosen before is a ready place below the bound
 first_is : (rows : List Row) (P : ℕ → Type 0) (before : Option ℕ) (n : ℕ)

@@ -1,15 +1,15 @@
 -- When the jobs of one periodic task end whose period has room for a job, and how many ticks go to nobody.
-use Rattle.std.proofs.Common.{◌≡◌, ℕ, zero, suc, ◌+◌, ◌-◌, ◌*◌, ◌<◌, ◌≤◌, ◌⊎◌, Option, Some, None, min, max, refl, sym, ◌∙◌, ap, subst, arith, rules, Bool, true, false, ⊎_elim, List, [], ◌∷◌, ◌++◌, length, map, replicate, eqb, cond}
+use Rattle.std.proofs.Common.{◌≡◌, ℕ, zero, suc, ◌+◌, ◌-◌, ◌<◌, ◌≤◌, Option, Some, None, max, refl, sym, ◌∙◌, ap, subst, arith, Bool, true, false, ⊎_elim, List, ◌∷◌, replicate, cond}
 use Rattle.std.proofs.lemmas.Bool.{cases_lt, eq-eqb, ne_eqb, cond-false}
-use Rattle.std.specs.Prelude.{if◌then◌else◌, ◌==◌, find, fold}
+use Rattle.std.specs.Prelude.{◌==◌, find, fold}
 use Rattle.std.specs.List.{range_with_len, filter_map}
 use Rattle.std.specs.Option.{option_map}
 use Rattle.hk_plan.specs.declared.Row.{Row}
 use Rattle.hk_rta.specs.Demand.{starts_in}
-use Rattle.hk_plan.specs.Alone.{row_of, arrival_of, ticks_of, had_after, row_at, EndsAt}
-use Rattle.hk_top.specs.Schedule.{end_of, stay_of, stays, greatest}
+use Rattle.hk_plan.specs.Alone.{arrival_of, ticks_of, had_after, EndsAt}
+use Rattle.hk_top.specs.Schedule.{stay_of, stays, greatest}
 use Rattle.hk_top.proofs.Spaced.{arrives, arrives-apart}
-use Rattle.hk_top.proofs.Periodic.{periodic, length-periodic, starts_in-holds, starts_in-has, arrival_is, ticks_is, had_after-periodic, row_at-inside, row_at-tells}
+use Rattle.hk_top.proofs.Periodic.{periodic, length-periodic, starts_in-has, arrival_is, ticks_is, had_after-periodic, row_at-inside, row_at-tells}
 
 -- the first of some numbers that passes a test
 pub find-first : (test : ℕ → Bool) (from more count : ℕ) → more < count → test (from + more) ≡ true

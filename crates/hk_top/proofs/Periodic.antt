@@ -1,15 +1,15 @@
 -- The schedule of the jobs of one periodic task whose period has room for a job: each job gets the ticks from its
 -- arrival on.
-use Rattle.std.proofs.Common.{◌≡◌, ℕ, zero, suc, ◌+◌, ◌-◌, ◌*◌, ◌/◌, ◌%◌, ◌<◌, ◌≤◌, ◌⊎◌, inl, inr, Option, Some, None, min, refl, sym, ◌∙◌, ap, subst, arith, rules, Bool, true, false, ⊎_elim, List, [], ◌∷◌, length, map, get_or}
+use Rattle.std.proofs.Common.{◌≡◌, ℕ, suc, ◌+◌, ◌-◌, ◌*◌, ◌<◌, ◌≤◌, Option, Some, None, min, refl, sym, ◌∙◌, ap, arith, true, ⊎_elim, List, [], ◌∷◌, length, map}
 use Rattle.std.proofs.lemmas.Bool.{cases_lt, leb-true, ltb-true, le-leb, lt-ltb, and_parts, and_from}
 use Rattle.std.proofs.lemmas.List.{length-map}
-use Rattle.std.proofs.lemmas.List.FromFn.{length-range_with_len, get_or-map-range_with_len, length-map-range_with_len}
+use Rattle.std.proofs.lemmas.List.FromFn.{get_or-map-range_with_len, length-map-range_with_len}
 use Rattle.std.proofs.lemmas.Grind.{div_ceil_times}
-use Rattle.std.specs.Prelude.{if◌then◌else◌, nat_eq, nat_le, nat_lt}
+use Rattle.std.specs.Prelude.{nat_le, nat_lt}
 use Rattle.std.specs.List.{range_with_len}
 use Rattle.hk_rta.specs.Demand.{starts_in}
 use Rattle.hk_plan.specs.declared.Row.{Row}
-use Rattle.hk_plan.specs.Alone.{no_row, row_of, arrival_of, ticks_of, is_ready, had_after, row_at, tick_for}
+use Rattle.hk_plan.specs.Alone.{no_row, row_of, arrival_of, ticks_of, is_ready, had_after, row_at}
 use Rattle.hk_top.proofs.Spaced.{arrives, arrives-apart, one_at_a_time, closed_from, Closed}
 use Rattle.hk_top.proofs.Choice.{chosen_below-ready, chosen_below-none, had_after-suc, had_after-zero, tick_for-same, tick_for-other}
 

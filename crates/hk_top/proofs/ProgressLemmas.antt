@@ -1,21 +1,18 @@
 -- How one tick carries the run of a periodic task on.
-use Rattle.std.proofs.Common.{◌≡◌, ℕ, zero, suc, ◌+◌, ◌-◌, ◌*◌, ◌<◌, ◌≤◌, ◌⊎◌, Option, Some, None, refl, sym, ◌∙◌, ap, subst, arith, rules, Bool, true, false, ⊎_elim, List, [], ◌∷◌, ◌++◌, length, get_or, take, cond, max}
-use Rattle.std.proofs.lemmas.Bool.{cases_lt, lt-ltb, le-ltb, cond-true, cond-false, ne_eqb, eq-eqb, cases_eq}
+use Rattle.std.proofs.Common.{◌≡◌, ℕ, zero, suc, ◌+◌, ◌-◌, ◌*◌, ◌<◌, ◌≤◌, Some, None, sym, ◌∙◌, ap, arith, ⊎_elim, List, [], ◌∷◌, ◌++◌, length, take, cond, max}
+use Rattle.std.proofs.lemmas.Bool.{cond-true, cond-false, ne_eqb, eq-eqb, cases_eq}
 use Rattle.std.proofs.lemmas.List.Sums.{sum_by-append}
-use Rattle.std.specs.Prelude.{if◌then◌else◌, ◌==◌, option_and_then, is_none, count_by, sum_by}
+use Rattle.std.specs.Prelude.{◌==◌, option_and_then, is_none, sum_by}
 use Rattle.std.specs.List.{range_with_len}
 use Rattle.std.proofs.lemmas.List.{take_all}
-use Rattle.std.proofs.lemmas.List.FromFn.{map-range_with_len_more}
 use Rattle.hk_rta.specs.Demand.{starts_in}
 use Rattle.hk_plan.specs.declared.Row.{Row}
 use Rattle.hk_plan.specs.Alone.{had_after, row_at}
-use Rattle.hk_sheet.specs.declared.script.Statement.{Statement}
-use Rattle.hk_sheet.specs.Script.{ticks_of, ticks_of_statement, IsStatement}
+use Rattle.hk_sheet.specs.Script.{ticks_of, ticks_of_statement}
 use Rattle.hk_top.specs.declared.progress.PeriodicTask.{PeriodicTask}
 use Rattle.hk_top.specs.declared.progress.Progress.{Progress}
 use Rattle.hk_top.specs.Schedule.{output_at, output_of, output_in, idle_in}
 use Rattle.hk_top.specs.Progress.{IsRight, IsAt, IsOver, rows_of, size_of, statement_at}
-use Rattle.hk_top.proofs.Spaced.{arrives}
 use Rattle.hk_top.proofs.Scripts.{some_ticks, ticks_of-take_more, ticks_of-take-le, output_at-place}
 use Rattle.hk_top.proofs.Periodic.{starts_in-has, had_after-periodic, row_at-inside, row_at-between}
 

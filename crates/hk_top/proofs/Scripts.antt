@@ -1,8 +1,8 @@
 -- The ticks of a script's statements, one after another.
-use Rattle.std.proofs.Common.{◌≡◌, ℕ, zero, suc, ◌+◌, ◌-◌, ◌*◌, ◌<◌, ◌≤◌, ◌⊎◌, Option, Some, None, refl, sym, ◌∙◌, ap, subst, arith, rules, Bool, true, false, ⊎_elim, List, [], ◌∷◌, ◌++◌, length, get_or, take, cond, fold}
-use Rattle.std.proofs.lemmas.Bool.{cases_lt, lt-ltb, le-ltb, cond-true, cond-false}
+use Rattle.std.proofs.Common.{◌≡◌, ℕ, zero, suc, ◌+◌, ◌-◌, ◌<◌, ◌≤◌, None, refl, ◌∙◌, arith, List, [], ◌∷◌, length, take}
+use Rattle.std.proofs.lemmas.Bool.{lt-ltb, le-ltb, cond-true, cond-false}
 use Rattle.std.proofs.lemmas.List.Sums.{sum_by-cons, sum_by_more, sum_by_more_le}
-use Rattle.std.specs.Prelude.{if◌then◌else◌, sum_by, nat_lt, slice_index_or}
+use Rattle.std.specs.Prelude.{nat_lt, slice_index_or}
 use Rattle.std.specs.List.{AllByRecursion}
 use Rattle.hk_sheet.specs.declared.script.Statement.{Statement}
 use Rattle.hk_sheet.specs.declared.script.Statement.TheVariants.{Work, Out}

@@ -1,8 +1,7 @@
 -- From what the parts of the program answer to what its top call answers.
-use Rattle.std.proofs.Common.{◌≡◌, ℕ, ◌+◌, ◌<◌, ◌≤◌, ◌⊎◌, inl, inr, List, length, Option, None, Some, refl, sym, ap, ◌∙◌, subst, arith, String, Global}
+use Rattle.std.proofs.Common.{◌≡◌, ℕ, ◌+◌, ◌≤◌, ◌⊎◌, inl, inr, List, length, Option, None, Some, refl, sym, ap, ◌∙◌, subst, arith}
 use Rattle.std.proofs.lemmas.List.{length-append}
 use Rattle.std.specs.Prelude.{IfSome}
-use Rattle.std.specs.Io.KnownBytes.{Appends, Consumes}
 use Rattle.hk_io.specs.declared.Status.{Status}
 use Rattle.hk_io.specs.declared.Status.TheVariants.{Done, Memory, ReadFault, WriteFault, NotBuilt}
 use Rattle.hk_io.specs.declared.whole.TheConstants.{MAX_INPUT}
@@ -10,8 +9,7 @@ use Rattle.hk_io.specs.Bytes.{ConsumesFront}
 use Rattle.hk_sheet.specs.declared.sheet.Sheet.{Sheet}
 use Rattle.hk_sheet.specs.FirstForm.{IsSheetOf, IsOnlySheetOf, HasNoSheet}
 use Rattle.hk_top.specs.Report.{report}
-use Rattle.hk_top.specs.Text.{not_built_line}
-use Rattle.hk_top.specs.Tool.{IsReportOf, IsRefusalOf, IsUnfit}
+use Rattle.hk_top.specs.Tool.{IsReportOf, IsUnfit}
 use Rattle.hk_top.proofs.BoundsLemmas.{KeepsBounds-first_form}
 
 module _ (input : Option (List ℕ)) (bytes slice : List ℕ) (told : IfSome input (λ left. bytes ≡ left)) (same : slice ≡ bytes) where

@@ -1,5 +1,5 @@
 -- Texts that are handed to a sink one behind another.
-use Rattle.std.proofs.Common.{◌≡◌, ℕ, List, [], ◌++◌, Option, refl, sym, ap, ◌∙◌, subst, append_assoc}
+use Rattle.std.proofs.Common.{◌≡◌, ℕ, List, [], ◌++◌, Option, ap, ◌∙◌, subst, append_assoc}
 use Rattle.hk_io.specs.Bytes.{AppendsPrefix, AppendsFront}
 use Rattle.hk_io.proofs.BytesLemmas.{AppendsPrefix-append, AppendsFront-trans, AppendsPrefix-behind}
 

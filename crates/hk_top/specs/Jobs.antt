@@ -1,5 +1,5 @@
 -- The jobs of a sheet's one high task.
-use Rattle.std.specs.Prelude.{ℕ, ◌+◌, ◌-◌, ◌*◌, nat_lt, List, [], ◌∷◌, map, filter, slice_index_or}
+use Rattle.std.specs.Prelude.{ℕ, ◌+◌, ◌-◌, ◌*◌, nat_lt, List, [], map, filter, slice_index_or}
 use Rattle.std.specs.List.{range_with_len}
 use Rattle.hk_rta.specs.declared.Load.{Load}
 use Rattle.hk_rta.specs.declared.Timing.{Timing}

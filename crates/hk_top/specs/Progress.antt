@@ -1,5 +1,5 @@
 -- Where the run of one periodic task stands.
-use Rattle.std.specs.Prelude.{◌≡◌, ℕ, ◌+◌, ◌-◌, ◌*◌, ◌<◌, ◌≤◌, ◌==◌, ◌^◌, if◌then◌else◌, List, map, length, take, slice_index_or, sum_by}
+use Rattle.std.specs.Prelude.{◌≡◌, ℕ, ◌+◌, ◌-◌, ◌*◌, ◌<◌, ◌≤◌, ◌==◌, if◌then◌else◌, List, map, length, take, slice_index_or}
 use Rattle.std.specs.List.{range_with_len, AllByRecursion}
 use Rattle.hk_rta.specs.Demand.{starts_in}
 use Rattle.hk_plan.specs.declared.Row.{Row}

@@ -1,5 +1,5 @@
 -- The report of a sheet of one high task: the analysis, what each tick of the run puts out, and what the run came to.
-use Rattle.std.specs.Prelude.{ℕ, ◌+◌, ◌*◌, List, [], ◌∷◌, ◌++◌, length, flat_map, Option, Some, None}
+use Rattle.std.specs.Prelude.{ℕ, ◌+◌, ◌*◌, List, [], ◌++◌, length, flat_map, Option, Some, None}
 use Rattle.std.specs.List.{range_with_len}
 use Rattle.hk_sheet.specs.declared.sheet.Sheet.{Sheet}
 use Rattle.hk_top.specs.Jobs.{first_task, jobs}

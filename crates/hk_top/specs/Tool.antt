@@ -3,17 +3,14 @@ use Rattle.std.specs.Prelude.{◌≡◌, ◌≢◌, ℕ, ◌+◌, ◌<◌, ◌�
 use Rattle.std.specs.String.{string_bytes}
 use Rattle.std.specs.declared.alloc.Global.{Global}
 use Rattle.std.specs.Io.KnownBytes.{Appends}
-use Rattle.hk_io.specs.declared.Status.{Status}
-use Rattle.hk_io.specs.declared.Status.TheVariants.{Done, Memory, ReadFault, WriteFault, NotBuilt}
 use Rattle.hk_io.specs.declared.whole.TheConstants.{MAX_INPUT}
 use Rattle.hk_io.specs.Bytes.{AppendsPrefix}
-use Rattle.hk_io.specs.Faults.{Rose}
 use Rattle.hk_rta.specs.Busy.{Busy}
 use Rattle.hk_rta.specs.Response.{Response}
 use Rattle.hk_plan.specs.Alone.{arrival_of}
 use Rattle.hk_plan.specs.Bounds.{EndsWithin}
 use Rattle.hk_sheet.specs.declared.sheet.Sheet.{Sheet}
-use Rattle.hk_sheet.specs.FirstForm.{IsSheetOf, IsOnlySheetOf, HasNoSheet}
+use Rattle.hk_sheet.specs.FirstForm.{IsOnlySheetOf, HasNoSheet}
 use Rattle.hk_top.specs.Jobs.{first_task, jobs, timings, loads}
 use Rattle.hk_top.specs.Schedule.{stay_of}
 use Rattle.hk_top.specs.Report.{response_of, busy_of, report}

@@ -1,11 +1,11 @@
 -- The two lines of the analysis, one behind the other.
-use Rattle.std.proofs.Common.{◌≡◌, ap, ◌∙◌, subst, ◌++◌, List, ℕ}
+use Rattle.std.proofs.Common.{◌≡◌, ap, ◌∙◌, ◌++◌, List, ℕ}
 use Rattle.std.proofs.lemmas.Result.{err_from_is_err_and, on_ok_weaker, on_err_weaker}
 use Rattle.hk_sheet.specs.declared.sheet.High.{High}
 use Rattle.hk_sheet.specs.declared.sheet.Sheet.{Sheet}
 use Rattle.hk_top.specs.Jobs.{first_task}
 use Rattle.hk_top.specs.Text.{heap_line, high_line}
-use Rattle.hk_top.specs.Report.{cycle_work, busy_of, response_of, analysis}
+use Rattle.hk_top.specs.Report.{cycle_work, busy_of, analysis}
 use Rattle.hk_top.proofs.Written.{prefix_first, front_two, prefix_two}
 use Rattle.hk_top.proofs.ReportLemmas.{analysis-parts}
 use Rattle.hk_top.proofs.report.write_analysis.Goals as goal

@@ -1,5 +1,5 @@
 -- The parts of the report, one behind the other.
-use Rattle.std.proofs.Common.{◌≡◌, ap, ◌∙◌, refl, ◌++◌, [], List, ℕ, append_assoc, sym, subst, arith}
+use Rattle.std.proofs.Common.{◌∙◌, refl, ◌++◌, append_assoc, sym}
 use Rattle.std.proofs.lemmas.Result.{err_from_is_err_and, on_ok_weaker, on_err_weaker}
 use Rattle.hk_io.proofs.BytesLemmas.{Appends-all, AppendsPrefix-rest}
 use Rattle.hk_top.specs.Report.{analysis, ticks_text, closing, report}

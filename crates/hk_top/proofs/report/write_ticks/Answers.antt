@@ -1,6 +1,6 @@
 -- The text of one tick behind another.
-use Rattle.std.proofs.Common.{◌≡◌, ap, ◌∙◌, refl, ◌++◌, [], List, ℕ, length, append-nil, sym, subst, arith, ◌<◌, ◌≤◌, ◌+◌}
-use Rattle.std.proofs.lemmas.Result.{err_from_is_err_and, on_ok_weaker, on_err_weaker}
+use Rattle.std.proofs.Common.{◌≡◌, ◌∙◌, refl, ◌++◌, [], append-nil, sym, subst, arith, ◌<◌}
+use Rattle.std.proofs.lemmas.Result.{err_from_is_err_and}
 use Rattle.hk_io.specs.Bytes.{AppendsFront}
 use Rattle.hk_io.proofs.BytesLemmas.{AppendsFront-none}
 use Rattle.hk_top.specs.Report.{ticks_text}

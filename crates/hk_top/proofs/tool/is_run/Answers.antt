@@ -1,7 +1,7 @@
 -- One word is `run` exactly where its bytes are.
-use Rattle.std.proofs.Common.{◌≡◌, ℕ, ◌<◌, ◌≤◌, Bool, true, List, [], ◌∷◌, length, map, get_or, sym, ap, ◌∙◌, arith, String, Global}
+use Rattle.std.proofs.Common.{◌≡◌, ◌<◌, ◌≤◌, Bool, true, List, [], ◌∷◌, length, map, get_or, sym, ap, ◌∙◌, arith, String, Global}
 use Rattle.std.proofs.lemmas.Slice.Eq.{bytes_eq-Decides}
-use Rattle.std.specs.Prelude.{codes, IsTrue, string_bytes}
+use Rattle.std.specs.Prelude.{codes, string_bytes}
 use Rattle.std.specs.Str.{bytes_eq}
 use Rattle.hk_top.proofs.tool.is_run.Goals as goal
 

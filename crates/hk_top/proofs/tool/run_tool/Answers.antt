@@ -1,8 +1,7 @@
 -- What the parts answer is what the program answers.
-use Rattle.std.proofs.Common.{◌≡◌, ◌≤◌, ℕ, List, ap, ◌∙◌, refl, sym, subst, inl, inr, Err, Option, length, arith}
+use Rattle.std.proofs.Common.{◌≡◌, ◌≤◌, ℕ, List, ap, refl, sym, subst, inl, inr, Err, Option, length, arith}
 use Rattle.std.specs.Prelude.{IfSome}
 use Rattle.hk_io.specs.declared.whole.TheConstants.{MAX_INPUT}
-use Rattle.hk_sheet.specs.FirstForm.{HasNoSheet, IsSheetOf}
 use Rattle.hk_top.specs.Report.{report}
 use Rattle.hk_top.specs.Text.{not_built_line}
 use Rattle.hk_top.proofs.ToolLemmas.{IsReportOf-read, IsUnfit-refused, IsUnfit-long, Done-complete, NotBuilt-complete}

@@ -1,0 +1,4 @@
+pub mod Event
+pub mod State
+pub mod Step
+pub mod Begin

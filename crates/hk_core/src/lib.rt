@@ -1,0 +1,12 @@
+//! The heap's row of words, and the operations of the tasks on it, place by place.
+#![tactic(auto)]
+
+mod event;
+mod flight;
+mod outcome;
+mod spot;
+
+pub use event::Event;
+pub use flight::Flight;
+pub use outcome::{Fault, Outcome, Step};
+pub use spot::{Line, Spot, Stage, Work};

@@ -1,6 +1,6 @@
 -- The packed words of the heap. Each word is made of fields, from its lowest bit up, and the last field takes the
 -- bits that are left of 64.
-use Rattle.std.specs.Prelude.{◌≡◌, ◌≢◌, ℕ, ◌+◌, ◌-◌, ◌*◌, ◌/◌, ◌%◌, ◌^◌, ◌<◌}
+use Rattle.std.specs.Prelude.{◌≡◌, ◌≢◌, ℕ, ◌+◌, ◌-◌, ◌*◌, ◌/◌, ◌%◌, ◌^◌}
 
 -- the field of so many bits above so many lower bits
 abbrev pub field_of : (below width word : ℕ) → ℕ
@@ -131,3 +131,27 @@ leaving = pack_header 1 0 0
 -- what making an object of so many words adds to W0
 abbrev pub raise_by : (words : ℕ) → ℕ
 raise_by words = pack_w0 words 1 0
+
+-- a word with these parts, as a reference
+pub record IsReference (word number' refs' nums' : ℕ) : Type 0 where
+  pub number : reference_number word ≡ number'
+  pub refs : reference_refs word ≡ refs'
+  pub nums : reference_nums word ≡ nums'
+
+-- a word with these parts, as a header
+pub record IsHeader (word accessors' place' version' : ℕ) : Type 0 where
+  pub accessors : header_accessors word ≡ accessors'
+  pub place : header_place word ≡ place'
+  pub version : header_version word ≡ version'
+
+-- a word with these parts, as a frame word
+pub record IsFrame (word accessors' cycle' version' : ℕ) : Type 0 where
+  pub accessors : frame_accessors word ≡ accessors'
+  pub cycle : frame_cycle word ≡ cycle'
+  pub version : frame_version word ≡ version'
+
+-- a word with these parts, as W0
+pub record IsW0 (word words' objects' cycle' : ℕ) : Type 0 where
+  pub words : w0_words word ≡ words'
+  pub objects : w0_objects word ≡ objects'
+  pub cycle : w0_cycle word ≡ cycle'

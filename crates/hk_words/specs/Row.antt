@@ -1,5 +1,5 @@
 -- The row of words: what stands where.
-use Rattle.std.specs.Prelude.{◌≡◌, ℕ, ◌+◌, ◌-◌, ◌*◌, ◌<◌, ◌≤◌}
+use Rattle.std.specs.Prelude.{ℕ, ◌+◌, ◌-◌, ◌*◌, ◌/◌, ◌%◌, ◌<◌, ◌≤◌, List, slice_index, slice_set, nat_lt, if◌then◌else◌}
 use Rattle.hk_words.specs.declared.geometry.Geometry.{Geometry}
 use Rattle.hk_words.specs.Geometry.{tasks, numbers, list_length, space_words, marks_from, frames_from, registers_from, lists_from, spaces_from}
 
@@ -56,10 +56,10 @@ frame_at g seat = frames_from g + seat
 
 -- the registers stand seat by seat
 abbrev pub register_at : Geometry → ℕ → ℕ → ℕ
-register_at g seat reg = registers_from g + (g.registers * seat + reg)
+register_at g seat reg = registers_from g + (seat * g.registers + reg)
 
 abbrev pub entry_at : Geometry → ℕ → ℕ → ℕ
-entry_at g list entry = lists_from g + (list_length g * list + entry)
+entry_at g list entry = lists_from g + (list * list_length g + entry)
 
 abbrev pub space_at : Geometry → ℕ → ℕ
 space_at g place = spaces_from g + (place - 1)
@@ -74,6 +74,28 @@ index_of g (Frame seat) = frame_at g seat
 index_of g (Register seat reg) = register_at g seat reg
 index_of g (Entry list entry) = entry_at g list entry
 index_of g (Space place) = space_at g place
+
+-- the slot at an index of the row
+unfoldable pub slot_at : Geometry → ℕ → Slot
+slot_at g index =
+    if nat_lt index 1 then W0
+    else if nat_lt index 2 then W1
+    else if nat_lt index (marks_from g) then Header (index - 2)
+    else if nat_lt index (frames_from g) then Mark (index - marks_from g)
+    else if nat_lt index (registers_from g) then Frame (index - frames_from g)
+    else if nat_lt index (lists_from g) then
+        Register ((index - registers_from g) / g.registers) ((index - registers_from g) % g.registers)
+    else if nat_lt index (spaces_from g) then
+        Entry ((index - lists_from g) / list_length g) ((index - lists_from g) % list_length g)
+    else Space (index - spaces_from g + 1)
+
+-- the word of a slot
+abbrev pub word_of : Geometry → List ℕ → Slot → ℕ
+word_of g row slot = slice_index row (index_of g slot)
+
+-- the row with another word at a slot
+abbrev pub with_word : Geometry → List ℕ → Slot → ℕ → List ℕ
+with_word g row slot word = slice_set row (index_of g slot) word
 
 -- the place of a word of a space, and of a word of the part for allocation of a space
 abbrev pub place_at : Geometry → (space word : ℕ) → ℕ

@@ -1,3 +1,5 @@
+ghost use Rattle.std.specs.Prelude.{◌≡◌, ◌↔◌, IsTrue};
+
 use crate::Shape;
 
 /// A call of a task on the heap. Registers are the calling task's own; a field counts within its part of the
@@ -22,6 +24,47 @@ pub enum Call {
     Same { a: u8, b: u8 },
     /// Asks whether a register is null.
     IsNull { reg: u8 },
+}
+
+impl Call {
+    ghost use Rattle.hk_words.specs.Calls.{entered, target, RegistersFit};
+
+    /// The register whose object the call goes through.
+    pub fn entered(&self) -> Option<u8>
+        ensures { result ≡ entered self.now }
+    {
+        match *self {
+            Call::Get { reg, .. } | Call::Put { reg, .. } | Call::Load { reg, .. } | Call::Store { reg, .. } => Some(reg),
+            Call::Move { .. } | Call::Clear { .. } | Call::New { .. } | Call::Same { .. } | Call::IsNull { .. } => None,
+        }
+    }
+
+    /// The register that the call writes.
+    pub fn target(&self) -> Option<u8>
+        ensures { result ≡ target self.now }
+    {
+        match *self {
+            Call::Load { dest, .. } | Call::Move { dest, .. } | Call::Clear { dest } | Call::New { dest, .. } => Some(dest),
+            Call::Get { .. } | Call::Put { .. } | Call::Store { .. } | Call::Same { .. } | Call::IsNull { .. } => None,
+        }
+    }
+
+    /// Whether each register of the call is one of so many, and the one that it writes isn't register 0, which holds
+    /// the board for good.
+    pub fn registers_fit(&self, registers: u8) -> bool
+        ensures { IsTrue result ↔ RegistersFit registers self.now }
+    {
+        let is_read = |reg: u8| reg < registers;
+        let is_written = |reg: u8| 0 < reg && reg < registers;
+        match *self {
+            Call::Get { reg, .. } | Call::Put { reg, .. } | Call::IsNull { reg } => is_read(reg),
+            Call::Load { dest, reg, .. } => is_written(dest) && is_read(reg),
+            Call::Store { reg, from, .. } => is_read(reg) && is_read(from),
+            Call::Move { dest, from } => is_written(dest) && is_read(from),
+            Call::Clear { dest } | Call::New { dest, .. } => is_written(dest),
+            Call::Same { a, b } => is_read(a) && is_read(b),
+        }
+    }
 }
 
 /// What a call answers.

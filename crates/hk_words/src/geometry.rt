@@ -63,7 +63,7 @@ pub struct Geometry {
 }
 
 impl Geometry {
-    ghost use Rattle.hk_words.specs.Geometry.{Sizes, first_error, HasSizes, numbers, row_length};
+    ghost use Rattle.hk_words.specs.Geometry.{Sizes, first_error, HasSizes, tasks, numbers, row_length};
 
     /// The geometry of these sizes and tasks, or the first reason in the order of [`GeoError`] why there is none.
     /// The last two numbers are the reference fields and the number fields of the board.
@@ -107,5 +107,78 @@ impl Geometry {
             registers: REGISTERS,
             board,
         })
+    }
+
+    /// The words of a space for evacuation.
+    pub fn live(&self) -> u32
+        ensures { result ≡ self.now.live }
+    {
+        self.live
+    }
+
+    /// The words of a space for allocation.
+    pub fn alloc(&self) -> u32
+        ensures { result ≡ self.now.alloc }
+    {
+        self.alloc
+    }
+
+    /// The words for allocation that are kept for the high tasks.
+    pub fn reserve(&self) -> u32
+        ensures { result ≡ self.now.reserve }
+    {
+        self.reserve
+    }
+
+    /// The high tasks. Their seats come first.
+    pub fn high(&self) -> u8
+        ensures { result ≡ self.now.high }
+    {
+        self.high
+    }
+
+    /// The low tasks. Their seats come after those of the high tasks.
+    pub fn low(&self) -> u8
+        ensures { result ≡ self.now.low }
+    {
+        self.low
+    }
+
+    /// The high and the low tasks, each with a seat of its number.
+    pub fn tasks(&self) -> u8
+        ensures { result ≡ tasks self.now }
+    {
+        self.high + self.low
+    }
+
+    /// The registers of a task.
+    pub fn registers(&self) -> u8
+        ensures { result ≡ self.now.registers }
+    {
+        self.registers
+    }
+
+    /// The shape of the board, the object that register 0 of each task refers to.
+    pub fn board(&self) -> Shape
+        ensures { result ≡ self.now.board }
+    {
+        self.board
+    }
+
+    /// How many objects there can be at once, each with a number of its own.
+    pub fn numbers(&self) -> u32
+        ensures { result ≡ numbers self.now }
+    {
+        self.live / 2 + self.alloc
+    }
+
+    /// The words of the row.
+    pub fn words(&self) -> u32
+        ensures { result ≡ row_length self.now }
+    {
+        let tasks = u32::from(self.tasks());
+        let spaces = 2 * (self.live + self.alloc);
+        let lists = 2 * (self.alloc / 2);
+        2 + 2 * self.numbers() + tasks + u32::from(self.registers) * tasks + lists + spaces
     }
 }

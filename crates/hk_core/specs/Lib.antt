@@ -4,3 +4,7 @@ pub mod Step
 pub mod Begin
 pub mod Collect
 pub mod Run
+pub mod Counts
+pub mod View
+pub mod Flights
+pub mod Lines

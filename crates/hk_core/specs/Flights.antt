@@ -1,5 +1,5 @@
 -- What a flight is in the middle of. Each of these is a table on calls and places.
-use Rattle.std.specs.Prelude.{◌≡◌, ℕ, ◌+◌, ◌*◌, ◌%◌, nat_eq, nat_le, Bool, true, false, not, ◌&&◌, ◌||◌, if◌then◌else◌}
+use Rattle.std.specs.Prelude.{◌≡◌, ℕ, ◌+◌, ◌*◌, ◌%◌, ◌≤◌, Option, Some, None, nat_eq, nat_le, Bool, true, false, not, ◌&&◌, ◌||◌, if◌then◌else◌}
 use Rattle.hk_words.specs.declared.geometry.Geometry.{Geometry}
 use Rattle.hk_words.specs.declared.call.Call.{Call}
 use Rattle.hk_words.specs.declared.call.Call.TheVariants.{Get, Put, Load, Store, Move, Clear, New, Same, IsNull}
@@ -205,9 +205,20 @@ has_claimed f = has_claimed_at f.call f.place && not (nat_eq f.item 0)
 -- A claim in hand: whoever claimed an object has still to reserve its place, or has reserved one that fits and has
 -- still to write the link word there. It has the reference, the cycle of the claim, and the offset.
 pub data Hand : Type 0 where
-  empty : Hand
-  claimed : (item cycle : ℕ) → Hand
-  reserved : (item cycle offset : ℕ) → Hand
+  no_claim : Hand
+  to_reserve : (item cycle : ℕ) → Hand
+  to_link : (item cycle offset : ℕ) → Hand
+
+-- a claim in hand that has still to reserve, and the reference of a claim in hand
+unfoldable pub is_to_reserve : Hand → Bool
+is_to_reserve no_claim = false
+is_to_reserve (to_reserve item cycle) = true
+is_to_reserve (to_link item cycle offset) = false
+
+unfoldable pub item_in : Hand → Option ℕ
+item_in no_claim = None
+item_in (to_reserve item cycle) = Some item
+item_in (to_link item cycle offset) = Some item
 
 -- the places at which a claimer has still to reserve, and to link
 unfoldable pub reserves_at : Call → ℕ → Bool
@@ -235,9 +246,9 @@ links_at (IsNull reg) place = false
 -- the claim that a flight has in hand
 unfoldable pub hand_of_flight : Geometry → Flight → Hand
 hand_of_flight g f =
-    if f.claimer && reserves_at f.call f.place then claimed f.item (w0_cycle f.word)
-    else if f.claimer && (links_at f.call f.place && reserved_fits g f.offset f.item) then reserved f.item (w0_cycle f.word) f.offset
-    else empty
+    if f.claimer && reserves_at f.call f.place then to_reserve f.item (w0_cycle f.word)
+    else if f.claimer && (links_at f.call f.place && reserved_fits g f.offset f.item) then to_link f.item (w0_cycle f.word) f.offset
+    else no_claim
 
 -- New.
 
@@ -308,3 +319,28 @@ objects_before f = w0_objects f.word
 -- the call has loaded W0, or has raised it, and is inside its frame
 unfoldable pub has_cycle_in_frame : Flight → Bool
 has_cycle_in_frame f = is_load_at 4 10 f.call f.place || has_raised f
+
+-- where a New is with W0: at its first place it hasn't found too few words yet, and up to its third it hasn't raised W0;
+-- from its fourth place on it has raised W0, unless it found too few words before. No other call is full or raises W0
+pub record IsNewInStep (place : ℕ) (full raised : Bool) : Type 0 where
+  pub not_full_yet : place ≤ 1 → full ≡ false
+  pub not_raised_yet : place ≤ 3 → raised ≡ false
+  pub raised_by_then : 4 ≤ place → full ≡ false → raised ≡ true
+
+pub record IsNoNew (full raised : Bool) : Type 0 where
+  pub not_full : full ≡ false
+  pub not_raised : raised ≡ false
+
+abbrev pub IsInStepAt : Call → ℕ → Bool → Bool → Type 0
+IsInStepAt (Get reg field) place full raised = IsNoNew full raised
+IsInStepAt (Put reg field value) place full raised = IsNoNew full raised
+IsInStepAt (Load dest reg field) place full raised = IsNoNew full raised
+IsInStepAt (Store reg field from) place full raised = IsNoNew full raised
+IsInStepAt (Move dest from) place full raised = IsNoNew full raised
+IsInStepAt (Clear dest) place full raised = IsNoNew full raised
+IsInStepAt (New dest shape) place full raised = IsNewInStep place full raised
+IsInStepAt (Same a b) place full raised = IsNoNew full raised
+IsInStepAt (IsNull reg) place full raised = IsNoNew full raised
+
+abbrev pub IsInStep : Flight → Type 0
+IsInStep f = IsInStepAt f.call f.place f.full f.raised

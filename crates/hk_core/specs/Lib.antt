@@ -8,3 +8,6 @@ pub mod Counts
 pub mod View
 pub mod Flights
 pub mod Lines
+pub mod Colours
+pub mod Facts
+pub mod Lawful

@@ -1,5 +1,5 @@
 -- What the collector is in the middle of. Each of these is a table on lines and stages.
-use Rattle.std.specs.Prelude.{ℕ, ◌+◌, ◌-◌, ◌*◌, ◌<◌, Bool, true, false, ⊤, Option, Some, None, if◌then◌else◌}
+use Rattle.std.specs.Prelude.{◌≡◌, ℕ, ◌+◌, ◌-◌, ◌*◌, ◌<◌, ◌≤◌, Bool, true, false, ⊤, Option, Some, None, if◌then◌else◌}
 use Rattle.hk_words.specs.declared.geometry.Geometry.{Geometry}
 use Rattle.hk_words.specs.Geometry.{tasks, numbers, list_length, space_words}
 use Rattle.hk_core.specs.declared.spot.Spot.{Spot}
@@ -8,7 +8,7 @@ use Rattle.hk_core.specs.declared.spot.Line.TheVariants as line
 use Rattle.hk_core.specs.declared.spot.Stage.{Stage}
 use Rattle.hk_core.specs.declared.spot.Stage.TheVariants as stage
 use Rattle.hk_core.specs.Step.{reference_size}
-use Rattle.hk_core.specs.Flights.{Hand, empty, claimed, reserved}
+use Rattle.hk_core.specs.Flights.{Hand, no_claim, to_reserve, to_link}
 
 -- the collector rests
 unfoldable pub is_resting : Line → Bool
@@ -43,6 +43,23 @@ is_marking (line.PassHead n) = true
 is_marking (line.Sweep n stage) = false
 is_marking (line.Clear i) = false
 is_marking line.Reset = false
+
+-- the collector looks for objects or sweeps
+unfoldable pub is_sweeping_or_marking : Line → Bool
+is_sweeping_or_marking line.Rest = false
+is_sweeping_or_marking (line.Frame s) = true
+is_sweeping_or_marking (line.Register s r stage) = true
+is_sweeping_or_marking (line.FrameTrade s) = true
+is_sweeping_or_marking line.Scan = true
+is_sweeping_or_marking line.Link = true
+is_sweeping_or_marking line.Look = true
+is_sweeping_or_marking (line.Cell i stage) = true
+is_sweeping_or_marking line.ObjectTrade = true
+is_sweeping_or_marking (line.Pass n) = true
+is_sweeping_or_marking (line.PassHead n) = true
+is_sweeping_or_marking (line.Sweep n stage) = true
+is_sweeping_or_marking (line.Clear i) = false
+is_sweeping_or_marking line.Reset = false
 
 -- how many frames were blackened, from seat 0 on; nothing is said of them from the sweep on
 unfoldable pub frames_done : Geometry → Line → ℕ
@@ -124,29 +141,29 @@ has_reference line.Reset = false
 
 -- the claim that the collector has in hand at a stage
 unfoldable pub hand_at : Spot → Stage → Hand
-hand_at t stage.Read = empty
-hand_at t stage.Claim = empty
-hand_at t stage.Reserve = claimed t.cell t.cycle
-hand_at t stage.Tie = reserved t.cell t.cycle t.offset
-hand_at t stage.Write = empty
-hand_at t stage.Mark = empty
-hand_at t stage.Empty = empty
+hand_at t stage.Read = no_claim
+hand_at t stage.Claim = no_claim
+hand_at t stage.Reserve = to_reserve t.cell t.cycle
+hand_at t stage.Tie = to_link t.cell t.cycle t.offset
+hand_at t stage.Write = no_claim
+hand_at t stage.Mark = no_claim
+hand_at t stage.Empty = no_claim
 
 unfoldable pub hand_at_line : Spot → Line → Hand
-hand_at_line t line.Rest = empty
-hand_at_line t (line.Frame s) = empty
+hand_at_line t line.Rest = no_claim
+hand_at_line t (line.Frame s) = no_claim
 hand_at_line t (line.Register s r stage) = hand_at t stage
-hand_at_line t (line.FrameTrade s) = empty
-hand_at_line t line.Scan = empty
-hand_at_line t line.Link = empty
-hand_at_line t line.Look = empty
+hand_at_line t (line.FrameTrade s) = no_claim
+hand_at_line t line.Scan = no_claim
+hand_at_line t line.Link = no_claim
+hand_at_line t line.Look = no_claim
 hand_at_line t (line.Cell i stage) = hand_at t stage
-hand_at_line t line.ObjectTrade = empty
-hand_at_line t (line.Pass n) = empty
-hand_at_line t (line.PassHead n) = empty
-hand_at_line t (line.Sweep n stage) = empty
-hand_at_line t (line.Clear i) = empty
-hand_at_line t line.Reset = empty
+hand_at_line t line.ObjectTrade = no_claim
+hand_at_line t (line.Pass n) = no_claim
+hand_at_line t (line.PassHead n) = no_claim
+hand_at_line t (line.Sweep n stage) = no_claim
+hand_at_line t (line.Clear i) = no_claim
+hand_at_line t line.Reset = no_claim
 
 unfoldable pub hand_of_spot : Spot → Hand
 hand_of_spot t = hand_at_line t t.line
@@ -399,6 +416,36 @@ most_spent g t (line.PassHead n) = None
 most_spent g t (line.Sweep n stage) = None
 most_spent g t (line.Clear i) = None
 most_spent g t line.Reset = None
+
+-- Where the sweep is with its list, of so many entries: while it looks for a number, and as it writes one, there is room
+-- on the list, and the number that it writes wasn't claimed; after that the number is the last entry, and first it isn't
+-- marked yet. The sweep begins with no entry, and once it is over the list is full.
+abbrev pub InStepAt : (length cycle entries : ℕ) → (mark next : ℕ → ℕ) → (number : ℕ) → Stage → Type 0
+InStepAt length cycle entries mark next number stage.Read = entries < length
+InStepAt length cycle entries mark next number stage.Claim = ⊤
+InStepAt length cycle entries mark next number stage.Reserve = ⊤
+InStepAt length cycle entries mark next number stage.Tie = ⊤
+InStepAt length cycle entries mark next number stage.Write = (entries < length) × (mark number < cycle)
+InStepAt length cycle entries mark next number stage.Mark =
+    (0 < entries) × (entries ≤ length) × (next (entries - 1) ≡ number) × (mark number < cycle)
+InStepAt length cycle entries mark next number stage.Empty =
+    (0 < entries) × (entries ≤ length) × (next (entries - 1) ≡ number)
+
+abbrev pub InStep : (length cycle entries : ℕ) → (mark next : ℕ → ℕ) → Line → Type 0
+InStep length cycle entries mark next line.Rest = ⊤
+InStep length cycle entries mark next (line.Frame s) = entries ≡ 0
+InStep length cycle entries mark next (line.Register s r stage) = entries ≡ 0
+InStep length cycle entries mark next (line.FrameTrade s) = entries ≡ 0
+InStep length cycle entries mark next line.Scan = entries ≡ 0
+InStep length cycle entries mark next line.Link = entries ≡ 0
+InStep length cycle entries mark next line.Look = entries ≡ 0
+InStep length cycle entries mark next (line.Cell i stage) = entries ≡ 0
+InStep length cycle entries mark next line.ObjectTrade = entries ≡ 0
+InStep length cycle entries mark next (line.Pass n) = entries ≡ 0
+InStep length cycle entries mark next (line.PassHead n) = entries ≡ 0
+InStep length cycle entries mark next (line.Sweep n stage) = InStepAt length cycle entries mark next n stage
+InStep length cycle entries mark next (line.Clear i) = entries ≡ length
+InStep length cycle entries mark next line.Reset = entries ≡ length
 
 -- The stages that a line can have, and the numbers that it names.
 

@@ -11,3 +11,6 @@ pub mod Lines
 pub mod Colours
 pub mod Facts
 pub mod Lawful
+pub mod Reach
+pub mod Stands
+pub mod Fits

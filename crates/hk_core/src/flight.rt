@@ -1,4 +1,15 @@
-use hk_words::Call;
+ghost use Rattle.std.specs.Prelude.{◌≡◌, ◌≢◌, ℕ, ◌+◌, ◌*◌, ◌/◌, ◌%◌, ◌^◌, ◌<◌, ◌≤◌};
+ghost use Rattle.hk_words.specs.Geometry.{space_words};
+ghost use Rattle.hk_words.specs.Row.{place_at};
+ghost use Rattle.hk_core.specs.Step.{reference_size, reserved_fits};
+ghost use Rattle.hk_core.specs.State.{idle};
+
+use hk_words::{
+    Call, ENTER, Geometry, LEAVE, Reply, Shape, header_place, pack_header, pack_reference, raise_by,
+    reference_number, reference_nums, reference_refs, w0_cycle, w0_objects, w0_words,
+};
+
+use crate::{Event, Outcome, Step};
 
 /// The call of a seat in flight: its next place, and the values that it has read. A seat that has no call in flight
 /// is idle: its flight has place 0, and every other field but the seat says nothing.
@@ -27,4 +38,52 @@ pub struct Flight {
     /// A New that has raised W0. One that found too few words before it raised W0 changes nothing more; one that
     /// found too few words in the raise has entered its frame and leaves it.
     pub raised: bool,
+}
+
+/// The words of the object that a reference names.
+pub fn reference_size(reference: u64) -> u32
+    ensures { result ≡ reference_size reference }
+{
+    1 + u32::from(reference_refs(reference)) + u32::from(reference_nums(reference))
+}
+
+/// What was reserved at an offset, for the object that a reference names, ends in the area for evacuation.
+pub fn reserved_fits(g: &Geometry, offset: u64, reference: u64) -> bool
+    ensures { result ≡ reserved_fits g.now offset reference }
+{
+    match offset.checked_add(u64::from(reference_size(reference))) {
+        Some(end) => end <= u64::from(g.live()),
+        None => false,
+    }
+}
+
+/// The place of a word of a space.
+pub fn place_at(g: &Geometry, space: u8, word: u32) -> u32
+    requires space { space < 2 }
+    requires word { word < space_words g.now }
+    ensures { result ≡ place_at g.now space word }
+{
+    1 + u32::from(space) * (g.live() + g.alloc()) + word
+}
+
+impl Flight {
+    /// The flight of a seat that has no call in flight.
+    pub fn idle(seat: u8) -> Flight
+        ensures { result ≡ idle seat }
+    {
+        Flight {
+            seat,
+            call: Call::Clear { dest: 0 },
+            place: 0,
+            entered: 0,
+            at: 0,
+            word: 0,
+            item: 0,
+            claimer: false,
+            offset: 0,
+            number: 0,
+            full: false,
+            raised: false,
+        }
+    }
 }

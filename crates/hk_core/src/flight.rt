@@ -1,15 +1,10 @@
-ghost use Rattle.std.specs.Prelude.{◌≡◌, ◌≢◌, ℕ, ◌+◌, ◌*◌, ◌/◌, ◌%◌, ◌^◌, ◌<◌, ◌≤◌};
+ghost use Rattle.std.specs.Prelude.{◌≡◌, ◌+◌, ◌*◌, ◌<◌};
 ghost use Rattle.hk_words.specs.Geometry.{space_words};
 ghost use Rattle.hk_words.specs.Row.{place_at};
 ghost use Rattle.hk_core.specs.Step.{reference_size, reserved_fits};
 ghost use Rattle.hk_core.specs.State.{idle};
 
-use hk_words::{
-    Call, ENTER, Geometry, LEAVE, Reply, Shape, header_place, pack_header, pack_reference, raise_by,
-    reference_number, reference_nums, reference_refs, w0_cycle, w0_objects, w0_words,
-};
-
-use crate::{Event, Outcome, Step};
+use hk_words::{Call, Geometry, reference_nums, reference_refs};
 
 /// The call of a seat in flight: its next place, and the values that it has read. A seat that has no call in flight
 /// is idle: its flight has place 0, and every other field but the seat says nothing.
@@ -68,6 +63,7 @@ pub fn place_at(g: &Geometry, space: u8, word: u32) -> u32
 
 impl Flight {
     /// The flight of a seat that has no call in flight.
+    #[tactic(auto, unfolding(crate::specs::State::idle))]
     pub fn idle(seat: u8) -> Flight
         ensures { result ≡ idle seat }
     {

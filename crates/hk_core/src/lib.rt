@@ -1,10 +1,12 @@
 //! The heap's row of words, and the operations of the tasks on it, place by place.
 #![tactic(auto)]
 
+mod decide;
 mod event;
 mod flight;
 mod outcome;
 mod spot;
+mod took;
 
 pub use event::Event;
 pub use flight::Flight;

@@ -1,0 +1,7 @@
+pub mod Effects
+pub mod Heaps
+pub mod Histories
+pub mod Lists
+pub mod Replies
+pub mod Updates
+pub mod Views

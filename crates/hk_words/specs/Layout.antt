@@ -2,6 +2,10 @@
 -- bits that are left of 64.
 use Rattle.std.specs.Prelude.{◌≡◌, ◌≢◌, ℕ, ◌+◌, ◌-◌, ◌*◌, ◌/◌, ◌%◌, ◌^◌}
 
+-- the lowest field of a word, of so many bits
+abbrev pub first_field : (width word : ℕ) → ℕ
+first_field width word = word % 2 ^ width
+
 -- the field of so many bits above so many lower bits
 abbrev pub field_of : (below width word : ℕ) → ℕ
 field_of below width word = word / 2 ^ below % 2 ^ width
@@ -10,13 +14,11 @@ field_of below width word = word / 2 ^ below % 2 ^ width
 abbrev pub last_field : (below word : ℕ) → ℕ
 last_field below word = word / 2 ^ below
 
--- a field's value, at its place in a word
+-- a field's value, moved to its place in a word
 abbrev pub field_at : (below value : ℕ) → ℕ
 field_at below value = value * 2 ^ below
 
--- The widths of the fields, in bits.
-
--- a reference: one more than the object's number, and the fields of its shape
+-- the widths, in bits, of the fields of a reference: one more than the object's number, and the fields of its shape
 abbrev pub number_bits : ℕ
 number_bits = 20
 
@@ -26,8 +28,8 @@ refs_bits = 8
 abbrev pub nums_bits : ℕ
 nums_bits = 8
 
--- a header or a frame word: the accessors, the object's place or the cycle in which the frame was last blackened,
--- and the version
+-- the widths of the fields of a header or a frame word: the accessors, the object's place or the cycle in which the
+-- frame was last blackened, and the version
 abbrev pub accessors_bits : ℕ
 accessors_bits = 6
 
@@ -40,7 +42,7 @@ blackened_bits = 22
 abbrev pub version_bits : ℕ
 version_bits = 36
 
--- the first word of the row: the words used, the objects made, and the cycle
+-- the widths of the fields of W0: the words used, the objects made, and the cycle
 abbrev pub words_bits : ℕ
 words_bits = 24
 
@@ -52,7 +54,7 @@ cycle_bits = 20
 
 -- a reference's parts; null is the word 0
 abbrev pub reference_number : ℕ → ℕ
-reference_number word = field_of 0 number_bits word - 1
+reference_number word = first_field number_bits word - 1
 
 abbrev pub reference_refs : ℕ → ℕ
 reference_refs word = field_of number_bits refs_bits word
@@ -67,11 +69,11 @@ pack_reference number refs nums =
 
 -- a word names an object: its lowest field isn't 0
 abbrev pub NamesObject : ℕ → Type 0
-NamesObject word = field_of 0 number_bits word ≢ 0
+NamesObject word = first_field number_bits word ≢ 0
 
 -- an object's header: how many calls are inside it, where it is, and how often a call entered it
 abbrev pub header_accessors : ℕ → ℕ
-header_accessors word = field_of 0 accessors_bits word
+header_accessors word = first_field accessors_bits word
 
 abbrev pub header_place : ℕ → ℕ
 header_place word = field_of accessors_bits place_bits word
@@ -90,7 +92,7 @@ header_moved word place = pack_header (header_accessors word) place (header_vers
 -- a task's frame word: how many calls are inside the frame, the cycle in which it was last blackened, and how
 -- often a call entered it
 abbrev pub frame_accessors : ℕ → ℕ
-frame_accessors word = field_of 0 accessors_bits word
+frame_accessors word = first_field accessors_bits word
 
 abbrev pub frame_cycle : ℕ → ℕ
 frame_cycle word = field_of accessors_bits blackened_bits word
@@ -108,7 +110,7 @@ frame_blackened word cycle = pack_frame (frame_accessors word) cycle (frame_vers
 
 -- W0: the words used for allocation in this cycle, the objects made in it, and its number
 abbrev pub w0_words : ℕ → ℕ
-w0_words word = field_of 0 words_bits word
+w0_words word = first_field words_bits word
 
 abbrev pub w0_objects : ℕ → ℕ
 w0_objects word = field_of words_bits objects_bits word

@@ -84,9 +84,9 @@ slot_at g index =
     else if nat_lt index (frames_from g) then Mark (index - marks_from g)
     else if nat_lt index (registers_from g) then Frame (index - frames_from g)
     else if nat_lt index (lists_from g) then
-        Register ((index - registers_from g) / g.registers) ((index - registers_from g) % g.registers)
+    Register ((index - registers_from g) / g.registers) ((index - registers_from g) % g.registers)
     else if nat_lt index (spaces_from g) then
-        Entry ((index - lists_from g) / list_length g) ((index - lists_from g) % list_length g)
+    Entry ((index - lists_from g) / list_length g) ((index - lists_from g) % list_length g)
     else Space (index - spaces_from g + 1)
 
 -- the word of a slot
@@ -97,9 +97,10 @@ word_of g row slot = slice_index row (index_of g slot)
 abbrev pub with_word : Geometry → List ℕ → Slot → ℕ → List ℕ
 with_word g row slot word = slice_set row (index_of g slot) word
 
--- the place of a word of a space, and of a word of the part for allocation of a space
+-- the place of a word of a space
 abbrev pub place_at : Geometry → (space word : ℕ) → ℕ
 place_at g space word = 1 + space * space_words g + word
 
-abbrev pub allocated_at : Geometry → (space word : ℕ) → ℕ
-allocated_at g space word = place_at g space (g.live + word)
+-- a word of one of the two spaces
+abbrev pub IsSpaceWord : Geometry → (space word : ℕ) → Type 0
+IsSpaceWord g space word = (space < 2) × (word < space_words g)

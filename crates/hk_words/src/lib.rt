@@ -8,7 +8,15 @@ mod packing;
 mod row;
 mod shape;
 
-pub use call::{Call, Reply};
-pub use geometry::{GeoError, Geometry, MAX_TASKS, MAX_WORDS, MIN_ALLOC, REGISTERS};
-pub use packing::{ENTER, LEAVE, frame_accessors, frame_blackened, frame_cycle, frame_version, frame_laws, header_accessors, header_laws, header_moved, header_place, header_version, pack_frame, pack_header, pack_reference, pack_w0, raise_by, reference_laws, reference_number, reference_nums, reference_refs, w0_cycle, w0_laws, w0_objects, w0_words};
+pub use call::{Call, Reply, call_laws};
+pub use geometry::{
+    GeoError, Geometry, MAX_REGISTERS, MAX_TASKS, MAX_WORDS, MIN_ALLOC, MIN_REGISTERS, REGISTERS,
+};
+pub use packing::{
+    ENTER, LEAVE, frame_accessors, frame_blackened, frame_cycle, frame_laws, frame_version,
+    header_accessors, header_laws, header_moved, header_place, header_version, pack_frame,
+    pack_header, pack_reference, pack_w0, raise_by, reference_laws, reference_number,
+    reference_nums, reference_refs, w0_cycle, w0_laws, w0_objects, w0_words,
+};
+pub use row::row_laws;
 pub use shape::{MAX_FIELDS, Shape};

@@ -8,22 +8,32 @@ ghost use Rattle.hk_words.specs.Layout.{entering, leaving, raise_by};
 
 use crate::Shape;
 
-/// The widths in bits of the fields of a reference, from the lowest up.
+/// The bits of a reference for one more than the object's number, from the lowest on.
 const NUMBER_BITS: u32 = 20;
+
+/// The bits of a reference for the number of reference fields.
 const REFS_BITS: u32 = 8;
+
+/// The bits of a reference for the number of number fields.
 const NUMS_BITS: u32 = 8;
 
-/// The widths in bits of the fields of a header or a frame word, from the lowest up. The version has the rest.
+/// The bits of a header or a frame word for its accessors, from the lowest on. The version has the highest bits.
 const ACCESSORS_BITS: u32 = 6;
+
+/// The bits of a header for the place.
 const PLACE_BITS: u32 = 22;
+
+/// The bits of a frame word for the cycle in which the frame was last blackened.
 const BLACKENED_BITS: u32 = 22;
 
-/// The widths in bits of the fields of W0, from the lowest up. The cycle has the rest.
+/// The bits of W0 for the words used, from the lowest on. The cycle has the highest bits.
 const WORDS_BITS: u32 = 24;
+
+/// The bits of W0 for the objects made.
 const OBJECTS_BITS: u32 = 20;
 
 /// What a call adds to a header or a frame word as it enters: one accessor and one version.
-pub const ENTER: u64 = (1 << 28) + 1;
+pub const ENTER: u64 = (1 << (ACCESSORS_BITS + PLACE_BITS)) + 1;
 
 /// What a call takes from a header or a frame word as it leaves: one accessor.
 pub const LEAVE: u64 = 1;
@@ -76,7 +86,9 @@ pub fn pack_header(accessors: u8, place: u32, version: u64) -> u64
     requires version { version < 2 ^ version_bits }
     ensures { result ≡ pack_header accessors place version }
 {
-    u64::from(accessors) | u64::from(place) << ACCESSORS_BITS | version << (ACCESSORS_BITS + PLACE_BITS)
+    u64::from(accessors)
+        | u64::from(place) << ACCESSORS_BITS
+        | version << (ACCESSORS_BITS + PLACE_BITS)
 }
 
 /// How many calls are inside the object.
@@ -157,7 +169,9 @@ pub fn pack_w0(words: u32, objects: u32, cycle: u32) -> u64
     requires cycle { cycle < 2 ^ cycle_bits }
     ensures { result ≡ pack_w0 words objects cycle }
 {
-    u64::from(words) | u64::from(objects) << WORDS_BITS | u64::from(cycle) << (WORDS_BITS + OBJECTS_BITS)
+    u64::from(words)
+        | u64::from(objects) << WORDS_BITS
+        | u64::from(cycle) << (WORDS_BITS + OBJECTS_BITS)
 }
 
 /// The words used for allocation in this cycle.
@@ -201,11 +215,12 @@ pub fn reference_laws()
     ensures equal { (word other : ℕ) → NamesObject word → NamesObject other
         → word < 2 ^ (number_bits + refs_bits + nums_bits) → other < 2 ^ (number_bits + refs_bits + nums_bits)
         → (word ≡ other) ↔ IsReference word (reference_number other) (reference_refs other) (reference_nums other) }
-{
-}
+{}
 
 /// What holds of headers, whatever their parts. Entering and leaving change their own parts and nothing else.
 pub fn header_laws()
+    ensures entering { ENTER ≡ entering }
+    ensures leaving { LEAVE ≡ leaving }
     ensures unpacks { (accessors place version : ℕ) → accessors < 2 ^ accessors_bits → place < 2 ^ place_bits
         → IsHeader (pack_header accessors place version) accessors place version }
     ensures repacks { (word : ℕ) → pack_header (header_accessors word) (header_place word) (header_version word) ≡ word }
@@ -217,10 +232,11 @@ pub fn header_laws()
         → IsHeader (header_moved word place) (header_accessors word) place (header_version word) }
     ensures equal { (word other : ℕ)
         → (word ≡ other) ↔ IsHeader word (header_accessors other) (header_place other) (header_version other) }
+
+    // A word has 64 bits exactly where its last field fits.
     ensures fits { (word : ℕ) → (word < 2 ^ 64) ↔ (header_version word < 2 ^ version_bits) }
     ensures in_range { (word : ℕ) → (header_accessors word < 2 ^ accessors_bits) × (header_place word < 2 ^ place_bits) }
-{
-}
+{}
 
 /// What holds of frame words, whatever their parts. Entering and leaving change their own parts and nothing else.
 pub fn frame_laws()
@@ -235,10 +251,11 @@ pub fn frame_laws()
         → IsFrame (frame_blackened word cycle) (frame_accessors word) cycle (frame_version word) }
     ensures equal { (word other : ℕ)
         → (word ≡ other) ↔ IsFrame word (frame_accessors other) (frame_cycle other) (frame_version other) }
+
+    // A word has 64 bits exactly where its last field fits.
     ensures fits { (word : ℕ) → (word < 2 ^ 64) ↔ (frame_version word < 2 ^ version_bits) }
     ensures in_range { (word : ℕ) → (frame_accessors word < 2 ^ accessors_bits) × (frame_cycle word < 2 ^ blackened_bits) }
-{
-}
+{}
 
 /// What holds of W0, whatever its parts.
 pub fn w0_laws()
@@ -249,7 +266,117 @@ pub fn w0_laws()
         → IsW0 (word + raise_by words) (w0_words word + words) (w0_objects word + 1) (w0_cycle word) }
     ensures equal { (word other : ℕ)
         → (word ≡ other) ↔ IsW0 word (w0_words other) (w0_objects other) (w0_cycle other) }
+
+    // A word has 64 bits exactly where its last field fits.
     ensures fits { (word : ℕ) → (word < 2 ^ 64) ↔ (w0_cycle word < 2 ^ cycle_bits) }
     ensures in_range { (word : ℕ) → (w0_words word < 2 ^ words_bits) × (w0_objects word < 2 ^ objects_bits) }
-{
+{}
+
+#[cfg(test)]
+mod tests {
+    use super::*;
+    use std::test::Fail;
+
+    #[test]
+    fn references(rt: HostRuntime) -> Result<(), Fail> {
+        for (number, refs, nums, word) in [
+            (0, 2, 2, 538_968_065),
+            (0, 1, 0, 1_048_577),
+            (0, 0, 1, 268_435_457),
+            (0, 62, 0, 65_011_713),
+            (0, 0, 62, 16_642_998_273),
+            (1_048_574, 1, 0, 2_097_151),
+        ] {
+            let shape = Shape::new(refs, nums).ok_or("a shape")?;
+            assert_eq!(rt; pack_reference(number, shape), word);
+            let parts = (
+                reference_number(word),
+                reference_refs(word),
+                reference_nums(word),
+            );
+            assert_eq!(rt; parts, (number, refs, nums), "{word}");
+        }
+        assert_eq!(rt;
+            (reference_number(u64::MAX), reference_refs(u64::MAX)),
+            (1_048_574, 255)
+        );
+        assert_eq!(rt;
+            (
+                reference_refs(0),
+                reference_nums(0),
+                reference_nums(u64::MAX)
+            ),
+            (0, 0, 255)
+        );
+        Ok(())
+    }
+
+    /// The accessors, the place or the cycle, and the version; and the word that they are packed into.
+    const HEADERS: [(u8, u32, u64, u64); 7] = [
+        (1, 5, 3, 805_306_689),
+        (0, 0, 0, 0),
+        (63, 0, 0, 63),
+        (0, 4_194_303, 0, 268_435_392),
+        (0, 0, 1, 268_435_456),
+        (0, 0, 68_719_476_735, 18_446_744_073_441_116_160),
+        (63, 4_194_303, 68_719_476_735, u64::MAX),
+    ];
+
+    #[test]
+    fn headers(rt: HostRuntime) {
+        for (accessors, place, version, word) in HEADERS {
+            assert_eq!(rt; pack_header(accessors, place, version), word);
+            let parts = (
+                header_accessors(word),
+                header_place(word),
+                header_version(word),
+            );
+            assert_eq!(rt; parts, (accessors, place, version), "{word}");
+        }
+        assert_eq!(rt; header_moved(805_306_689, 9), 805_306_945);
+        assert_eq!(rt; header_moved(u64::MAX, 0), 18_446_744_073_441_116_223);
+    }
+
+    #[test]
+    fn frames(rt: HostRuntime) {
+        for (accessors, cycle, version, word) in HEADERS {
+            assert_eq!(rt; pack_frame(accessors, cycle, version), word);
+            let parts = (
+                frame_accessors(word),
+                frame_cycle(word),
+                frame_version(word),
+            );
+            assert_eq!(rt; parts, (accessors, cycle, version), "{word}");
+        }
+        assert_eq!(rt; frame_blackened(805_306_689, 9), 805_306_945);
+        assert_eq!(rt; frame_blackened(u64::MAX, 0), 18_446_744_073_441_116_223);
+    }
+
+    #[test]
+    fn first_words(rt: HostRuntime) {
+        for (words, objects, cycle, word) in [
+            (8, 2, 3, 52_776_591_687_688),
+            (0, 0, 1, 17_592_186_044_416),
+            (16_777_215, 0, 0, 16_777_215),
+            (0, 1_048_575, 0, 17_592_169_267_200),
+            (0, 0, 1_048_575, 18_446_726_481_523_507_200),
+            (16_777_215, 1_048_575, 1_048_575, u64::MAX),
+        ] {
+            assert_eq!(rt; pack_w0(words, objects, cycle), word);
+            assert_eq!(rt;
+                (w0_words(word), w0_objects(word), w0_cycle(word)),
+                (words, objects, cycle),
+                "{word}"
+            );
+        }
+    }
+
+    #[test]
+    fn amounts(rt: HostRuntime) {
+        assert_eq!(rt; (ENTER, LEAVE), (268_435_457, 1));
+        assert_eq!(rt;
+            (raise_by(2), raise_by(8), raise_by(63)),
+            (16_777_218, 16_777_224, 16_777_279)
+        );
+    }
 }

@@ -1,6 +1,8 @@
-ghost use Rattle.std.specs.Prelude.{◌≡◌, ℕ, ◌+◌, ◌*◌, ◌<◌, ◌≤◌};
-ghost use Rattle.hk_words.specs.Geometry.{tasks, numbers, list_length, marks_from, frames_from, registers_from, lists_from, spaces_from};
-ghost use Rattle.hk_words.specs.Row.{IsRegister, IsEntry, IsPlace, w0_at, w1_at, header_at, mark_at, frame_at, register_at, entry_at, space_at};
+ghost use Rattle.std.specs.Prelude.{◌≡◌, ℕ, ◌+◌, ◌*◌, ◌<◌, ◌≤◌, ◌≢◌, List, length};
+ghost use Rattle.hk_words.specs.declared.geometry.Geometry.{Geometry};
+ghost use Rattle.hk_words.specs.Geometry.{tasks, numbers, list_length, marks_from, frames_from, registers_from, lists_from, spaces_from, row_length};
+ghost use Rattle.hk_words.specs.Row.{IsRegister, IsEntry, IsPlace, w0_at, w1_at, header_at, mark_at, frame_at, register_at, entry_at, space_at, IsSpaceWord, place_at};
+ghost use Rattle.hk_words.specs.Row.{Slot, InRow, index_of, slot_at, word_of, with_word};
 
 use crate::Geometry;
 
@@ -96,5 +98,56 @@ impl Geometry {
         ensures { result ≡ space_at self.now place }
     {
         self.spaces_from() + (place - 1)
+    }
+
+    /// The place of a word of space 0 or space 1. In each space the words for evacuation come before those for
+    /// allocation. 0 is no place.
+    pub fn place_at(&self, space: u8, word: u32) -> u32
+        requires { IsSpaceWord self.now space word }
+        ensures { result ≡ place_at self.now space word }
+    {
+        1 + u32::from(space) * (self.live() + self.alloc()) + word
+    }
+}
+
+/// What holds of the row of each geometry: each slot has an index of its own in the row, each index is a slot's, and
+/// a write at a slot leaves the words of all others. The places of the words of the spaces differ too.
+pub fn row_laws()
+    ensures below { (g : Geometry) (slot : Slot) → InRow g slot → index_of g slot < row_length g }
+    ensures distinct { (g : Geometry) (a b : Slot) → InRow g a → InRow g b → index_of g a ≡ index_of g b → a ≡ b }
+    ensures found { (g : Geometry) (slot : Slot) → InRow g slot → slot_at g (index_of g slot) ≡ slot }
+    ensures covered { (g : Geometry) (index : ℕ) → index < row_length g
+        → InRow g (slot_at g index) × (index_of g (slot_at g index) ≡ index) }
+    ensures same { (g : Geometry) (row : List ℕ) (slot : Slot) (word : ℕ) → InRow g slot → length row ≡ row_length g
+        → word_of g (with_word g row slot word) slot ≡ word }
+    ensures other { (g : Geometry) (row : List ℕ) (a b : Slot) (word : ℕ) → InRow g a → InRow g b → a ≢ b
+        → word_of g (with_word g row a word) b ≡ word_of g row b }
+    ensures length { (g : Geometry) (row : List ℕ) (slot : Slot) (word : ℕ)
+        → length (with_word g row slot word) ≡ length row }
+    ensures places { (g : Geometry) (space word : ℕ) → IsSpaceWord g space word → IsPlace g (place_at g space word) }
+    ensures distinct_places { (g : Geometry) (s i t j : ℕ) → IsSpaceWord g s i → IsSpaceWord g t j
+        → place_at g s i ≡ place_at g t j → (s ≡ t) × (i ≡ j) }
+{}
+
+#[cfg(test)]
+mod tests {
+    use super::*;
+    use std::test::Fail;
+
+    #[test]
+    fn indexes(rt: HostRuntime) -> Result<(), Fail> {
+        let g = Geometry::new(256, 2048, 64, 3, 2, 5, 1)?;
+        assert_eq!(rt; (g.w0_at(), g.w1_at()), (0, 1));
+        assert_eq!(rt; (g.header_at(0), g.header_at(2175)), (2, 2177));
+        assert_eq!(rt; (g.mark_at(0), g.mark_at(2175)), (2178, 4353));
+        assert_eq!(rt; (g.frame_at(0), g.frame_at(4)), (4354, 4358));
+        assert_eq!(rt; (g.register_at(0, 0), g.register_at(0, 7)), (4359, 4366));
+        assert_eq!(rt; (g.register_at(1, 0), g.register_at(4, 7)), (4367, 4398));
+        assert_eq!(rt; (g.entry_at(0, 0), g.entry_at(0, 1023)), (4399, 5422));
+        assert_eq!(rt; (g.entry_at(1, 0), g.entry_at(1, 1023)), (5423, 6446));
+        assert_eq!(rt; (g.space_at(1), g.space_at(4608)), (6447, 11_054));
+        assert_eq!(rt; (g.place_at(0, 0), g.place_at(0, 2303)), (1, 2304));
+        assert_eq!(rt; (g.place_at(1, 0), g.place_at(1, 2303)), (2305, 4608));
+        Ok(())
     }
 }

@@ -5,7 +5,6 @@ use Rattle.hk_words.specs.declared.call.Call.{Call}
 use Rattle.hk_words.specs.declared.call.Call.TheVariants.{Get, Put, Load, Store, Move, Clear, New, Same, IsNull}
 use Rattle.hk_words.specs.Shape.{size}
 use Rattle.hk_words.specs.Layout.{reference_number, w0_words, w0_objects, w0_cycle}
-use Rattle.hk_words.specs.Row.{allocated_at}
 use Rattle.hk_core.specs.declared.flight.Flight.{Flight}
 use Rattle.hk_core.specs.Step.{side_of, reserved_fits}
 

@@ -1,12 +1,12 @@
 -- Lawful states: a state of the machine that is as the calls of a history, done one after another on the plain heap, say.
-use Rattle.std.specs.Prelude.{◌≡◌, ℕ, nat_lt, length, Option, Some, None, if◌then◌else◌}
+use Rattle.std.specs.Prelude.{ℕ, nat_lt, Option, if◌then◌else◌}
 use Rattle.hk_words.specs.declared.geometry.Geometry.{Geometry}
-use Rattle.hk_words.specs.Geometry.{tasks, row_length}
+use Rattle.hk_words.specs.Geometry.{tasks}
 use Rattle.hk_model.specs.Heap.{opening_of}
 use Rattle.hk_model.specs.History.{History, Legal}
 use Rattle.hk_core.specs.declared.flight.Flight.{Flight}
 use Rattle.hk_core.specs.declared.spot.Spot.{Spot}
-use Rattle.hk_core.specs.State.{State}
+use Rattle.hk_core.specs.State.{State, IsSized}
 use Rattle.hk_core.specs.Collect.{current_space, next_list}
 use Rattle.hk_core.specs.View.{Words, Names, Contents, words_of, names_of, contents_of, flight_at, begun_at, reference_at}
 use Rattle.hk_core.specs.Flights.{Hand, hand_of_flight}
@@ -128,12 +128,6 @@ pub record Facts (g : Geometry) (w : Words) (z : Spaces) (sh : Shades) (flight :
 abbrev pub FactsOf : Geometry → Words → (flight : ℕ → Flight) → (begun : ℕ → ℕ) → Spot → Names → Contents → (range : ℕ → Option ℕ) → Type 0
 FactsOf g w flight begun t names contents range =
     Facts g w (spaces_of g w.cycle) (shades_of g w flight t.line names) flight begun (hands_of g flight t) t names contents range
-
--- the parts of a state have the lengths of its geometry
-pub record IsSized (c : State) : Type 0 where
-  pub row : length c.row ≡ row_length c.geometry
-  pub flights : length c.flights ≡ tasks c.geometry
-  pub begun : length c.begun ≡ tasks c.geometry
 
 -- A state is lawful for a history where the history is legal, and for some ranges all facts hold of what the row, the
 -- flights, the begun calls and the spot say, and of the plain heap after the history.

@@ -1,5 +1,5 @@
 -- The state of the heap's machine.
-use Rattle.std.specs.Prelude.{◌≡◌, ℕ, ◌+◌, ◌-◌, ◌*◌, ◌/◌, ◌<◌, ◌≤◌, nat_lt, nat_eq, false, List, [], ◌∷◌, map, length, replicate, slice_index, slice_index_or, if◌then◌else◌}
+use Rattle.std.specs.Prelude.{◌≡◌, ℕ, ◌+◌, ◌*◌, length, nat_lt, nat_eq, false, List, [], ◌∷◌, map, replicate, slice_index_or, if◌then◌else◌}
 use Rattle.std.specs.List.{range_with_len}
 use Rattle.hk_words.specs.declared.geometry.Geometry.{Geometry}
 use Rattle.hk_words.specs.declared.call.Call.TheVariants.{Clear}
@@ -18,6 +18,12 @@ pub record State : Type 0 where
   pub flights : List Flight
   pub begun : List ℕ
   pub spot : Spot
+
+-- the parts of a state have the lengths of its geometry
+pub record IsSized (c : State) : Type 0 where
+  pub row : length c.row ≡ row_length c.geometry
+  pub flights : length c.flights ≡ tasks c.geometry
+  pub begun : length c.begun ≡ tasks c.geometry
 
 -- the flight of a seat that has no call in flight
 unfoldable pub idle : ℕ → Flight

@@ -10,7 +10,7 @@ use Rattle.hk_words.specs.declared.call.Reply.{Reply}
 use Rattle.hk_words.specs.declared.call.Reply.TheVariants.{Unit as NoValue, Num, Full as NoRoom}
 use Rattle.hk_words.specs.Shape.{size}
 use Rattle.hk_words.specs.Layout.{reference_number, reference_refs, reference_nums, pack_reference, header_place, pack_header, w0_words, w0_objects, w0_cycle, entering, leaving, raise_by}
-use Rattle.hk_words.specs.Row.{w0_at, w1_at, header_at, mark_at, frame_at, register_at, entry_at, space_at, place_at, allocated_at}
+use Rattle.hk_words.specs.Row.{w0_at, w1_at, header_at, mark_at, frame_at, register_at, entry_at, space_at, place_at}
 use Rattle.hk_model.specs.History.{Entry, History}
 use Rattle.hk_core.specs.declared.event.Event.{Event}
 use Rattle.hk_core.specs.declared.event.Event.TheVariants.{Load, Write, Add, Sub, Max}
@@ -110,7 +110,7 @@ load_entry g f = Some (Load (entry_at g (side_of f) (w0_objects f.word)))
 
 -- write the header of the new object: its place is the first of the words that the raise of W0 gave to the call
 abbrev pub new_place : Geometry → Flight → ℕ
-new_place g f = allocated_at g (side_of f) (w0_words f.word)
+new_place g f = place_at g (side_of f) (g.live + w0_words f.word)
 
 unfoldable pub write_header : Geometry → Flight → Option Event
 write_header g f = Some (Write (header_at g f.number) (pack_header 0 (new_place g f) 0))

@@ -2,7 +2,6 @@
 ghost use Rattle.std.specs.Prelude.{◌≡◌, ◌≢◌, ℕ, ◌+◌, ◌*◌, ◌%◌, ◌^◌, ◌<◌, ◌≤◌, ◌==◌, ◌&&◌, not};
 ghost use Rattle.hk_words.specs.Geometry.{tasks, numbers, list_length, space_words};
 ghost use Rattle.hk_words.specs.Layout.{reference_number, w0_words, w0_objects};
-ghost use Rattle.hk_words.specs.Row.{allocated_at};
 ghost use Rattle.hk_core.specs.Step as table;
 ghost use Rattle.hk_core.specs.Step.{event_of, reference_cell, number_cell, new_place, new_reference};
 ghost use Rattle.hk_core.specs.Fits.{Fits, CallFits, NamesNumber, IsInSpaces};
@@ -13,7 +12,7 @@ use hk_words::{
     w0_cycle, w0_objects, w0_words,
 };
 
-use crate::flight::{place_at, reference_size, reserved_fits};
+use crate::flight::{reference_size, reserved_fits};
 use crate::{Event, Flight};
 
 impl Flight {
@@ -245,7 +244,7 @@ impl Flight {
         ensures { result ≡ table.link g.now self.now }
     {
         if self.claimer && reserved_fits(g, self.offset, self.item) {
-            Some(Event::Write(g.space_at(place_at(g, self.side(), self.offset as u32)), self.item))
+            Some(Event::Write(g.space_at(g.place_at(self.side(), self.offset as u32)), self.item))
         } else {
             None
         }
@@ -289,7 +288,7 @@ impl Flight {
         requires words { w0_words self.now.word < g.now.alloc }
         ensures { result ≡ table.write_header g.now self.now }
     {
-        let place = place_at(g, self.side(), g.live() + w0_words(self.word));
+        let place = g.place_at(self.side(), g.live() + w0_words(self.word));
         Some(Event::Write(g.header_at(self.number), pack_header(0, place, 0)))
     }
 }

@@ -1,6 +1,4 @@
 ghost use Rattle.std.specs.Prelude.{◌≡◌, ◌+◌, ◌*◌, ◌<◌};
-ghost use Rattle.hk_words.specs.Geometry.{space_words};
-ghost use Rattle.hk_words.specs.Row.{place_at};
 ghost use Rattle.hk_core.specs.Step.{reference_size, reserved_fits};
 ghost use Rattle.hk_core.specs.State.{idle};
 
@@ -50,15 +48,6 @@ pub fn reserved_fits(g: &Geometry, offset: u64, reference: u64) -> bool
         Some(end) => end <= u64::from(g.live()),
         None => false,
     }
-}
-
-/// The place of a word of a space.
-pub fn place_at(g: &Geometry, space: u8, word: u32) -> u32
-    requires space { space < 2 }
-    requires word { word < space_words g.now }
-    ensures { result ≡ place_at g.now space word }
-{
-    1 + u32::from(space) * (g.live() + g.alloc()) + word
 }
 
 impl Flight {

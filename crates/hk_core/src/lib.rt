@@ -4,11 +4,14 @@
 mod decide;
 mod event;
 mod flight;
+mod machine;
 mod outcome;
 mod spot;
 mod took;
 
 pub use event::Event;
-pub use flight::Flight;
+pub use flight::{Flight, reference_size, reserved_fits};
+pub use hk_model::Memory;
+pub use machine::{Core, MAX_CALLS};
 pub use outcome::{Fault, Outcome, Step};
 pub use spot::{Line, Spot, Stage, Work};

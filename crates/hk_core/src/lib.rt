@@ -5,6 +5,7 @@ mod decide;
 mod event;
 mod flight;
 mod machine;
+mod opening;
 mod outcome;
 mod spot;
 mod took;

@@ -1,4 +1,4 @@
-ghost use Rattle.std.specs.Prelude.{◌≡◌, ◌↔◌, ◌<◌, IsTrue, false, IfNone, MatchResult, slice_index};
+ghost use Rattle.std.specs.Prelude.{◌≡◌, ◌↔◌, ◌<◌, IsTrue, false, IfNone, IfOk, MatchResult, slice_index};
 ghost use Rattle.hk_words.specs.Geometry.{tasks};
 ghost use Rattle.hk_words.specs.Layout.{w0_words, w0_cycle};
 ghost use Rattle.hk_words.specs.Row.{W0, W1, IsRegister, word_of};
@@ -15,6 +15,7 @@ use hk_words::{Call, Geometry, reference_nums, reference_refs, w0_cycle, w0_word
 use std::alloc::Global;
 use std::marker::Model;
 
+use crate::opening::{opening_begun, opening_flights, opening_row, opening_spot};
 use crate::{Event, Fault, Flight, Spot, Step};
 
 /// The calls that a seat can begin.
@@ -42,6 +43,21 @@ impl Model for Core {
 }
 
 impl Core {
+    /// The machine at the start: cycle 1, the board alone in the heap, every seat idle, and the collector at rest. Only
+    /// this call takes memory.
+    #[tactic(auto, unfolding(crate::specs::State::opening))]
+    pub fn open(alloc: Global, geometry: Geometry) -> Result<Core, Memory>
+        ensures { IfOk result (λ core. core ≡ opening geometry) }
+    {
+        Ok(Core {
+            geometry,
+            row: opening_row(alloc, &geometry)?,
+            flights: opening_flights(alloc, &geometry)?,
+            begun: opening_begun(alloc, &geometry)?,
+            spot: opening_spot(),
+        })
+    }
+
     /// The geometry that the machine was opened with. No call changes it.
     pub fn geometry(&self) -> Geometry
         ensures { result ≡ self.now.geometry }

@@ -7,7 +7,9 @@ use Rattle.hk_words.specs.declared.call.Call.TheVariants.{Get, Put, Load, Store,
 use Rattle.hk_words.specs.Geometry.{tasks, numbers, list_length, space_words}
 use Rattle.hk_words.specs.Layout.{NamesObject, reference_number, w0_words, w0_objects}
 use Rattle.hk_core.specs.declared.flight.Flight.{Flight}
-use Rattle.hk_core.specs.Step.{reference_cell, number_cell}
+use Rattle.hk_core.specs.Event.{CanFireIf}
+use Rattle.hk_core.specs.State.{State, flight_of}
+use Rattle.hk_core.specs.Step.{reference_cell, number_cell, event_by, found_by}
 
 -- a word names an object whose number is of the geometry
 pub record NamesNumber (g : Geometry) (word : ℕ) : Type 0 where
@@ -57,3 +59,9 @@ FindsNumber f (Store reg field from) old = ⊤
 FindsNumber f (New dest shape) old = f.place ≡ 4 → old < 2 ^ 32
 FindsNumber f (Same a b) old = ⊤
 FindsNumber f (IsNull reg) old = ⊤
+
+-- a seat of a state can step: its flight fits, its event may be fired, and it finds a number where it looks for one
+pub record CanStep (c : State) (seat : ℕ) : Type 0 where
+  pub flight : Fits c.geometry (flight_of c.flights seat)
+  pub event : CanFireIf c.row (event_by c seat)
+  pub finds : FindsNumber (flight_of c.flights seat) (flight_of c.flights seat).call (found_by c seat)

@@ -18,7 +18,7 @@ pub enum Event {
 }
 
 impl Event {
-    ghost use Rattle.std.specs.Prelude.{◌≡◌};
+    ghost use Rattle.std.specs.Prelude.{◌≡◌, ◌↔◌, IsTrue};
     ghost use Rattle.hk_core.specs.Event.{word_of, word_after, learnt_from, AmountFits};
 
     /// The index in the row of the word that the event is about.
@@ -33,6 +33,21 @@ impl Event {
             | Event::Sub(word, _)
             | Event::Max(word, _)
             | Event::Trade { word, .. } => word,
+        }
+    }
+
+    /// Whether the amount of the event, taken from or added to what the word was, gives a word.
+    pub fn amount_fits(&self, old: u64) -> bool
+        ensures { IsTrue result ↔ AmountFits self.now old }
+    {
+        match *self {
+            Event::Add(_, amount) => old <= u64::MAX - amount,
+            Event::Sub(_, amount) => amount <= old,
+            Event::Load(_)
+            | Event::Write(..)
+            | Event::Swap(..)
+            | Event::Max(..)
+            | Event::Trade { .. } => true,
         }
     }
 

@@ -1,14 +1,14 @@
 ghost use Rattle.std.specs.Prelude.{◌≡◌, ◌↔◌, ◌<◌, IsTrue, false, IfNone, IfOk, MatchResult, slice_index};
-ghost use Rattle.hk_words.specs.Geometry.{tasks};
+ghost use Rattle.hk_words.specs.Geometry.{tasks, row_length};
 ghost use Rattle.hk_words.specs.Layout.{w0_words, w0_cycle};
 ghost use Rattle.hk_words.specs.Row.{W0, W1, IsRegister, word_of};
 ghost use Rattle.hk_words.specs.Calls.{RegistersFit};
 ghost use Rattle.hk_model.specs.History.{is_question};
 ghost use Rattle.hk_core.specs.Event.{CanFire, CanFireIf, fired, fired_if, old_of, learnt};
 ghost use Rattle.hk_core.specs.State.{State, opening, flight_of};
-ghost use Rattle.hk_core.specs.Step.{next, answer_by, event_by, found_by};
+ghost use Rattle.hk_core.specs.Step.{next, answer_by};
 ghost use Rattle.hk_core.specs.Begin.{most_calls, register_word, entered_word, copied_word, has_field, first_flight, after_begin, refusal};
-ghost use Rattle.hk_core.specs.Fits.{Fits, FindsNumber};
+ghost use Rattle.hk_core.specs.Fits.{CanStep};
 
 use hk_model::Memory;
 use hk_words::{Call, Geometry, reference_nums, reference_refs, w0_cycle, w0_words};
@@ -126,6 +126,23 @@ impl Core {
         self.register(seat, a) == self.register(seat, b)
     }
 
+    /// A word of the row, by its index.
+    pub fn word(&self, index: u32) -> u64
+        requires { index < row_length self.now.geometry }
+        ensures { result ≡ slice_index self.now.row index }
+    {
+        self.row[index as usize]
+    }
+
+    /// Whether an event may be fired: its word is one of the row, and a sum or a difference stays in the range.
+    #[tactic(auto, unfolding(crate::specs::Event::old_of))]
+    pub fn can_fire(&self, event: &Event) -> bool
+        ensures { IsTrue result → CanFire self.now.row event.now }
+    {
+        let index = event.word();
+        index < self.geometry.words() && event.amount_fits(self.row[index as usize])
+    }
+
     /// Does one event, and answers what the word was. It changes that word alone.
     #[tactic(auto, unfolding(crate::specs::Event::fired, crate::specs::Event::old_of))]
     pub fn fire(&mut self, event: Event) -> u64
@@ -168,9 +185,7 @@ impl Core {
     #[tactic(auto, unfolding(crate::specs::Step::next, crate::specs::Step::answer_by, crate::specs::Step::event_by, crate::specs::Step::found_by))]
     pub fn advance(&mut self, seat: u8) -> Step
         requires seat { seat < tasks self.old.geometry }
-        requires fits { Fits self.old.geometry (flight_of self.old.flights seat) }
-        requires can_fire { CanFireIf self.old.row (event_by self.old seat) }
-        requires finds { FindsNumber (flight_of self.old.flights seat) (flight_of self.old.flights seat).call (found_by self.old seat) }
+        requires can_step { CanStep self.old seat }
         ensures next { self.new ≡ next self.old seat }
         ensures step { result ≡ answer_by self.old seat }
     {

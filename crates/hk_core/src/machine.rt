@@ -1,14 +1,15 @@
-ghost use Rattle.std.specs.Prelude.{◌≡◌, ◌↔◌, ◌<◌, IsTrue, false, IfNone, IfOk, MatchResult, slice_index};
-ghost use Rattle.hk_words.specs.Geometry.{tasks, row_length};
+ghost use Rattle.std.specs.Prelude.{◌≡◌, ◌↔◌, ◌<◌, [], length, IsTrue, false, IfNone, IfOk, MatchResult, slice_index};
+ghost use Rattle.hk_words.specs.Geometry.{tasks};
 ghost use Rattle.hk_words.specs.Layout.{w0_words, w0_cycle};
 ghost use Rattle.hk_words.specs.Row.{W0, W1, IsRegister, word_of};
 ghost use Rattle.hk_words.specs.Calls.{RegistersFit};
 ghost use Rattle.hk_model.specs.History.{is_question};
 ghost use Rattle.hk_core.specs.Event.{CanFire, CanFireIf, fired, fired_if, old_of, learnt};
-ghost use Rattle.hk_core.specs.State.{State, opening, flight_of};
+ghost use Rattle.hk_core.specs.State.{State, IsSized, opening, flight_of};
 ghost use Rattle.hk_core.specs.Step.{next, answer_by};
 ghost use Rattle.hk_core.specs.Begin.{most_calls, register_word, entered_word, copied_word, has_field, first_flight, after_begin, refusal};
 ghost use Rattle.hk_core.specs.Fits.{CanStep};
+ghost use Rattle.hk_core.specs.Lawful.{Lawful};
 
 use hk_model::Memory;
 use hk_words::{Call, Geometry, reference_nums, reference_refs, w0_cycle, w0_words};
@@ -47,7 +48,8 @@ impl Core {
     /// this call takes memory.
     #[tactic(auto, unfolding(crate::specs::State::opening))]
     pub fn open(alloc: Global, geometry: Geometry) -> Result<Core, Memory>
-        ensures { IfOk result (λ core. core ≡ opening geometry) }
+        ensures state { IfOk result (λ core. core ≡ opening geometry) }
+        ensures lawful { IfOk result (λ core. Lawful core []) }
     {
         Ok(Core {
             geometry,
@@ -58,9 +60,11 @@ impl Core {
         })
     }
 
-    /// The geometry that the machine was opened with. No call changes it.
+    /// The geometry that the machine was opened with. No call changes it. The row has the words that it says, and there
+    /// are as many flights as tasks.
     pub fn geometry(&self) -> Geometry
-        ensures { result ≡ self.now.geometry }
+        ensures geometry { result ≡ self.now.geometry }
+        ensures sized { IsSized self.now }
     {
         self.geometry
     }
@@ -128,7 +132,7 @@ impl Core {
 
     /// A word of the row, by its index.
     pub fn word(&self, index: u32) -> u64
-        requires { index < row_length self.now.geometry }
+        requires { index < length self.now.row }
         ensures { result ≡ slice_index self.now.row index }
     {
         self.row[index as usize]

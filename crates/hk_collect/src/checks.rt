@@ -7,12 +7,11 @@ ghost use Rattle.hk_core.specs.Collect.{event_by_collector};
 ghost use Rattle.hk_core.specs.Fits.{Fits, CallFits, NamesNumber, IsInSpaces, FindsNumber, CanStep};
 ghost use Rattle.hk_collect.specs.SpotFits.{SpotFits, LineFits, RegisterFits, CellFits, SweepFits, FewSpent};
 
+use crate::decide::{LAST_CYCLE, event};
 use hk_core::{Core, Event, Flight, Line, Spot, Stage, reference_size};
 use hk_words::{
     Call, Geometry, header_place, reference_number, reference_refs, w0_objects, w0_words,
 };
-
-use crate::decide::{LAST_CYCLE, event};
 
 fn names_number(g: &Geometry, word: u64) -> bool
     ensures { IsTrue result → NamesNumber g.now word }
@@ -144,7 +143,10 @@ fn cell_fits(g: &Geometry, spot: &Spot, index: u8, stage: Stage) -> bool
     ensures { IsTrue result → CellFits g.now spot.now index stage }
 {
     match stage {
-        Stage::Read => is_in_spaces(g, u64::from(header_place(spot.first)) + 1 + u64::from(index)),
+        Stage::Read => is_in_spaces(
+            g,
+            u64::from(header_place(spot.first)) + 1 + u64::from(index),
+        ),
         Stage::Claim => names_number(g, spot.cell),
         Stage::Tie => space_word(g, spot.offset),
         Stage::Write => space_word(g, u64::from(spot.scan) + 1 + u64::from(index)),

@@ -167,7 +167,10 @@ fn cell_event(spot: &Spot, g: &Geometry, index: u8, stage: Stage) -> Option<Even
         Stage::Claim => claim_cell(spot, g),
         Stage::Reserve => reserve_cell(spot, g),
         Stage::Tie => link_cell(spot, g),
-        Stage::Write => Some(Event::Write(g.space_at(moved_to(spot, g) + 1 + u32::from(index)), spot.cell)),
+        Stage::Write => Some(Event::Write(
+            g.space_at(moved_to(spot, g) + 1 + u32::from(index)),
+            spot.cell,
+        )),
         Stage::Mark | Stage::Empty => None,
     }
 }
@@ -217,7 +220,10 @@ fn sweep_event(spot: &Spot, g: &Geometry, number: u32, stage: Stage) -> Option<E
 {
     match stage {
         Stage::Read => Some(Event::Load(g.mark_at(number))),
-        Stage::Write => Some(Event::Write(g.entry_at(old_space(spot.cycle), spot.entries), u64::from(number))),
+        Stage::Write => Some(Event::Write(
+            g.entry_at(old_space(spot.cycle), spot.entries),
+            u64::from(number),
+        )),
         Stage::Mark => Some(Event::Write(g.mark_at(number), spot.cycle + 1)),
         Stage::Empty => Some(Event::Write(g.header_at(number), 0)),
         Stage::Claim | Stage::Reserve | Stage::Tie => None,

@@ -8,10 +8,11 @@ ghost use Rattle.hk_words.specs.Layout.{NamesObject};
 ghost use Rattle.hk_core.specs.Step.{reference_size};
 ghost use Rattle.hk_collect.specs.SpotFits.{SpotFits, SweepFits, FewSpent};
 
-use hk_core::{Line, Spot, Stage, Work, reference_size, reserved_fits};
-use hk_words::{Geometry, frame_accessors, header_accessors, header_place, reference_number, reference_refs};
-
 use crate::decide::{LAST_CYCLE, moved_to, old_space};
+use hk_core::{Line, Spot, Stage, Work, reference_size, reserved_fits};
+use hk_words::{
+    Geometry, frame_accessors, header_accessors, header_place, reference_number, reference_refs,
+};
 
 /// Goes on to the next spot, where the event of this one found the word `old` (0 after a write), and answers what the
 /// event did.
@@ -45,7 +46,10 @@ fn next_spot(spot: &Spot, g: &Geometry, old: u64) -> Spot
         Line::PassHead(number) => pass_head_took(spot, g, number, old),
         Line::Sweep { number, stage } => sweep_took(spot, g, number, stage, old),
         Line::Clear(word) => clear_took(spot, g, word),
-        Line::Reset => Spot { line: Line::Rest, ..*spot },
+        Line::Reset => Spot {
+            line: Line::Rest,
+            ..*spot
+        },
     }
 }
 
@@ -97,7 +101,11 @@ fn rest_took(spot: &Spot) -> Spot
 fn rest_work(spot: &Spot) -> Work
     ensures { result ≡ table.rest_work spot.now }
 {
-    if spot.cycle == LAST_CYCLE { Work::Worn } else { Work::Flipped }
+    if spot.cycle == LAST_CYCLE {
+        Work::Worn
+    } else {
+        Work::Flipped
+    }
 }
 
 #[tactic(auto, unfolding(hk_core::specs::Collect::frame_took))]
@@ -108,7 +116,11 @@ fn frame_took(spot: &Spot, seat: u8, old: u64) -> Spot
         return *spot;
     }
     Spot {
-        line: Line::Register { seat, reg: 0, stage: Stage::Read },
+        line: Line::Register {
+            seat,
+            reg: 0,
+            stage: Stage::Read,
+        },
         first: old,
         spent: 1,
         ..*spot
@@ -119,7 +131,11 @@ fn frame_took(spot: &Spot, seat: u8, old: u64) -> Spot
 fn frame_work(seat: u8, old: u64) -> Work
     ensures { result ≡ table.frame_work seat old }
 {
-    if frame_accessors(old) > 0 { Work::BusyFrame(seat) } else { Work::Useful }
+    if frame_accessors(old) > 0 {
+        Work::BusyFrame(seat)
+    } else {
+        Work::Useful
+    }
 }
 
 /// After a register comes the next one, and after the last one the exchange of the frame word.
@@ -128,7 +144,11 @@ fn after_register(g: &Geometry, seat: u8, reg: u8) -> Line
     ensures { result ≡ after_register g.now seat reg }
 {
     if reg + 1 < g.registers() {
-        Line::Register { seat, reg: reg + 1, stage: Stage::Read }
+        Line::Register {
+            seat,
+            reg: reg + 1,
+            stage: Stage::Read,
+        }
     } else {
         Line::FrameTrade(seat)
     }
@@ -144,19 +164,61 @@ fn register_took(spot: &Spot, g: &Geometry, seat: u8, reg: u8, stage: Stage, old
     let spent = spot.spent + 1;
     match stage {
         Stage::Read => {
-            let line = if old == 0 { next } else { Line::Register { seat, reg, stage: Stage::Claim } };
-            Spot { line, cell: old, spent, ..*spot }
+            let line = if old == 0 {
+                next
+            } else {
+                Line::Register {
+                    seat,
+                    reg,
+                    stage: Stage::Claim,
+                }
+            };
+            Spot {
+                line,
+                cell: old,
+                spent,
+                ..*spot
+            }
         }
         Stage::Claim => {
-            let line = if old < spot.cycle { Line::Register { seat, reg, stage: Stage::Reserve } } else { next };
-            Spot { line, spent, ..*spot }
+            let line = if old < spot.cycle {
+                Line::Register {
+                    seat,
+                    reg,
+                    stage: Stage::Reserve,
+                }
+            } else {
+                next
+            };
+            Spot {
+                line,
+                spent,
+                ..*spot
+            }
         }
         Stage::Reserve => {
             let fits = reserved_fits(g, old, spot.cell);
-            let line = if fits { Line::Register { seat, reg, stage: Stage::Tie } } else { next };
-            Spot { line, offset: old, spent, ..*spot }
+            let line = if fits {
+                Line::Register {
+                    seat,
+                    reg,
+                    stage: Stage::Tie,
+                }
+            } else {
+                next
+            };
+            Spot {
+                line,
+                offset: old,
+                spent,
+                ..*spot
+            }
         }
-        Stage::Tie => Spot { line: next, spent, ..*spot },
+        Stage::Tie => Spot {
+            line: next,
+            spent,
+            ..*spot
+        },
         Stage::Write | Stage::Mark | Stage::Empty => *spot,
     }
 }
@@ -166,7 +228,11 @@ fn after_frame(g: &Geometry, seat: u8) -> Line
     requires { seat < tasks g.now }
     ensures { result ≡ after_frame g.now seat }
 {
-    if seat + 1 < g.tasks() { Line::Frame(seat + 1) } else { Line::Scan }
+    if seat + 1 < g.tasks() {
+        Line::Frame(seat + 1)
+    } else {
+        Line::Scan
+    }
 }
 
 #[tactic(auto, unfolding(hk_core::specs::Collect::frame_trade_took))]
@@ -174,7 +240,11 @@ fn frame_trade_took(spot: &Spot, g: &Geometry, seat: u8, old: u64) -> Spot
     requires { seat < tasks g.now }
     ensures { result ≡ table.frame_trade_took g.now spot.now seat old }
 {
-    let line = if old == spot.first { after_frame(g, seat) } else { Line::Frame(seat) };
+    let line = if old == spot.first {
+        after_frame(g, seat)
+    } else {
+        Line::Frame(seat)
+    };
     Spot { line, ..*spot }
 }
 
@@ -183,7 +253,11 @@ fn frame_trade_work(spot: &Spot, old: u64) -> Work
     requires { FewSpent spot.now }
     ensures { result ≡ table.frame_trade_work spot.now old }
 {
-    if old == spot.first { Work::Useful } else { Work::Lost(spot.spent + 1) }
+    if old == spot.first {
+        Work::Useful
+    } else {
+        Work::Lost(spot.spent + 1)
+    }
 }
 
 #[tactic(auto, unfolding(hk_core::specs::Collect::scan_took))]
@@ -193,7 +267,11 @@ fn scan_took(spot: &Spot, g: &Geometry, old: u64) -> Spot
     if old > u64::from(g.live()) {
         return *spot;
     }
-    let line = if u64::from(spot.scan) < old { Line::Link } else { Line::Pass(0) };
+    let line = if u64::from(spot.scan) < old {
+        Line::Link
+    } else {
+        Line::Pass(0)
+    };
     Spot { line, ..*spot }
 }
 
@@ -201,7 +279,11 @@ fn scan_took(spot: &Spot, g: &Geometry, old: u64) -> Spot
 fn scan_work(g: &Geometry, old: u64) -> Work
     ensures { result ≡ table.scan_work g.now old }
 {
-    if old > u64::from(g.live()) { Work::LiveOver(old) } else { Work::Useful }
+    if old > u64::from(g.live()) {
+        Work::LiveOver(old)
+    } else {
+        Work::Useful
+    }
 }
 
 #[tactic(auto, unfolding(hk_core::specs::Collect::link_took))]
@@ -209,9 +291,16 @@ fn link_took(spot: &Spot, old: u64) -> Spot
     ensures { result ≡ table.link_took spot.now old }
 {
     if old == 0 {
-        Spot { line: Line::Scan, ..*spot }
+        Spot {
+            line: Line::Scan,
+            ..*spot
+        }
     } else {
-        Spot { line: Line::Look, item: old, ..*spot }
+        Spot {
+            line: Line::Look,
+            item: old,
+            ..*spot
+        }
     }
 }
 
@@ -220,7 +309,11 @@ fn link_work(spot: &Spot, g: &Geometry, old: u64) -> Work
     requires { spot.now.scan < space_words g.now }
     ensures { result ≡ table.link_work g.now spot.now old }
 {
-    if old == 0 { Work::Unlinked(moved_to(spot, g)) } else { Work::Useful }
+    if old == 0 {
+        Work::Unlinked(moved_to(spot, g))
+    } else {
+        Work::Useful
+    }
 }
 
 #[tactic(auto, unfolding(hk_core::specs::Collect::look_took))]
@@ -231,7 +324,10 @@ fn look_took(spot: &Spot, old: u64) -> Spot
         return *spot;
     }
     Spot {
-        line: Line::Cell { index: 0, stage: Stage::Read },
+        line: Line::Cell {
+            index: 0,
+            stage: Stage::Read,
+        },
         first: old,
         spent: 1,
         ..*spot
@@ -263,7 +359,10 @@ fn after_cell(spot: &Spot, index: u8) -> Line
     ensures { result ≡ after_cell spot.now index }
 {
     if u32::from(index) + 2 < reference_size(spot.item) {
-        Line::Cell { index: index + 1, stage: Stage::Read }
+        Line::Cell {
+            index: index + 1,
+            stage: Stage::Read,
+        }
     } else {
         Line::ObjectTrade
     }
@@ -278,19 +377,56 @@ fn cell_took(spot: &Spot, g: &Geometry, index: u8, stage: Stage, old: u64) -> Sp
     let spent = spot.spent + 1;
     match stage {
         Stage::Read => {
-            let stage = if is_reference(spot, index, old) { Stage::Claim } else { Stage::Write };
-            Spot { line: Line::Cell { index, stage }, cell: old, spent, ..*spot }
+            let stage = if is_reference(spot, index, old) {
+                Stage::Claim
+            } else {
+                Stage::Write
+            };
+            Spot {
+                line: Line::Cell { index, stage },
+                cell: old,
+                spent,
+                ..*spot
+            }
         }
         Stage::Claim => {
-            let stage = if old < spot.cycle { Stage::Reserve } else { Stage::Write };
-            Spot { line: Line::Cell { index, stage }, spent, ..*spot }
+            let stage = if old < spot.cycle {
+                Stage::Reserve
+            } else {
+                Stage::Write
+            };
+            Spot {
+                line: Line::Cell { index, stage },
+                spent,
+                ..*spot
+            }
         }
         Stage::Reserve => {
-            let stage = if reserved_fits(g, old, spot.cell) { Stage::Tie } else { Stage::Write };
-            Spot { line: Line::Cell { index, stage }, offset: old, spent, ..*spot }
+            let stage = if reserved_fits(g, old, spot.cell) {
+                Stage::Tie
+            } else {
+                Stage::Write
+            };
+            Spot {
+                line: Line::Cell { index, stage },
+                offset: old,
+                spent,
+                ..*spot
+            }
         }
-        Stage::Tie => Spot { line: Line::Cell { index, stage: Stage::Write }, spent, ..*spot },
-        Stage::Write => Spot { line: after_cell(spot, index), spent, ..*spot },
+        Stage::Tie => Spot {
+            line: Line::Cell {
+                index,
+                stage: Stage::Write,
+            },
+            spent,
+            ..*spot
+        },
+        Stage::Write => Spot {
+            line: after_cell(spot, index),
+            spent,
+            ..*spot
+        },
         Stage::Mark | Stage::Empty => *spot,
     }
 }
@@ -301,9 +437,16 @@ fn object_trade_took(spot: &Spot, g: &Geometry, old: u64) -> Spot
     ensures { result ≡ table.object_trade_took spot.now old }
 {
     if old == spot.first {
-        Spot { line: Line::Scan, scan: spot.scan + reference_size(spot.item), ..*spot }
+        Spot {
+            line: Line::Scan,
+            scan: spot.scan + reference_size(spot.item),
+            ..*spot
+        }
     } else {
-        Spot { line: Line::Look, ..*spot }
+        Spot {
+            line: Line::Look,
+            ..*spot
+        }
     }
 }
 
@@ -312,7 +455,11 @@ fn object_trade_work(spot: &Spot, old: u64) -> Work
     requires { FewSpent spot.now }
     ensures { result ≡ table.object_trade_work spot.now old }
 {
-    if old == spot.first { Work::Useful } else { Work::Lost(spot.spent + 1) }
+    if old == spot.first {
+        Work::Useful
+    } else {
+        Work::Lost(spot.spent + 1)
+    }
 }
 
 /// After a number comes the next one, and after the last one the sweep.
@@ -323,7 +470,10 @@ fn after_pass(g: &Geometry, number: u32) -> Line
     if number + 1 < g.numbers() {
         Line::Pass(number + 1)
     } else {
-        Line::Sweep { number: 0, stage: Stage::Read }
+        Line::Sweep {
+            number: 0,
+            stage: Stage::Read,
+        }
     }
 }
 
@@ -332,7 +482,11 @@ fn pass_took(spot: &Spot, g: &Geometry, number: u32, old: u64) -> Spot
     requires { number < numbers g.now }
     ensures { result ≡ table.pass_took g.now spot.now number old }
 {
-    let line = if old == spot.cycle { Line::PassHead(number) } else { after_pass(g, number) };
+    let line = if old == spot.cycle {
+        Line::PassHead(number)
+    } else {
+        after_pass(g, number)
+    };
     Spot { line, ..*spot }
 }
 
@@ -352,7 +506,11 @@ fn pass_head_took(spot: &Spot, g: &Geometry, number: u32, old: u64) -> Spot
     requires cycle { spot.now.cycle ≤ last_cycle }
     ensures { result ≡ table.pass_head_took g.now spot.now number old }
 {
-    let line = if is_old(spot, g, old) { Line::Scan } else { after_pass(g, number) };
+    let line = if is_old(spot, g, old) {
+        Line::Scan
+    } else {
+        after_pass(g, number)
+    };
     Spot { line, ..*spot }
 }
 
@@ -361,7 +519,11 @@ fn pass_head_work(spot: &Spot, g: &Geometry, number: u32, old: u64) -> Work
     requires { spot.now.cycle ≤ last_cycle }
     ensures { result ≡ table.pass_head_work g.now spot.now number old }
 {
-    if is_old(spot, g, old) { Work::Grey(number) } else { Work::Useful }
+    if is_old(spot, g, old) {
+        Work::Grey(number)
+    } else {
+        Work::Useful
+    }
 }
 
 #[tactic(auto, unfolding(hk_core::specs::Collect::sweep_took))]
@@ -373,21 +535,39 @@ fn sweep_took(spot: &Spot, g: &Geometry, number: u32, stage: Stage, old: u64) ->
     match stage {
         Stage::Read => {
             let line = if old < spot.cycle {
-                Line::Sweep { number, stage: Stage::Write }
+                Line::Sweep {
+                    number,
+                    stage: Stage::Write,
+                }
             } else {
-                Line::Sweep { number: number + 1, stage: Stage::Read }
+                Line::Sweep {
+                    number: number + 1,
+                    stage: Stage::Read,
+                }
             };
             Spot { line, ..*spot }
         }
         Stage::Write => Spot {
-            line: Line::Sweep { number, stage: Stage::Mark },
+            line: Line::Sweep {
+                number,
+                stage: Stage::Mark,
+            },
             entries: spot.entries + 1,
             ..*spot
         },
-        Stage::Mark => Spot { line: Line::Sweep { number, stage: Stage::Empty }, ..*spot },
+        Stage::Mark => Spot {
+            line: Line::Sweep {
+                number,
+                stage: Stage::Empty,
+            },
+            ..*spot
+        },
         Stage::Empty => {
             let line = if spot.entries < g.alloc() / 2 {
-                Line::Sweep { number: number + 1, stage: Stage::Read }
+                Line::Sweep {
+                    number: number + 1,
+                    stage: Stage::Read,
+                }
             } else {
                 Line::Clear(0)
             };
@@ -402,6 +582,10 @@ fn clear_took(spot: &Spot, g: &Geometry, word: u32) -> Spot
     requires { word < space_words g.now }
     ensures { result ≡ table.clear_took g.now spot.now word }
 {
-    let line = if word + 1 < g.live() + g.alloc() { Line::Clear(word + 1) } else { Line::Reset };
+    let line = if word + 1 < g.live() + g.alloc() {
+        Line::Clear(word + 1)
+    } else {
+        Line::Reset
+    };
     Spot { line, ..*spot }
 }

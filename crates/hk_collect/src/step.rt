@@ -4,10 +4,9 @@ ghost use Rattle.hk_core.specs.Event.{CanFireIf};
 ghost use Rattle.hk_core.specs.Collect.{next_collected, work_by_collector, event_by_collector};
 ghost use Rattle.hk_collect.specs.SpotFits.{SpotFits};
 
-use hk_core::{Core, Work};
-
 use crate::decide::event;
 use crate::follow::took;
+use hk_core::{Core, Work};
 
 /// Does the next event of the collector: on the row, and what its spot takes from it.
 #[tactic(auto, unfolding(hk_core::specs::Collect::next_collected, hk_core::specs::Collect::work_by_collector, hk_core::specs::Collect::event_by_collector, hk_core::specs::Collect::found_by_collector))]

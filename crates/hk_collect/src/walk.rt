@@ -106,7 +106,10 @@ fn store_while_moved(rt: HostRuntime) -> Result<(), Fail> {
     assert_eq!(rt; collect(&rt, &mut core), Work::Flipped);
     assert_eq!(rt; useful(&rt, &mut core), (15, Work::BusyObject(0)));
     assert_eq!(rt; useful(&rt, &mut core), (0, Work::BusyObject(0)));
-    assert_eq!(rt; rest(&rt, &mut core, 0), (6, Some(Outcome::Done(Reply::Unit))));
+    assert_eq!(rt;
+        rest(&rt, &mut core, 0),
+        (6, Some(Outcome::Done(Reply::Unit)))
+    );
     for _ in 0..5 {
         assert_eq!(rt; collect(&rt, &mut core), Work::Useful);
     }
@@ -123,7 +126,10 @@ fn store_spoils_the_copy(rt: HostRuntime) -> Result<(), Fail> {
     for _ in 0..18 {
         assert_eq!(rt; collect(&rt, &mut core), Work::Useful);
     }
-    assert_eq!(rt; whole(&rt, &mut core, 0, STORE), (7, Some(Outcome::Done(Reply::Unit))));
+    assert_eq!(rt;
+        whole(&rt, &mut core, 0, STORE),
+        (7, Some(Outcome::Done(Reply::Unit)))
+    );
     assert_eq!(rt; collect(&rt, &mut core), Work::Lost(4));
     Ok(())
 }
@@ -136,9 +142,15 @@ fn full(rt: HostRuntime) -> Result<(), Fail> {
     let make = Call::New { dest: 1, shape };
     for (seat, words) in [(1, 8), (0, 16)] {
         for _ in 0..4 {
-            assert_eq!(rt; whole(&rt, &mut core, seat, make), (7, Some(Outcome::Done(Reply::Unit))));
+            assert_eq!(rt;
+                whole(&rt, &mut core, seat, make),
+                (7, Some(Outcome::Done(Reply::Unit)))
+            );
         }
-        assert_eq!(rt; whole(&rt, &mut core, seat, make), (7, Some(Outcome::Full { words })));
+        assert_eq!(rt;
+            whole(&rt, &mut core, seat, make),
+            (7, Some(Outcome::Full { words }))
+        );
     }
     Ok(())
 }
@@ -176,11 +188,29 @@ impl Draws {
 
     fn call(&mut self) -> Call {
         match self.below(7) {
-            0 => Call::Get { reg: self.reg(), field: self.field() },
-            1 => Call::Put { reg: self.reg(), field: self.field(), value: self.below(1000) },
-            2 => Call::Load { dest: self.dest(), reg: self.reg(), field: self.field() },
-            3 => Call::Store { reg: self.reg(), field: self.field(), from: self.reg() },
-            4 => Call::Move { dest: self.dest(), from: self.reg() },
+            0 => Call::Get {
+                reg: self.reg(),
+                field: self.field(),
+            },
+            1 => Call::Put {
+                reg: self.reg(),
+                field: self.field(),
+                value: self.below(1000),
+            },
+            2 => Call::Load {
+                dest: self.dest(),
+                reg: self.reg(),
+                field: self.field(),
+            },
+            3 => Call::Store {
+                reg: self.reg(),
+                field: self.field(),
+                from: self.reg(),
+            },
+            4 => Call::Move {
+                dest: self.dest(),
+                from: self.reg(),
+            },
             5 => Call::Clear { dest: self.dest() },
             _ => self.make(),
         }
@@ -221,14 +251,26 @@ fn has_effect(flight: &Flight) -> bool {
 }
 
 /// A call on the plain heap.
-fn mirrored(rt: &impl Abort, alloc: Global, walk: &mut Walk, seat: u8, call: Call) -> Result<Reply, Memory> {
+fn mirrored(
+    rt: &impl Abort,
+    alloc: Global,
+    walk: &mut Walk,
+    seat: u8,
+    call: Call,
+) -> Result<Reply, Memory> {
     assert!(rt; seat < 3);
     assert!(rt; call.registers_fit(REGISTERS));
     walk.mirror.apply(alloc, seat, call)
 }
 
 /// An idle seat begins a call; one that is refused is answered likewise by the plain heap.
-fn begin_some(rt: &impl Abort, alloc: Global, walk: &mut Walk, seat: u8, call: Call) -> Result<(), Memory> {
+fn begin_some(
+    rt: &impl Abort,
+    alloc: Global,
+    walk: &mut Walk,
+    seat: u8,
+    call: Call,
+) -> Result<(), Memory> {
     let Err(fault) = begin(rt, &mut walk.core, seat, call) else {
         return Ok(());
     };
@@ -238,7 +280,10 @@ fn begin_some(rt: &impl Abort, alloc: Global, walk: &mut Walk, seat: u8, call: C
         Fault::Field => reply == Reply::Field,
         Fault::Spent => false,
     };
-    assert!(rt; refused, "a begin is refused otherwise than on the plain heap");
+    assert!(rt;
+        refused,
+        "a begin is refused otherwise than on the plain heap"
+    );
     Ok(())
 }
 
@@ -249,15 +294,26 @@ fn compare(rt: &impl Abort, alloc: Global, walk: &mut Walk, seat: u8) -> Result<
         let null = mirrored(rt, alloc, walk, seat, Call::IsNull { reg })? == Reply::Yes;
         let same = mirrored(rt, alloc, walk, seat, Call::Same { a: reg, b: other })? == Reply::Yes;
         assert!(rt; seat < walk.core.geometry().tasks() && 4 < walk.core.geometry().registers());
-        assert!(rt; walk.core.is_null(seat, reg) == null, "null otherwise than on the plain heap");
-        assert!(rt; walk.core.same(seat, reg, other) == same, "the same otherwise than on the plain heap");
+        assert!(rt;
+            walk.core.is_null(seat, reg) == null,
+            "null otherwise than on the plain heap"
+        );
+        assert!(rt;
+            walk.core.same(seat, reg, other) == same,
+            "the same otherwise than on the plain heap"
+        );
     }
     Ok(())
 }
 
 /// A step of a seat with a call in flight. At the effect of the call the plain heap does it too; at the end of the call
 /// its reply is that of the plain heap.
-fn step_some(rt: &impl Abort, alloc: Global, walk: &mut Walk, flight: &Flight) -> Result<(), Memory> {
+fn step_some(
+    rt: &impl Abort,
+    alloc: Global,
+    walk: &mut Walk,
+    flight: &Flight,
+) -> Result<(), Memory> {
     let seat = flight.seat;
     assert!(rt; seat < 3);
     if has_effect(flight) {
@@ -279,11 +335,17 @@ fn step_some(rt: &impl Abort, alloc: Global, walk: &mut Walk, flight: &Flight) -
 fn ended(rt: &impl Abort, walk: &mut Walk, outcome: Outcome, answered: Option<Reply>) {
     match outcome {
         Outcome::Done(reply) => {
-            assert!(rt; answered == Some(reply), "another reply than the plain heap's");
+            assert!(rt;
+                answered == Some(reply),
+                "another reply than the plain heap's"
+            );
             walk.done = walk.done.wrapping_add(1);
         }
         Outcome::Full { .. } => {
-            assert!(rt; answered.is_none(), "a New that found no room did something");
+            assert!(rt;
+                answered.is_none(),
+                "a New that found no room did something"
+            );
             walk.full = walk.full.wrapping_add(1);
         }
     }
@@ -327,7 +389,10 @@ fn replies_of_the_plain_heap(rt: HostRuntime) -> Result<(), Fail> {
         for _ in 0..20_000 {
             act(&rt, rt.alloc(), &mut walk, &mut draws)?;
         }
-        assert!(rt; walk.flips > 5 && walk.lost > 5 && walk.done > 1000 && walk.full > 5, "in walk {number}");
+        assert!(rt;
+            walk.flips > 5 && walk.lost > 5 && walk.done > 1000 && walk.full > 5,
+            "in walk {number}"
+        );
     }
     Ok(())
 }

@@ -33,7 +33,6 @@ never_some h = absurd (cc)
 module _ (g : Geometry) (place mark accessors version frame_accessors frame_cycle frame_version : ℕ → ℕ) (register entry : ℕ → ℕ → ℕ) (cell : ℕ → ℕ)
     (o : IsOpened g place mark accessors version frame_accessors frame_cycle frame_version register entry cell)
     (names : Names) (contents : Contents) (b : HasBoardAlone g names contents) where
-
   -- the words at the start
   abbrev start : Words
   start = record {
@@ -59,13 +58,14 @@ module _ (g : Geometry) (place mark accessors version frame_accessors frame_cycl
   -- the board alone is kept
   kept_board : (n : ℕ) → kept n ≡ true → n ≡ 0
   kept_board n h = elim (cases_eq n 0) [
-      inl e ↦ e
+    | inl e ↦ e
     | inr d ↦
         let p = and_parts _ _ h in
         let q = and_parts _ _ p.0 in
         let r = and_parts _ _ q.1 in
         let e : is_some (names.bearer n) ≡ false = rw (b.no_bearer n d) refl in
-        absurd (both_ways _ e r.0) ]
+        absurd (both_ways _ e r.0)
+  ]
 
   board_kept : kept 0 ≡ true
   board_kept =
@@ -97,13 +97,15 @@ module _ (g : Geometry) (place mark accessors version frame_accessors frame_cycl
   -- the facts that say something of the opening state
   marks_above : fact.MarksAboveAreWritten g 1 mark (entry 0) (list_length g)
   marks_above n h a = elim (cases_lt (list_length g) n) [
-      inl c ↦ elim (cases_lt (2 * list_length g) n) [
-          inl d ↦ absurd (omega (arith, o.no_mark n d))
-        | inr d ↦
-            let j : ℕ = n - list_length g - 1 in
-            let within : j < list_length g = omega arith in
-            (j, within, o.next_list j within ∙ omega arith) ]
-    | inr c ↦ absurd (omega (arith, o.current_mark n c)) ]
+    | inl c ↦ elim (cases_lt (2 * list_length g) n) [
+      | inl d ↦ absurd (omega (arith, o.no_mark n d))
+      | inr d ↦
+          let j : ℕ = n - list_length g - 1 in
+          let within : j < list_length g = omega arith in
+          (j, within, o.next_list j within ∙ omega arith)
+    ]
+    | inr c ↦ absurd (omega (arith, o.current_mark n c))
+  ]
 
   none_raises : count_below (tasks g) (λ s. f.will_raise (idle s)) ≡ 0
   none_raises = count_none (λ s. f.will_raise (idle s)) table.will_raise-idle (tasks g)
@@ -122,8 +124,9 @@ module _ (g : Geometry) (place mark accessors version frame_accessors frame_cycl
 
   registers_shown : fact.RegistersShown g names register contents.register idle
   registers_shown s r a c = rw (table.holds_back-idle s r) (elim (cases_eq r 0) [
-      inl e ↦ rw e (o.board_register s a ∙ (sym birth_shown ∙ ap (shown names) (sym (b.board s a))))
-    | inr d ↦ o.no_register s r d ∙ (sym null_shown ∙ ap (shown names) (sym (b.no_register s r d))) ])
+    | inl e ↦ rw e (o.board_register s a ∙ (sym birth_shown ∙ ap (shown names) (sym (b.board s a))))
+    | inr d ↦ o.no_register s r d ∙ (sym null_shown ∙ ap (shown names) (sym (b.no_register s r d)))
+  ])
 
   board_good : IsGood kept names (board_reference g)
   board_good = record {
@@ -134,8 +137,9 @@ module _ (g : Geometry) (place mark accessors version frame_accessors frame_cycl
 
   registers_good : fact.RegistersGood g kept names register
   registers_good s r a c = elim (cases_eq r 0) [
-      inl e ↦ inr (rw (e, o.board_register s a) board_good)
-    | inr d ↦ inl (o.no_register s r d) ]
+    | inl e ↦ inr (rw (e, o.board_register s a) board_good)
+    | inr d ↦ inl (o.no_register s r d)
+  ]
 
   links_kept : fact.LinksKept kept names contents.link
   links_kept n birth h e i l = inl (b.no_link birth i)
@@ -202,8 +206,9 @@ module _ (g : Geometry) (place mark accessors version frame_accessors frame_cycl
 
   none_grey : (n : ℕ) → n < numbers g → grey_by (spaces_of g 1) 1 place mark n ≡ false
   none_grey n h = elim (cases_eq n 0) [
-      inl e ↦ rw e (let p = o.board_place in grind (arith, nat_tests))
-    | inr d ↦ let p = o.no_place n d in grind (arith, nat_tests) ]
+    | inl e ↦ rw e (let p = o.board_place in grind (arith, nat_tests))
+    | inr d ↦ let p = o.no_place n d in grind (arith, nat_tests)
+  ]
 
   board_not_white : white_by 1 place mark 0 ≡ false
   board_not_white = let m = o.current_mark 0 (omega arith) in grind (arith, nat_tests)
@@ -213,8 +218,9 @@ module _ (g : Geometry) (place mark accessors version frame_accessors frame_cycl
     none_grey = none_grey;
     none_late = λ s a h. absurd (both_ways _ (table.has_raised-idle s) h);
     registers = λ s r a c. elim (cases_eq r 0) [
-        inl e ↦ inr (rw (e, o.board_register s a, number_of_board) board_not_white)
-      | inr d ↦ inl (o.no_register s r d) ];
+      | inl e ↦ inr (rw (e, o.board_register s a, number_of_board) board_not_white)
+      | inr d ↦ inl (o.no_register s r d)
+    ];
     entered = λ s a h. absurd (both_ways _ (table.is_flying-idle s) h);
     items = λ s a h. absurd (both_ways _ (table.has_item-idle s) h);
   }
@@ -227,8 +233,9 @@ module _ (g : Geometry) (place mark accessors version frame_accessors frame_cycl
   hands : (k : ℕ) → hands_of g idle opening_spot k ≡ f.no_claim
   unfolding hands_of opening_spot l.hand_of_spot l.hand_at_line
   hands k = elim (cases_lt k (tasks g)) [
-      inl h ↦ rw (lt-ltb k (tasks g) h) (table.hand_of_flight-idle g k)
-    | inr h ↦ rw (le-ltb k (tasks g) h) refl ]
+    | inl h ↦ rw (lt-ltb k (tasks g) h) (table.hand_of_flight-idle g k)
+    | inr h ↦ rw (le-ltb k (tasks g) h) refl
+  ]
 
   no_hand : {A : Type 0} (k item c : ℕ) → hands_of g idle opening_spot k ≡ f.to_reserve item c → A
   no_hand k item c e = let h = hands k in absurd (cc)

@@ -44,11 +44,12 @@ register_other : (g : Geometry) (s r : ℕ) → r ≢ 0 → register (after (ope
 unfolding register after opening_of opening first_registers
 register_other g s zero h = absurd (h refl)
 register_other g s (suc r) h = elim (cases_lt s (tasks g)) [
-    inl b ↦ rw (get_or-replicate {A = List (Option ℕ)} (tasks g) s (Some 0 ∷ replicate (g.registers - 1) None) [] b) (get_or-replicate_same {A = Option ℕ} (g.registers - 1) r None)
+  | inl b ↦ rw (get_or-replicate {A = List (Option ℕ)} (tasks g) s (Some 0 ∷ replicate (g.registers - 1) None) [] b) (get_or-replicate_same {A = Option ℕ} (g.registers - 1) r None)
   | inr b ↦
       let own : List (Option ℕ) = Some 0 ∷ replicate (g.registers - 1) None in
       let beyond : length (replicate (tasks g) own) ≤ s = rw (length-replicate {A = List (Option ℕ)} (tasks g) own) b in
-      rw (get_or-eq_default (replicate (tasks g) own) [] beyond) refl ]
+      rw (get_or-eq_default (replicate (tasks g) own) [] beyond) refl
+]
 
 link_first : (g : Geometry) (b i : ℕ) → link (after (opening_of g) []) b i ≡ None
 unfolding link of_object after opening_of opening made

@@ -38,7 +38,7 @@ unfolding at_start
 start_facts g =
     let w = words_of g (opening_row g) in
     opening_facts g w.place w.mark w.accessors w.version w.frame_accessors w.frame_cycle w.frame_version w.register w.entry w.cell
-        (opened g) (names_of g []) (contents_of g []) (board_alone g)
+    (opened g) (names_of g []) (contents_of g []) (board_alone g)
 
 -- the opening state is lawful for the empty history
 pub opening_lawful : (g : Geometry) → Lawful (opening g) []

@@ -122,10 +122,11 @@ held_by-idle g n = rw (count_none (λ s. f.holds_number n (idle s)) (holds_numbe
 flight_at_opening : (g : Geometry) (s : ℕ) → flight_at (opening g) s ≡ idle s
 unfolding flight_at flight_of opening
 flight_at_opening g s = elim (cases_lt s (tasks g)) [
-    inl h ↦ get_or-map-range_with_len idle 0 (tasks g) s s (idle s) h (omega arith)
+  | inl h ↦ get_or-map-range_with_len idle 0 (tasks g) s s (idle s) h (omega arith)
   | inr h ↦
       let beyond : length (map idle (range_with_len 0 (tasks g))) ≤ s = rw (length-map-range_with_len idle 0 (tasks g)) h in
-      get_or-eq_default (map idle (range_with_len 0 (tasks g))) (idle s) beyond ]
+      get_or-eq_default (map idle (range_with_len 0 (tasks g))) (idle s) beyond
+]
 
 pub flight_at-opening : (g : Geometry) → flight_at (opening g) ≡ idle
 flight_at-opening g = fun_ext (flight_at_opening g)

@@ -247,7 +247,7 @@ ScanBounded z resting scan reserved = resting ≡ false → (scan ≤ reserved) 
 abbrev pub MarksFew : Geometry → Line → (cycle reserved : ℕ) → (mark : ℕ → ℕ) → (hand : ℕ → Hand) → Type 0
 MarksFew g line cycle reserved mark hand = l.is_sweeping_or_marking line ≡ true
     → 2 * count_below (numbers g) (λ n. nat_eq (mark n) cycle)
-      ≤ g.alloc + reserved + 2 * count_below (tasks g + 1) (λ k. f.is_to_reserve (hand k))
+    ≤ g.alloc + reserved + 2 * count_below (tasks g + 1) (λ k. f.is_to_reserve (hand k))
 
 -- CLAIMS IN HAND. The hand of each seat is below the number of tasks, and that of the collector is the last one.
 

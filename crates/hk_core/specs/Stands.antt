@@ -59,7 +59,7 @@ abbrev pub IsUnreadEntry : Geometry → Words → (ℕ → Flight) → ℕ → T
 IsUnreadEntry g w flight j =
     ((w.objects ≤ j) × (j < list_length g))
     ⊎ ((s : ℕ) × (s < tasks g) × (f.is_making (flight s) ≡ true) × (f.has_number (flight s) ≡ false)
-        × (f.cycle_of (flight s) ≡ w.cycle) × (f.objects_before (flight s) ≡ j))
+    × (f.cycle_of (flight s) ≡ w.cycle) × (f.objects_before (flight s) ≡ j))
 
 -- a number is on no list from which it may be given: not unread on the current list, and not written on the next one
 pub record IsOnNoList (g : Geometry) (w : Words) (flight : ℕ → Flight) (t : Spot) (n : ℕ) : Type 0 where
@@ -171,4 +171,4 @@ pub record Promises (c : State) (history : History) : Type 0 where
   pub range : ℕ → Option ℕ
   pub holds : let w = words_of c.geometry c.row in let names = names_of c.geometry history in
       PromisesOf c.geometry w (spaces_of c.geometry w.cycle) (shades_of c.geometry w (flight_at c) c.spot.line names) (flight_at c) (begun_at c) c.spot
-          names (contents_of c.geometry history) range
+      names (contents_of c.geometry history) range

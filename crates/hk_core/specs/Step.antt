@@ -275,7 +275,7 @@ new_took g f shape old =
     if f.place == 1 then record f { place = 2; word = old; full = full_to g f.seat shape old }
     else if f.place == 2 then record f { place = 3 }
     else if f.place == 3 then (if f.full then record f { place = 4 }
-        else record f { place = 4; word = old; full = full_to_all g shape old; raised = true })
+    else record f { place = 4; word = old; full = full_to_all g shape old; raised = true })
     else if f.place == 4 then record f { place = 5; number = old }
     else if f.place == 5 then record f { place = 6 }
     else if f.place == 6 then record f { place = 7 }

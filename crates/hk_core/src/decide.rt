@@ -7,13 +7,12 @@ ghost use Rattle.hk_core.specs.Step.{event_of, reference_cell, number_cell, new_
 ghost use Rattle.hk_core.specs.Fits.{Fits, CallFits, NamesNumber, IsInSpaces};
 ghost use Rattle.hk_words.specs.declared.call.Call.TheVariants.{Get, Put, Load, Store, Move, Clear, New};
 
-use hk_words::{
-    Call, ENTER, Geometry, LEAVE, Shape, pack_header, pack_reference, raise_by, reference_number, reference_refs,
-    w0_cycle, w0_objects, w0_words,
-};
-
 use crate::flight::{reference_size, reserved_fits};
 use crate::{Event, Flight};
+use hk_words::{
+    Call, ENTER, Geometry, LEAVE, Shape, pack_header, pack_reference, raise_by, reference_number,
+    reference_refs, w0_cycle, w0_objects, w0_words,
+};
 
 impl Flight {
     /// The event of the flight's place, and None exactly where the place is a rest.
@@ -226,7 +225,10 @@ impl Flight {
         if self.item == 0 {
             return None;
         }
-        Some(Event::Max(g.mark_at(reference_number(self.item)), u64::from(w0_cycle(self.word))))
+        Some(Event::Max(
+            g.mark_at(reference_number(self.item)),
+            u64::from(w0_cycle(self.word)),
+        ))
     }
 
     #[tactic(auto, unfolding(crate::specs::Step::reserve))]
@@ -244,7 +246,10 @@ impl Flight {
         ensures { result ≡ table.link g.now self.now }
     {
         if self.claimer && reserved_fits(g, self.offset, self.item) {
-            Some(Event::Write(g.space_at(g.place_at(self.side(), self.offset as u32)), self.item))
+            Some(Event::Write(
+                g.space_at(g.place_at(self.side(), self.offset as u32)),
+                self.item,
+            ))
         } else {
             None
         }

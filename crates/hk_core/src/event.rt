@@ -62,13 +62,7 @@ impl Event {
             Event::Add(_, amount) => old + amount,
             Event::Sub(_, amount) => old - amount,
             Event::Max(_, value) => old.max(value),
-            Event::Trade { current, new, .. } => {
-                if old == current {
-                    new
-                } else {
-                    old
-                }
-            }
+            Event::Trade { current, new, .. } => { if old == current { new } else { old } }
         }
     }
 

@@ -11,13 +11,12 @@ ghost use Rattle.hk_core.specs.Begin.{most_calls, register_word, entered_word, c
 ghost use Rattle.hk_core.specs.Fits.{CanStep};
 ghost use Rattle.hk_core.specs.Lawful.{Lawful};
 
+use crate::opening::{opening_begun, opening_flights, opening_row, opening_spot};
+use crate::{Event, Fault, Flight, Spot, Step};
 use hk_model::Memory;
 use hk_words::{Call, Geometry, reference_nums, reference_refs, w0_cycle, w0_words};
 use std::alloc::Global;
 use std::marker::Model;
-
-use crate::opening::{opening_begun, opening_flights, opening_row, opening_spot};
-use crate::{Event, Fault, Flight, Spot, Step};
 
 /// The calls that a seat can begin.
 pub const MAX_CALLS: u32 = 1 << 30;
@@ -271,9 +270,10 @@ impl Core {
         ensures { result ≡ entered_word self.now seat call.now }
     {
         match *call {
-            Call::Get { reg, .. } | Call::Put { reg, .. } | Call::Load { reg, .. } | Call::Store { reg, .. } => {
-                self.register(seat, reg)
-            }
+            Call::Get { reg, .. }
+            | Call::Put { reg, .. }
+            | Call::Load { reg, .. }
+            | Call::Store { reg, .. } => { self.register(seat, reg) }
             Call::Move { .. }
             | Call::Clear { .. }
             | Call::New { .. }

@@ -6,10 +6,9 @@ ghost use Rattle.hk_words.specs.Row.{slot_at};
 ghost use Rattle.hk_core.specs.State as state;
 ghost use Rattle.hk_core.specs.State.{idle, opening_row, opening_spot, opening_header, opening_mark, opening_entry, opening_register};
 
+use crate::{Flight, Line, Spot};
 use hk_words::{Geometry, pack_header, pack_reference, pack_w0};
 use std::alloc::{AllocError, Global};
-
-use crate::{Flight, Line, Spot};
 
 /// The row of words at the start.
 #[tactic(auto, unfolding(crate::specs::State::opening_row))]
@@ -91,7 +90,11 @@ fn opening_word(g: &Geometry, index: u32) -> u64
 fn opening_header(g: &Geometry, number: u32) -> u64
     ensures { result ≡ opening_header g.now number }
 {
-    if number == 0 { pack_header(0, g.place_at(1, 0), 0) } else { 0 }
+    if number == 0 {
+        pack_header(0, g.place_at(1, 0), 0)
+    } else {
+        0
+    }
 }
 
 /// The board is marked for cycle 1, as are the numbers of its list; those of list 0 are marked for cycle 2.
@@ -114,7 +117,11 @@ fn opening_mark(g: &Geometry, number: u32) -> u64
 fn opening_register(g: &Geometry, reg: u32) -> u64
     ensures { result ≡ opening_register g.now reg }
 {
-    if reg == 0 { pack_reference(0, g.board()) } else { 0 }
+    if reg == 0 {
+        pack_reference(0, g.board())
+    } else {
+        0
+    }
 }
 
 /// List 1 has the numbers after the board, and list 0 those after them.
@@ -123,6 +130,10 @@ fn opening_entry(g: &Geometry, list: u32, entry: u32) -> u64
     requires { entry < list_length g.now }
     ensures { result ≡ opening_entry g.now list entry }
 {
-    let number = if list == 1 { entry + 1 } else { g.alloc() / 2 + entry + 1 };
+    let number = if list == 1 {
+        entry + 1
+    } else {
+        g.alloc() / 2 + entry + 1
+    };
     u64::from(number)
 }

@@ -5,9 +5,8 @@ ghost use Rattle.hk_core.specs.Step as table;
 ghost use Rattle.hk_core.specs.Step.{took_of, step_of, outcome_at, places_of, claims, full_to, full_to_all};
 ghost use Rattle.hk_core.specs.Fits.{FindsNumber};
 
-use hk_words::{Call, Geometry, Reply, Shape, header_place, w0_cycle, w0_words};
-
 use crate::{Flight, Outcome, Step};
+use hk_words::{Call, Geometry, Reply, Shape, header_place, w0_cycle, w0_words};
 
 impl Flight {
     /// Goes on to the next place, where the event of this place found the word `old` (0 after a rest or a write), and
@@ -75,8 +74,16 @@ impl Flight {
         ensures { result ≡ table.get_took self.now old }
     {
         match self.place {
-            1 => Flight { place: 2, at: header_place(old), ..*self },
-            2 => Flight { place: 3, item: old, ..*self },
+            1 => Flight {
+                place: 2,
+                at: header_place(old),
+                ..*self
+            },
+            2 => Flight {
+                place: 3,
+                item: old,
+                ..*self
+            },
             3 => Flight::idle(self.seat),
             _ => *self,
         }
@@ -87,7 +94,11 @@ impl Flight {
         ensures { result ≡ table.put_took self.now old }
     {
         match self.place {
-            1 => Flight { place: 2, at: header_place(old), ..*self },
+            1 => Flight {
+                place: 2,
+                at: header_place(old),
+                ..*self
+            },
             2 => Flight { place: 3, ..*self },
             3 => Flight::idle(self.seat),
             _ => *self,
@@ -122,11 +133,31 @@ impl Flight {
     {
         match self.place {
             1 => Flight { place: 2, ..*self },
-            2 => Flight { place: 3, at: header_place(old), ..*self },
-            3 => Flight { place: 4, word: old, ..*self },
-            4 => Flight { place: 5, item: old, ..*self },
-            5 => Flight { place: 6, claimer: self.claims(old), ..*self },
-            6 => Flight { place: 7, offset: old, ..*self },
+            2 => Flight {
+                place: 3,
+                at: header_place(old),
+                ..*self
+            },
+            3 => Flight {
+                place: 4,
+                word: old,
+                ..*self
+            },
+            4 => Flight {
+                place: 5,
+                item: old,
+                ..*self
+            },
+            5 => Flight {
+                place: 6,
+                claimer: self.claims(old),
+                ..*self
+            },
+            6 => Flight {
+                place: 7,
+                offset: old,
+                ..*self
+            },
             7 => Flight { place: 8, ..*self },
             8 => Flight { place: 9, ..*self },
             9 => Flight { place: 10, ..*self },
@@ -140,10 +171,26 @@ impl Flight {
         ensures { result ≡ table.store_took self.now old }
     {
         match self.place {
-            1 => Flight { place: 2, at: header_place(old), ..*self },
-            2 => Flight { place: 3, word: old, ..*self },
-            3 => Flight { place: 4, claimer: self.claims(old), ..*self },
-            4 => Flight { place: 5, offset: old, ..*self },
+            1 => Flight {
+                place: 2,
+                at: header_place(old),
+                ..*self
+            },
+            2 => Flight {
+                place: 3,
+                word: old,
+                ..*self
+            },
+            3 => Flight {
+                place: 4,
+                claimer: self.claims(old),
+                ..*self
+            },
+            4 => Flight {
+                place: 5,
+                offset: old,
+                ..*self
+            },
             5 => Flight { place: 6, ..*self },
             6 => Flight { place: 7, ..*self },
             7 => Flight::idle(self.seat),
@@ -157,11 +204,26 @@ impl Flight {
         ensures { result ≡ table.new_took g.now self.now shape old }
     {
         match self.place {
-            1 => Flight { place: 2, word: old, full: Flight::full_to(g, self.seat, shape, old), ..*self },
+            1 => Flight {
+                place: 2,
+                word: old,
+                full: Flight::full_to(g, self.seat, shape, old),
+                ..*self
+            },
             2 => Flight { place: 3, ..*self },
             3 if self.full => Flight { place: 4, ..*self },
-            3 => Flight { place: 4, word: old, full: Flight::full_to_all(g, shape, old), raised: true, ..*self },
-            4 => Flight { place: 5, number: old as u32, ..*self },
+            3 => Flight {
+                place: 4,
+                word: old,
+                full: Flight::full_to_all(g, shape, old),
+                raised: true,
+                ..*self
+            },
+            4 => Flight {
+                place: 5,
+                number: old as u32,
+                ..*self
+            },
             5 => Flight { place: 6, ..*self },
             6 => Flight { place: 7, ..*self },
             7 => Flight::idle(self.seat),
@@ -180,7 +242,11 @@ impl Flight {
     fn full_to(g: &Geometry, seat: u8, shape: Shape, w0: u64) -> bool
         ensures { result ≡ full_to g.now seat shape w0 }
     {
-        let limit = if seat < g.high() { g.alloc() } else { g.alloc() - g.reserve() };
+        let limit = if seat < g.high() {
+            g.alloc()
+        } else {
+            g.alloc() - g.reserve()
+        };
         w0_words(w0) + shape.words() > limit
     }
 

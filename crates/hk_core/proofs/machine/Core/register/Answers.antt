@@ -19,7 +19,7 @@ returns c =
     let e : c.self.inside.geometry ≡ c.args.self.now.geometry = ap (λ (s : State). s.geometry) c.self.view_is in
     let fits : IsRegister c.self.inside.geometry c.args.seat c.args.reg = rw e c.requires in
     let within : c.register_at.result < length c.self.inside.row.items =
-        omega (arith, index_below c.self.inside.geometry (Register c.args.seat c.args.reg) fits, c.self.invariant.row) in
+    omega (arith, index_below c.self.inside.geometry (Register c.args.seat c.args.reg) fits, c.self.invariant.row) in
     rw (← c.self.view_is)
-        (c.index.ensures ∙ (get_or_default_zero c.self.inside.row.items c.register_at.result c.index.result.now within
-            ∙ ap (λ i. get_or c.self.inside.row.items i 0) c.register_at.ensures))
+    (c.index.ensures ∙ (get_or_default_zero c.self.inside.row.items c.register_at.result c.index.result.now within
+    ∙ ap (λ i. get_or c.self.inside.row.items i 0) c.register_at.ensures))

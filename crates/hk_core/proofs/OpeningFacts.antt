@@ -1,20 +1,19 @@
 -- The facts of the opening state.
-use Rattle.std.proofs.Common.{◌≡◌, ◌≢◌, ◌⊎◌, ℕ, zero, suc, ◌+◌, ◌-◌, ◌*◌, ◌/◌, ◌%◌, ◌<◌, ◌≤◌, Bool, true, false, List, refl, sym, arith, ◌∙◌, ap, inl, inr, Option, Some, None}
+use Rattle.std.proofs.Common.{◌≡◌, ℕ, ◌+◌, ◌-◌, ◌*◌, ◌<◌, Bool, true, false, refl, sym, arith, ◌∙◌, ap, inl, inr, Some, None}
 use Rattle.std.proofs.lemmas.Bool.{cases_eq, cases_lt, both_ways, and_parts, lt-ltb, le-ltb}
 use Rattle.std.proofs.lemmas.Bool.Decides.{nat_tests}
 use Rattle.std.specs.Prelude.{is_some}
 use Rattle.hk_words.specs.declared.geometry.Geometry.{Geometry}
-use Rattle.hk_words.specs.Geometry.{tasks, numbers, list_length, space_words}
+use Rattle.hk_words.specs.Geometry.{tasks, numbers, list_length}
 use Rattle.hk_words.specs.Layout as layout
-use Rattle.hk_words.specs.Row.{place_at}
-use Rattle.hk_core.specs.State.{State, idle, opening_spot, board_reference}
+use Rattle.hk_core.specs.State.{idle, opening_spot, board_reference}
 use Rattle.hk_core.specs.Counts.{count_below}
 use Rattle.hk_core.specs.View.{Words, Names, Contents, shown, refs_at, nums_at, size_at, reference_at}
 use Rattle.hk_core.specs.Flights as f
 use Rattle.hk_core.specs.Lines as l
-use Rattle.hk_core.specs.Colours.{Spaces, spaces_of, Shades, shades_of, kept_by, held_by, white_by, grey_by, black_frame_by, IsGood, InCurrent}
+use Rattle.hk_core.specs.Colours.{spaces_of, shades_of, kept_by, held_by, white_by, grey_by, black_frame_by, IsGood, InCurrent}
 use Rattle.hk_core.specs.Facts as fact
-use Rattle.hk_core.specs.Lawful.{Facts, FactsOf, hands_of}
+use Rattle.hk_core.specs.Lawful.{FactsOf, hands_of}
 use Rattle.hk_core.proofs.OpeningTables as table
 use Rattle.hk_core.proofs.OpeningTables.{count_none}
 use Rattle.hk_core.proofs.OpeningRow.{IsOpened}

@@ -1,13 +1,13 @@
 -- The plain heap at the start, seen by functions.
-use Rattle.std.proofs.Common.{◌≡◌, ◌≢◌, ℕ, zero, suc, ◌+◌, ◌-◌, ◌<◌, ◌≤◌, Bool, true, false, List, [], ◌∷◌, length, refl, arith, ◌∙◌, ap, get_or, replicate, Option, Some, None, inl, inr}
+use Rattle.std.proofs.Common.{◌≡◌, ◌≢◌, ℕ, zero, suc, ◌-◌, ◌<◌, ◌≤◌, List, [], ◌∷◌, length, refl, arith, replicate, Option, Some, None, inl, inr}
 use Rattle.std.proofs.lemmas.Bool.{cases_lt}
 use Rattle.std.proofs.lemmas.List.{get_or-replicate}
 use Rattle.std.proofs.Math.ListN.{get_or-eq_default, length-replicate}
 use Rattle.std.proofs.lemmas.Bool.Decides.{nat_tests}
 use Rattle.hk_words.specs.declared.geometry.Geometry.{Geometry}
 use Rattle.hk_words.specs.Geometry.{tasks}
-use Rattle.hk_model.specs.Heap.{Heap, opening, opening_of, made, first_registers, register, refs, nums, link, value, of_object}
-use Rattle.hk_model.specs.History.{History, after, number_of, bearer, numbers, births, last_place}
+use Rattle.hk_model.specs.Heap.{opening, opening_of, made, first_registers, register, refs, nums, link, value, of_object}
+use Rattle.hk_model.specs.History.{after, number_of, bearer, numbers, births, last_place}
 use Rattle.hk_model.proofs.Views.{get_or-replicate_same}
 use Rattle.hk_core.specs.View.{Names, Contents, names_of, contents_of}
 

@@ -1,5 +1,5 @@
 -- The opening state is lawful for the empty history.
-use Rattle.std.proofs.Common.{◌≡◌, ℕ, List, [], length, refl, sym, ◌∙◌, ap}
+use Rattle.std.proofs.Common.{◌≡◌, ℕ, List, []}
 use Rattle.std.proofs.Math.ListN.{length-replicate}
 use Rattle.std.proofs.lemmas.List.FromFn.{length-map-range_with_len}
 use Rattle.std.specs.Prelude.{None, map, replicate}
@@ -9,10 +9,10 @@ use Rattle.hk_core.specs.declared.spot.Spot.{Spot}
 use Rattle.hk_words.specs.declared.geometry.Geometry.{Geometry}
 use Rattle.hk_words.specs.Geometry.{tasks, row_length}
 use Rattle.hk_words.specs.Row.{slot_at}
-use Rattle.hk_model.specs.History.{History, Legal}
+use Rattle.hk_model.specs.History.{Legal}
 use Rattle.hk_model.specs.Heap.{opening_of}
-use Rattle.hk_core.specs.State.{State, IsSized, idle, opening, opening_row, opening_word, opening_spot}
-use Rattle.hk_core.specs.View.{Words, words_of, names_of, contents_of, flight_at, begun_at}
+use Rattle.hk_core.specs.State.{IsSized, idle, opening, opening_row, opening_word, opening_spot}
+use Rattle.hk_core.specs.View.{words_of, names_of, contents_of}
 use Rattle.hk_core.specs.Lawful.{Lawful, FactsOf}
 use Rattle.hk_core.proofs.OpeningTables.{flight_at-opening, begun_at-opening}
 use Rattle.hk_core.proofs.OpeningRow.{opened, at_start, words_of-opening}

@@ -1,9 +1,9 @@
 -- The words of the opening row, seen by columns.
-use Rattle.std.proofs.Common.{◌≡◌, ◌≢◌, ℕ, zero, suc, ◌+◌, ◌-◌, ◌*◌, ◌/◌, ◌%◌, ◌<◌, ◌≤◌, Bool, true, false, List, length, refl, sym, arith, ◌∙◌, ap, get_or, inl, inr}
+use Rattle.std.proofs.Common.{◌≡◌, ◌≢◌, ℕ, zero, suc, ◌+◌, ◌*◌, ◌<◌, ◌≤◌, Bool, true, false, refl, arith, ◌∙◌, ap}
 use Rattle.std.proofs.lemmas.Bool.{ltb-true, ltb-false, leb-true, lt-ltb, and_parts, and_from}
 use Rattle.std.proofs.lemmas.Bool.Decides.{nat_tests}
 use Rattle.std.proofs.lemmas.List.FromFn.{get_or-map-range_with_len}
-use Rattle.std.specs.Prelude.{nat_lt, nat_le, nat_eq, ◌&&◌}
+use Rattle.std.specs.Prelude.{nat_lt, nat_le, ◌&&◌}
 use Rattle.hk_words.specs.declared.geometry.Geometry.{Geometry}
 use Rattle.hk_words.specs.Geometry.{tasks, numbers, list_length, space_words, row_length}
 use Rattle.hk_words.specs.Layout.{pack_header, header_accessors, header_place, header_version, frame_accessors, frame_cycle, frame_version, pack_w0, w0_words, w0_objects, w0_cycle}
@@ -11,7 +11,7 @@ use Rattle.hk_words.specs.Row.{Slot, InRow, index_of, slot_at, word_of, place_at
 use Rattle.hk_words.specs.Row.Slot.{W0, W1, Header, Mark, Frame, Register, Entry, Space}
 use Rattle.hk_words.proofs.RowLaws.{index_below, slot_at-index_of}
 use Rattle.hk_core.specs.State.{opening_row, opening_word, opening_header, opening_mark, opening_entry, opening_register, board_reference}
-use Rattle.hk_core.specs.View.{Words, Raw, raw, decoded, words_of, word_if}
+use Rattle.hk_core.specs.View.{Words, raw, decoded, words_of, word_if}
 
 -- each slot of the opening row holds its opening word
 pub word_of-opening : (g : Geometry) (slot : Slot) → InRow g slot → word_of g (opening_row g) slot ≡ opening_word g slot

@@ -1,6 +1,6 @@
 -- The collector, event by event. Its spot says where it is in the cycle, and the values that it has read. Three tables
 -- follow for each line of the spot: the event, what the spot is once it was done, and what the event did.
-use Rattle.std.specs.Prelude.{◌≡◌, ℕ, ◌+◌, ◌-◌, ◌*◌, ◌/◌, ◌%◌, ◌^◌, ◌==◌, nat_lt, nat_le, Bool, true, false, not, ◌&&◌, ◌||◌, Option, Some, None, if◌then◌else◌}
+use Rattle.std.specs.Prelude.{ℕ, ◌+◌, ◌-◌, ◌%◌, ◌^◌, ◌==◌, nat_lt, nat_le, Bool, not, ◌&&◌, Option, Some, None, if◌then◌else◌}
 use Rattle.hk_words.specs.declared.geometry.Geometry.{Geometry}
 use Rattle.hk_words.specs.Geometry.{tasks, numbers, list_length, space_words}
 use Rattle.hk_words.specs.Layout.{reference_number, reference_refs, header_accessors, header_place, header_moved, frame_accessors, frame_blackened, pack_w0, cycle_bits}

@@ -1,5 +1,5 @@
 -- The colours of objects and frames, the numbers that are kept, and the two spaces of a cycle.
-use Rattle.std.specs.Prelude.{◌≡◌, ◌≢◌, ◌⊎◌, ℕ, ◌+◌, ◌*◌, ◌%◌, ◌<◌, ◌≤◌, nat_eq, nat_lt, nat_le, Bool, true, false, not, ◌&&◌, ◌||◌, is_some, Option, Some, None}
+use Rattle.std.specs.Prelude.{◌≡◌, ◌≢◌, ◌⊎◌, ℕ, ◌+◌, ◌<◌, ◌≤◌, nat_eq, nat_lt, nat_le, Bool, true, false, not, ◌&&◌, ◌||◌, is_some, Option, Some, None}
 use Rattle.hk_words.specs.declared.geometry.Geometry.{Geometry}
 use Rattle.hk_words.specs.Geometry.{tasks, numbers}
 use Rattle.hk_words.specs.Layout.{reference_number}
@@ -8,7 +8,7 @@ use Rattle.hk_core.specs.declared.flight.Flight.{Flight}
 use Rattle.hk_core.specs.declared.spot.Line.{Line}
 use Rattle.hk_core.specs.Counts.{any_below}
 use Rattle.hk_core.specs.Collect.{current_space, old_space}
-use Rattle.hk_core.specs.View.{Words, Names, shown, size_at, reference_at}
+use Rattle.hk_core.specs.View.{Words, Names, size_at, reference_at}
 use Rattle.hk_core.specs.Flights.{holds_number}
 use Rattle.hk_core.specs.Lines.{is_marking}
 

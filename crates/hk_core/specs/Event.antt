@@ -1,5 +1,5 @@
 -- Events: one atomic access to one word of the row.
-use Rattle.std.specs.Prelude.{◌≡◌, ℕ, ◌+◌, ◌-◌, ◌^◌, ◌<◌, ◌≤◌, ◌==◌, max, List, length, slice_index, slice_set, ⊤, Option, Some, None, if◌then◌else◌}
+use Rattle.std.specs.Prelude.{ℕ, ◌+◌, ◌-◌, ◌^◌, ◌<◌, ◌≤◌, ◌==◌, max, List, length, slice_index, slice_set, ⊤, Option, Some, None, if◌then◌else◌}
 use Rattle.hk_core.specs.declared.event.Event.{Event}
 use Rattle.hk_core.specs.declared.event.Event.TheVariants.{Load, Write, Swap, Add, Sub, Max, Trade}
 

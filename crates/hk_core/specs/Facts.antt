@@ -1,25 +1,24 @@
 -- The facts of a lawful state, one by one. Each takes the columns that it reads, and nothing more, so that a step which
 -- changes none of these leaves the fact as it is. Beside what a fact means stands a step that would break without it.
-use Rattle.std.specs.Prelude.{◌≡◌, ◌≢◌, ◌⊎◌, ℕ, ◌+◌, ◌-◌, ◌*◌, ◌/◌, ◌%◌, ◌<◌, ◌≤◌, Bool, true, false, ◌==◌, nat_eq, not, ◌&&◌, Option, Some, None, ⊤, if◌then◌else◌}
+use Rattle.std.specs.Prelude.{◌≡◌, ◌≢◌, ◌⊎◌, ℕ, ◌+◌, ◌*◌, ◌<◌, ◌≤◌, Bool, true, false, nat_eq, Option, Some, None, if◌then◌else◌}
 use Rattle.hk_words.specs.declared.geometry.Geometry.{Geometry}
 use Rattle.hk_words.specs.declared.shape.TheConstants.{MAX_FIELDS}
-use Rattle.hk_words.specs.declared.call.Call.{Call}
 use Rattle.hk_words.specs.Geometry.{tasks, numbers, list_length}
 use Rattle.hk_words.specs.Layout as layout
 use Rattle.hk_words.specs.Calls.{entered, target, RegistersFit}
-use Rattle.hk_model.specs.History.{is_new, is_question}
+use Rattle.hk_model.specs.History.{is_question}
 use Rattle.hk_core.specs.declared.flight.Flight.{Flight}
 use Rattle.hk_core.specs.declared.spot.Spot.{Spot}
 use Rattle.hk_core.specs.declared.spot.Line.{Line}
 use Rattle.hk_core.specs.Counts.{count_below, sum_below}
-use Rattle.hk_core.specs.Step.{places_of, reference_size, new_place, side_of}
+use Rattle.hk_core.specs.Step.{places_of, new_place, side_of}
 use Rattle.hk_core.specs.Begin.{most_calls, has_field, copied}
-use Rattle.hk_core.specs.Collect.{last_cycle, current_space, next_list}
+use Rattle.hk_core.specs.Collect.{last_cycle}
 use Rattle.hk_core.specs.View.{Names, shown}
 use Rattle.hk_core.specs.Flights as f
 use Rattle.hk_core.specs.Flights.{Hand, to_reserve, to_link}
 use Rattle.hk_core.specs.Lines as l
-use Rattle.hk_core.specs.Colours.{Spaces, LiesIn, InCurrent, InOld, Apart, Covers, IsGood, IsNullOrGood, IsNullOrKept, NamesNoWhite, IsNullOrMarked}
+use Rattle.hk_core.specs.Colours.{Spaces, InCurrent, InOld, Apart, Covers, IsGood, IsNullOrGood, IsNullOrKept, NamesNoWhite, IsNullOrMarked}
 
 -- SINGLE WORDS
 

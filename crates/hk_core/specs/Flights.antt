@@ -1,12 +1,12 @@
 -- What a flight is in the middle of. Each of these is a table on calls and places.
-use Rattle.std.specs.Prelude.{◌≡◌, ℕ, ◌+◌, ◌*◌, ◌%◌, ◌≤◌, Option, Some, None, nat_eq, nat_le, Bool, true, false, not, ◌&&◌, ◌||◌, if◌then◌else◌}
+use Rattle.std.specs.Prelude.{◌≡◌, ℕ, ◌≤◌, Option, Some, None, nat_eq, nat_le, Bool, true, false, not, ◌&&◌, ◌||◌, if◌then◌else◌}
 use Rattle.hk_words.specs.declared.geometry.Geometry.{Geometry}
 use Rattle.hk_words.specs.declared.call.Call.{Call}
 use Rattle.hk_words.specs.declared.call.Call.TheVariants.{Get, Put, Load, Store, Move, Clear, New, Same, IsNull}
 use Rattle.hk_words.specs.Shape.{size}
 use Rattle.hk_words.specs.Layout.{reference_number, w0_words, w0_objects, w0_cycle}
 use Rattle.hk_core.specs.declared.flight.Flight.{Flight}
-use Rattle.hk_core.specs.Step.{side_of, reserved_fits}
+use Rattle.hk_core.specs.Step.{reserved_fits}
 
 -- a place is one of those from a first to a last one
 abbrev pub is_between : (first last place : ℕ) → Bool

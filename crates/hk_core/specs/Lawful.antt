@@ -10,7 +10,7 @@ use Rattle.hk_core.specs.State.{State, IsSized}
 use Rattle.hk_core.specs.Collect.{current_space, next_list}
 use Rattle.hk_core.specs.View.{Words, Names, Contents, words_of, names_of, contents_of, flight_at, begun_at, reference_at}
 use Rattle.hk_core.specs.Flights.{Hand, hand_of_flight}
-use Rattle.hk_core.specs.Lines.{is_marking, is_resting, written, marked, emptied, cleared, hand_of_spot}
+use Rattle.hk_core.specs.Lines.{is_resting, written, marked, emptied, cleared, hand_of_spot}
 use Rattle.hk_core.specs.Colours.{Spaces, spaces_of, Shades, shades_of}
 use Rattle.hk_core.specs.Facts as fact
 

@@ -1,5 +1,5 @@
 -- Interleavings: the steps of the seats and of the collector, in any order.
-use Rattle.std.specs.Prelude.{ℕ, nat_lt, nat_eq, Bool, true, false, not, ◌&&◌, List, [], fold, if◌then◌else◌}
+use Rattle.std.specs.Prelude.{ℕ, nat_lt, nat_eq, Bool, not, ◌&&◌, List, [], fold, if◌then◌else◌}
 use Rattle.hk_words.specs.declared.geometry.Geometry.{Geometry}
 use Rattle.hk_words.specs.declared.call.Call.{Call}
 use Rattle.hk_words.specs.declared.call.Call.TheVariants.{Get, Put, Load, Store, Move, Clear, New, Same, IsNull}

@@ -1,7 +1,7 @@
 -- What the words of a row say, as columns: functions from a number, a seat, an entry or a place to what stands there.
 -- A column is 0 where the row has no such word. A step changes few columns, each at one index, and a fact that reads
 -- none of these is the same fact before and after it.
-use Rattle.std.specs.Prelude.{ℕ, ◌+◌, ◌-◌, ◌*◌, ◌/◌, ◌%◌, ◌^◌, nat_lt, nat_le, Bool, ◌&&◌, List, slice_index, Option, option_map, unwrap_or, None, Some, if◌then◌else◌}
+use Rattle.std.specs.Prelude.{ℕ, ◌+◌, ◌*◌, nat_lt, nat_le, Bool, ◌&&◌, List, slice_index, Option, option_map, unwrap_or, None, Some, if◌then◌else◌}
 use Rattle.hk_words.specs.declared.geometry.Geometry.{Geometry}
 use Rattle.hk_words.specs.Geometry.{tasks, numbers, list_length, space_words}
 use Rattle.hk_words.specs.Layout as layout
@@ -9,7 +9,6 @@ use Rattle.hk_words.specs.Row.{Slot, W0, W1, Header, Mark, Frame, Register, Entr
 use Rattle.hk_model.specs.Heap as heap
 use Rattle.hk_model.specs.History.{History, number_of, bearer, after}
 use Rattle.hk_core.specs.declared.flight.Flight.{Flight}
-use Rattle.hk_core.specs.declared.spot.Spot.{Spot}
 use Rattle.hk_core.specs.State.{State, flight_of}
 
 -- The words of a row.

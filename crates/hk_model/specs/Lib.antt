@@ -1,0 +1,4 @@
+pub mod Heap
+pub mod Replies
+pub mod History
+pub mod View

@@ -1,0 +1,7 @@
+//! The heap that never collects: a definition of what each call on a heap answers and changes, and a heap that does
+//! just that.
+#![tactic(auto)]
+
+mod plain;
+
+pub use plain::{Memory, Plain};

@@ -1,5 +1,5 @@
 -- The heap that never collects: every object that was ever made, in order of birth, and the registers of the tasks.
-use Rattle.std.specs.Prelude.{ℕ, ◌-◌, List, [], ◌∷◌, length, replicate, slice_get, slice_index, slice_index_or, Option, Some, None, unwrap_or, option_map}
+use Rattle.std.specs.Prelude.{◌≡◌, ℕ, ◌-◌, ◌<◌, List, [], ◌∷◌, length, replicate, slice_get, slice_index, slice_index_or, Option, Some, None, unwrap_or, option_map}
 use Rattle.hk_words.specs.declared.geometry.Geometry.{Geometry}
 use Rattle.hk_words.specs.declared.shape.Shape.{Shape}
 use Rattle.hk_words.specs.Geometry.{tasks}
@@ -23,6 +23,10 @@ born h = length h.objects
 -- what a register of a seat holds
 unfoldable pub register : Heap → ℕ → ℕ → Option ℕ
 register h seat reg = slice_index_or (slice_index_or h.registers seat []) reg None
+
+-- how many registers the task of a seat has
+unfoldable pub register_count : Heap → ℕ → ℕ
+register_count h seat = length (slice_index_or h.registers seat [])
 
 -- what is read from the object of a birth, and the given value where there is no such birth
 unfoldable pub of_object : {A : Type 0} → A → (Object → A) → Heap → ℕ → A
@@ -58,3 +62,21 @@ opening tasks count board = record { objects = made board ∷ []; registers = re
 -- the heap at the start that a geometry stands for
 unfoldable pub opening_of : Geometry → Heap
 opening_of g = opening (tasks g) g.registers g.board
+
+-- what every call keeps of a heap for so many tasks with so many registers each
+pub record IsHeap (tasks count : ℕ) (h : Heap) : Type 0 where
+  -- each task has a list of registers, of the same length
+  pub tasks_are : length h.registers ≡ tasks
+  pub registers_are : (seat : ℕ) → seat < tasks → register_count h seat ≡ count
+  -- there is a board
+  pub has_board : 0 < born h
+  -- what a register or a reference cell refers to was born
+  pub register_born : (seat reg birth : ℕ) → register h seat reg ≡ Some birth → birth < born h
+  pub link_born : (owner field birth : ℕ) → link h owner field ≡ Some birth → birth < born h
+  -- each object has the cells of its shape
+  pub refs_are : (birth : ℕ) → of_object 0 (λ object. length object.refs) h birth ≡ refs h birth
+  pub nums_are : (birth : ℕ) → of_object 0 (λ object. length object.nums) h birth ≡ nums h birth
+
+-- register 0 of each of so many tasks refers to the board
+abbrev pub HoldsBoard : (tasks : ℕ) → Heap → Type 0
+HoldsBoard tasks h = (seat : ℕ) → seat < tasks → register h seat 0 ≡ Some 0

@@ -1,0 +1,6 @@
+pub mod Effects
+pub mod Heaps
+pub mod Lists
+pub mod Replies
+pub mod Updates
+pub mod Views

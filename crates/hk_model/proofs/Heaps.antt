@@ -126,7 +126,7 @@ IsHeap-with_object tasks count h shape is =
       nums_are = agree-with_object (λ o. length o.nums) (λ o. o.shape.nums) h shape is.nums_are (made_nums shape) }
 
 -- what holds of both ends of a call that enters an object, and of what it does there, holds where it comes to
-entering_all : {A : Type 0} (P : A → Type 0) (entered : Option ℕ) (has : ℕ → Bool) (nil no_field : A) (done : ℕ → A) → P nil → P no_field → ((birth : ℕ) → P (done birth)) → P (entering entered has nil no_field done)
+pub entering_all : {A : Type 0} (P : A → Type 0) (entered : Option ℕ) (has : ℕ → Bool) (nil no_field : A) (done : ℕ → A) → P nil → P no_field → ((birth : ℕ) → P (done birth)) → P (entering entered has nil no_field done)
 entering_all P None has nil no_field done a b c = a
 entering_all P (Some birth) has nil no_field done a b c = elim (has birth) as (λ v. P (if v then done birth else no_field)) [ true ↦ c birth | false ↦ b ]
 

@@ -1,5 +1,6 @@
 pub mod Effects
 pub mod Heaps
+pub mod Histories
 pub mod Lists
 pub mod Replies
 pub mod Updates

@@ -103,3 +103,14 @@ get_or-changed_row_other (row ∷ rows) zero j v (suc k) l d n = refl
 get_or-changed_row_other (row ∷ rows) (suc i) j v zero l d n = refl
 get_or-changed_row_other (row ∷ rows) (suc i) j v (suc k) l d (inl n) = get_or-changed_row_other rows i j v k l d (inl (λ e. n (ap suc e)))
 get_or-changed_row_other (row ∷ rows) (suc i) j v (suc k) l d (inr n) = get_or-changed_row_other rows i j v k l d (inr n)
+
+-- an element of a list with one more
+pub get_or-push_last : {A : Type 0} (xs : List A) (y d : A) → get_or (xs ++ y ∷ []) (length xs) d ≡ y
+get_or-push_last [] y d = refl
+get_or-push_last (x ∷ xs) y d = get_or-push_last xs y d
+
+pub get_or-push_before : {A : Type 0} (xs : List A) (y : A) (k : ℕ) (d : A) → k ≢ length xs → get_or (xs ++ y ∷ []) k d ≡ get_or xs k d
+get_or-push_before [] y zero d n = absurd (n refl)
+get_or-push_before [] y (suc k) d n = refl
+get_or-push_before (x ∷ xs) y zero d n = refl
+get_or-push_before (x ∷ xs) y (suc k) d n = get_or-push_before xs y k d (λ e. n (ap suc e))

@@ -1,5 +1,5 @@
 -- What every call keeps of a heap.
-use Rattle.std.proofs.Common.{◌≡◌, ℕ, zero, suc, ◌+◌, ◌-◌, ◌<◌, ◌≤◌, ◌≢◌, ◌⊎◌, inl, inr, refl, sym, ◌∙◌, ap, arith, Bool, true, false, List, [], ◌∷◌, length, get_or, set, slice_get, slice_index, replicate, unwrap_or, option_map, Option, Some, None, if◌then◌else◌}
+use Rattle.std.proofs.Common.{◌≡◌, ℕ, zero, suc, ◌+◌, ◌-◌, ◌<◌, ◌≤◌, ◌≢◌, ◌⊎◌, inl, inr, refl, sym, ◌∙◌, ap, arith, sub-one, Bool, true, false, List, [], ◌∷◌, length, get_or, set, slice_get, slice_index, replicate, unwrap_or, option_map, Option, Some, None, if◌then◌else◌}
 use Rattle.std.proofs.lemmas.Bool.{cases_eq, cases_lt}
 use Rattle.std.proofs.lemmas.List.{length-replicate, length-set, get_or-replicate, get_or_past}
 use Rattle.hk_words.specs.declared.shape.Shape.{Shape}
@@ -159,6 +159,12 @@ null = None
 
 abbrev nulls : ℕ → List (Option ℕ)
 nulls n = replicate n None
+
+-- registers that are null and then have the first one set
+pub first_registers_is : (count : ℕ) (row : List (Option ℕ)) → 0 < count → row ≡ replicate count None → set row 0 (Some 0) ≡ first_registers count
+unfolding first_registers
+first_registers_is zero row l e = absurd (omega arith)
+first_registers_is (suc count) row l e = rw (e, sub-one) refl
 
 first_registers_length : (count : ℕ) → 0 < count → length (first_registers count) ≡ count
 unfolding first_registers

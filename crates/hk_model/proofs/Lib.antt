@@ -1,4 +1,5 @@
 pub mod Effects
+pub mod Fields
 pub mod Heaps
 pub mod Histories
 pub mod Lists

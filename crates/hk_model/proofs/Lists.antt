@@ -114,3 +114,15 @@ get_or-push_before [] y zero d n = absurd (n refl)
 get_or-push_before [] y (suc k) d n = refl
 get_or-push_before (x ∷ xs) y zero d n = refl
 get_or-push_before (x ∷ xs) y (suc k) d n = get_or-push_before xs y k d (λ e. n (ap suc e))
+
+-- an element that a list has is read whatever would be read past its end
+pub get_or_within : {A : Type 0} (xs : List A) (i : ℕ) (d e : A) → i < length xs → get_or xs i d ≡ get_or xs i e
+get_or_within [] i d e l = absurd (omega arith)
+get_or_within (x ∷ xs) zero d e l = refl
+get_or_within (x ∷ xs) (suc i) d e l = get_or_within xs i d e (omega arith)
+
+-- a changed element is one that is set
+pub changed_at-set : {A : Type 0} (change : A → A) (xs : List A) (i : ℕ) (d : A) → changed_at change xs i ≡ set xs i (change (get_or xs i d))
+changed_at-set change [] i d = refl
+changed_at-set change (x ∷ xs) zero d = refl
+changed_at-set change (x ∷ xs) (suc i) d = ap (λ ys. x ∷ ys) (changed_at-set change xs i d)

@@ -80,3 +80,7 @@ pub record IsHeap (tasks count : ℕ) (h : Heap) : Type 0 where
 -- register 0 of each of so many tasks refers to the board
 abbrev pub HoldsBoard : (tasks : ℕ) → Heap → Type 0
 HoldsBoard tasks h = (seat : ℕ) → seat < tasks → register h seat 0 ≡ Some 0
+
+-- the same of a heap whose first task tells how many registers each task has
+abbrev pub IsPlain : Heap → Type 0
+IsPlain h = IsHeap (length h.registers) (register_count h 0) h

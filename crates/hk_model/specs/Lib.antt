@@ -1,4 +1,5 @@
 pub mod Heap
 pub mod Replies
 pub mod History
+pub mod Plain
 pub mod View

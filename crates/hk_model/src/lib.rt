@@ -2,6 +2,8 @@
 //! just that.
 #![tactic(auto)]
 
+mod object;
 mod plain;
+mod registers;
 
 pub use plain::{Memory, Plain};

@@ -1,8 +1,8 @@
 -- What the fields of a `Plain` say of the heap that it is. The heap of the fields is k, and h is the heap that the
 -- caller has; own are the registers of a task, and o is the object of a birth, as they are read from a list.
-use Rattle.std.proofs.Common.{◌≡◌, ℕ, ◌+◌, ◌<◌, ◌≤◌, refl, sym, ◌∙◌, ap, subst, arith, List, [], ◌∷◌, ◌++◌, length, get_or, set, slice_index, Option, Some, None, IfSome}
+use Rattle.std.proofs.Common.{◌≡◌, ℕ, ◌+◌, ◌<◌, ◌≤◌, refl, sym, ◌∙◌, ap, subst, arith, List, [], ◌∷◌, ◌++◌, length, get_or, set, slice_index, replicate, Option, Some, None, IfSome}
 use Rattle.hk_words.specs.declared.shape.Shape.{Shape}
-use Rattle.hk_model.specs.Heap.{Object, Heap, IsHeap, IsPlain, born, register, register_count, of_object, refs, nums, link, value, made}
+use Rattle.hk_model.specs.Heap.{Object, Heap, IsHeap, IsPlain, born, register, register_count, of_object, refs, nums, link, value, made, first_registers, opening}
 use Rattle.hk_model.specs.Replies.{changed_at, with_register, with_link, with_value, with_object}
 use Rattle.hk_model.proofs.Lists.{get_or_within, changed_at-set, read_within}
 use Rattle.hk_model.proofs.Heaps.{IsHeap-with_register, IsHeap-with_link, IsHeap-with_value, IsHeap-with_object}
@@ -129,3 +129,10 @@ object_added h k shape o objects e m a = rw (a, m, e) refl
 pub object_added_kept : (h k after : Heap) (shape : Shape) → k ≡ h → IsPlain k → after ≡ with_object h shape → IsPlain after
 object_added_kept h k after shape e is a =
     rw a (IsPlain-kept _ _ (with_object h shape) (IsHeap-with_object _ _ h shape (subst IsPlain e is)))
+
+-- the opening
+
+pub opening_is : (tasks count : ℕ) (board : Shape) (o : Object) (none objects : List Object) (registers : List (List (Option ℕ))) → o ≡ made board → none ≡ [] → objects ≡ none ++ o ∷ [] → registers ≡ replicate tasks (first_registers count)
+    → ◌≡◌ {A = Heap} (record { objects = objects; registers = registers }) (opening tasks count board)
+unfolding opening
+opening_is tasks count board o none objects registers m z a r = rw (a, m, z, r) refl

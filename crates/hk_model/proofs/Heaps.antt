@@ -6,7 +6,7 @@ use Rattle.hk_words.specs.declared.shape.Shape.{Shape}
 use Rattle.hk_words.specs.declared.call.Call.{Call}
 use Rattle.hk_words.specs.declared.call.Call.TheVariants.{Get, Put, Load, Store, Move, Clear, New, Same, IsNull}
 use Rattle.hk_words.specs.Calls.{RegistersFit}
-use Rattle.hk_model.specs.Heap.{Object, Heap, IsHeap, HoldsBoard, born, register, register_count, of_object, refs, nums, link, value, made, first_registers, opening}
+use Rattle.hk_model.specs.Heap.{Object, Heap, IsHeap, HoldsBoard, KeepsTasks, born, register, register_count, of_object, refs, nums, link, value, made, first_registers, opening}
 use Rattle.hk_model.specs.Replies.{entering, has_number, has_reference, heap_after, with_register, with_link, with_value, with_object}
 use Rattle.hk_model.specs.View.{upd}
 use Rattle.hk_model.proofs.Lists.{length-changed_at, measure-changed_at, get_or-set_cases, get_or-changed_row_cases, read-changed_at_same, read-changed_at_other}
@@ -152,6 +152,41 @@ IsHeap-heap_after tasks count h seat (New dest shape) is =
 IsHeap-heap_after tasks count h seat (Same a b) is = is
 IsHeap-heap_after tasks count h seat (IsNull reg) is = is
 
+-- every call keeps the tasks and their registers
+
+pub KeepsTasks-same : (old new : Heap) → new.registers ≡ old.registers → KeepsTasks old new
+unfolding register_count
+KeepsTasks-same old new e = (ap length e, λ s. ap (λ rows. length (get_or rows s [])) e)
+
+pub KeepsTasks-with_register : (h : Heap) (seat reg : ℕ) (v : Option ℕ) → KeepsTasks h (with_register h seat reg v)
+unfolding with_register register_count
+KeepsTasks-with_register h seat reg v =
+    (length-changed_at (λ own. set own reg v) h.registers seat, λ s. measure-changed_at length (λ own. set own reg v) [] (λ own. length-set own reg v) h.registers seat s)
+
+pub KeepsTasks-with_object_register : (h : Heap) (shape : Shape) (seat reg : ℕ) (v : Option ℕ) → KeepsTasks h (with_register (with_object h shape) seat reg v)
+KeepsTasks-with_object_register h shape seat reg v =
+    let a = KeepsTasks-same h (with_object h shape) (registers-with_object h shape) in
+    let b = KeepsTasks-with_register (with_object h shape) seat reg v in
+    (b.0 ∙ a.0, λ s. b.1 s ∙ a.1 s)
+
+pub KeepsTasks-heap_after : (h : Heap) (seat : ℕ) (call : Call) → KeepsTasks h (heap_after h seat call)
+unfolding heap_after
+KeepsTasks-heap_after h seat (Get reg field) = KeepsTasks-same h h refl
+KeepsTasks-heap_after h seat (Put reg field number) =
+    entering_all (KeepsTasks h) (register h seat reg) (has_number h field) h h (λ birth. with_value h birth field number) (KeepsTasks-same h h refl) (KeepsTasks-same h h refl)
+        (λ b. KeepsTasks-same h (with_value h b field number) (registers-with_value h b field number))
+KeepsTasks-heap_after h seat (Load dest reg field) =
+    entering_all (KeepsTasks h) (register h seat reg) (has_reference h field) h h (λ birth. with_register h seat dest (link h birth field)) (KeepsTasks-same h h refl) (KeepsTasks-same h h refl)
+        (λ b. KeepsTasks-with_register h seat dest (link h b field))
+KeepsTasks-heap_after h seat (Store reg field from) =
+    entering_all (KeepsTasks h) (register h seat reg) (has_reference h field) h h (λ birth. with_link h birth field (register h seat from)) (KeepsTasks-same h h refl) (KeepsTasks-same h h refl)
+        (λ b. KeepsTasks-same h (with_link h b field (register h seat from)) (registers-with_link h b field (register h seat from)))
+KeepsTasks-heap_after h seat (Move dest from) = KeepsTasks-with_register h seat dest (register h seat from)
+KeepsTasks-heap_after h seat (Clear dest) = KeepsTasks-with_register h seat dest None
+KeepsTasks-heap_after h seat (New dest shape) = KeepsTasks-with_object_register h shape seat dest (Some (born h))
+KeepsTasks-heap_after h seat (Same a b) = KeepsTasks-same h h refl
+KeepsTasks-heap_after h seat (IsNull reg) = KeepsTasks-same h h refl
+
 -- the heap at the start
 
 abbrev null : Option ℕ
@@ -198,7 +233,7 @@ unfolding opening of_object
 opening_nums tasks count board zero = made_nums board
 opening_nums tasks count board (suc birth) = refl
 
-opening_count : (tasks count : ℕ) (board : Shape) (seat : ℕ) → 0 < count → seat < tasks → register_count (opening tasks count board) seat ≡ count
+pub opening_count : (tasks count : ℕ) (board : Shape) (seat : ℕ) → 0 < count → seat < tasks → register_count (opening tasks count board) seat ≡ count
 unfolding register_count opening
 opening_count tasks count board seat l s = ap length (get_or-replicate tasks seat (first_registers count) [] s) ∙ first_registers_length count l
 

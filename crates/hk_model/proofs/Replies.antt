@@ -1,8 +1,9 @@
 -- Each call's reply and the heap after it, where the registers and the shape are known.
-use Rattle.std.proofs.Common.{◌≡◌, ℕ, ◌<◌, ◌≤◌, Bool, true, false, nat_lt, refl, arith, Option, Some, None, is_none}
+use Rattle.std.proofs.Common.{◌≡◌, ℕ, ◌<◌, ◌≤◌, Bool, true, false, nat_lt, refl, sym, ◌∙◌, ap, arith, Option, Some, None, is_none, Result, Ok, Err, if◌then◌else◌}
 use Rattle.std.proofs.lemmas.Bool.Decides.{nat_tests}
 use Rattle.hk_words.specs.declared.shape.Shape.{Shape}
 use Rattle.hk_words.specs.declared.call.Call.TheVariants.{Get, Put, Load, Store, Move, Clear, New, Same, IsNull}
+use Rattle.hk_words.specs.declared.call.Reply.{Reply}
 use Rattle.hk_words.specs.declared.call.Reply.TheVariants.{Unit as Done, Num, Nil, Field}
 use Rattle.hk_model.specs.Heap.{Heap, born, register, refs, nums, link, value}
 use Rattle.hk_model.specs.Replies.{entering, has_number, has_reference, said, is_same, reply_of, heap_after, with_register, with_link, with_value, with_object}
@@ -107,3 +108,31 @@ reply_of-is_null h seat reg = refl
 pub heap_after-is_null : (h : Heap) (seat reg : ℕ) → heap_after h seat (IsNull reg) ≡ h
 unfolding heap_after
 heap_after-is_null h seat reg = refl
+
+-- what a look at the register and the shape tells, which answers the birth or the reply that there will be
+
+abbrev pub looked : Option ℕ → (ℕ → Bool) → Result ℕ Reply
+looked entered has = entering entered has (Err Nil) (Err Field) (λ birth. Ok birth)
+
+pub looked_ok : (entered : Option ℕ) (has : ℕ → Bool) (birth : ℕ) → Ok birth ≡ looked entered has → (entered ≡ Some birth) × (has birth ≡ true)
+looked_ok None has birth e = absurd (cc e)
+looked_ok (Some b) has birth e =
+    elim (has b) as (λ v. (has b ≡ v) → Ok birth ≡ (if v then Ok b else Err Field) → (Some b ≡ Some birth) × (has birth ≡ true)) [
+      true ↦ λ h q. let m : b ≡ birth = cc q in (cc m, ap has (sym m) ∙ h)
+    | false ↦ λ h q. absurd (cc q) ] refl e
+
+pub looked_err : (entered : Option ℕ) (has : ℕ → Bool) (reply : Reply) → Err reply ≡ looked entered has → (done : ℕ → Reply) → reply ≡ entering entered has Nil Field done
+looked_err None has reply e done = cc e
+looked_err (Some b) has reply e done =
+    elim (has b) as (λ v. Err reply ≡ (if v then Ok b else Err Field) → reply ≡ (if v then done b else Field)) [ true ↦ λ q. absurd (cc q) | false ↦ λ q. cc q ] e
+
+pub looked_err_same : {A : Type 0} (entered : Option ℕ) (has : ℕ → Bool) (reply : Reply) → Err reply ≡ looked entered has → (h : A) (done : ℕ → A) → h ≡ entering entered has h h done
+looked_err_same None has reply e h done = refl
+looked_err_same (Some b) has reply e h done =
+    elim (has b) as (λ v. Err reply ≡ (if v then Ok b else Err Field) → h ≡ (if v then done b else h)) [ true ↦ λ q. absurd (cc q) | false ↦ λ q. refl ] e
+
+pub looked_number : (h : Heap) (seat reg field birth : ℕ) → Ok birth ≡ looked (register h seat reg) (has_number h field) → (register h seat reg ≡ Some birth) × (field < nums h birth)
+looked_number h seat reg field birth e = let p = looked_ok (register h seat reg) (has_number h field) birth e in (p.0, grind (arith, nat_tests, p.1))
+
+pub looked_reference : (h : Heap) (seat reg field birth : ℕ) → Ok birth ≡ looked (register h seat reg) (has_reference h field) → (register h seat reg ≡ Some birth) × (field < refs h birth)
+looked_reference h seat reg field birth e = let p = looked_ok (register h seat reg) (has_reference h field) birth e in (p.0, grind (arith, nat_tests, p.1))

@@ -84,3 +84,7 @@ HoldsBoard tasks h = (seat : ℕ) → seat < tasks → register h seat 0 ≡ Som
 -- the same of a heap whose first task tells how many registers each task has
 abbrev pub IsPlain : Heap → Type 0
 IsPlain h = IsHeap (length h.registers) (register_count h 0) h
+
+-- the tasks of two heaps are as many, and each has as many registers
+abbrev pub KeepsTasks : (old new : Heap) → Type 0
+KeepsTasks old new = (length new.registers ≡ length old.registers) × ((seat : ℕ) → register_count new seat ≡ register_count old seat)

@@ -1,7 +1,7 @@
-ghost use Rattle.std.specs.Prelude.{◌≡◌, true, ℕ, ◌+◌, ◌<◌, ◌≤◌, length, Option, Some, None, IfOk, OnOk, OnErr, IfSome};
+ghost use Rattle.std.specs.Prelude.{◌≡◌, true, ℕ, ◌+◌, ◌<◌, ◌≤◌, length, Option, Some, None, IfOk, OnOk, OnErr, IfSome, replicate};
 ghost use Rattle.hk_words.specs.Calls.{RegistersFit};
 ghost use Rattle.hk_words.specs.declared.call.Call.TheVariants.{Get, Put, Load, Store, Move, Clear, New, Same, IsNull};
-ghost use Rattle.hk_model.specs.Heap.{Heap, opening, born, register, register_count, refs, nums, link, value};
+ghost use Rattle.hk_model.specs.Heap.{Heap, KeepsTasks, opening, first_registers, born, register, register_count, refs, nums, link, value};
 ghost use Rattle.hk_model.specs.History.{is_new};
 ghost use Rattle.hk_words.specs.declared.call.Reply.TheVariants.{Nil, Field};
 ghost use Rattle.hk_model.specs.Replies.{said, entering, has_number, has_reference, reply_of, heap_after, with_register, with_link, with_value, with_object};
@@ -50,25 +50,38 @@ impl Model for Plain {
 impl Plain {
     /// The heap of so many tasks that holds the board alone.
     pub fn open(alloc: Global, tasks: u8, board: Shape) -> Result<Plain, Memory>
-        ensures { IfOk result (λ plain. plain ≡ opening tasks REGISTERS board) }
+        ensures heap { IfOk result (λ plain. plain ≡ opening tasks REGISTERS board) }
+        ensures tasks { IfOk result (λ plain. length plain.registers ≡ tasks) }
+        ensures registers { IfOk result (λ plain. (task : ℕ) → task < tasks → register_count plain task ≡ REGISTERS) }
     {
+        Plain::with_registers(alloc, REGISTERS, tasks, board)
+    }
+
+    /// The same with so many registers for each task.
+    fn with_registers(alloc: Global, count: u8, tasks: u8, board: Shape) -> Result<Plain, Memory>
+        requires { 0 < count }
+        ensures heap { IfOk result (λ plain. plain ≡ opening tasks count board) }
+        ensures tasks { IfOk result (λ plain. length plain.registers ≡ tasks) }
+        ensures registers { IfOk result (λ plain. (task : ℕ) → task < tasks → register_count plain task ≡ count) }
+    {
+        let registers = task_registers(alloc, tasks, count)?;
         let mut objects = Vec::new(alloc);
         objects.push(StoredObject::new(alloc, board)?)?;
-        let mut registers = Vec::new(alloc);
-        for _ in 0..tasks {
-            registers.push(Registers::new(alloc, REGISTERS)?)?;
-        }
         Ok(Plain { objects, registers })
     }
 
+    #[tactic(auto, unfolding(crate::specs::Replies::reply_of, crate::specs::Replies::heap_after))]
     /// Does a call of the task of a seat, and answers it. Only a New takes memory.
     pub fn apply(&mut self, alloc: Global, seat: u8, call: Call) -> Result<Reply, Memory>
         requires seat { seat < length self.old.registers }
-        requires registers { RegistersFit (register_count self.old seat) call }
+        requires fits { RegistersFit (register_count self.old seat) call }
+
         ensures reply { IfOk result (λ reply. reply ≡ reply_of self.old seat call) }
         ensures heap { OnOk result (self.new ≡ heap_after self.old seat call) }
         ensures memory { OnErr result (self.new ≡ self.old) }
         ensures only_new { OnErr result (is_new call ≡ true) }
+
+        ensures tasks { KeepsTasks self.old self.new }
     {
         match call {
             Call::Get { reg, field } => Ok(self.get(seat, reg, field)),
@@ -274,6 +287,18 @@ impl Plain {
         self.objects.push(object)?;
         Ok(birth)
     }
+}
+
+/// The registers of so many tasks as a heap opens.
+fn task_registers(alloc: Global, tasks: u8, count: u8) -> Result<Vec<Registers>, Memory>
+    requires { 0 < count }
+    ensures { IfOk result (λ registers. registers.items ≡ replicate tasks (first_registers count)) }
+{
+    let mut registers = Vec::new(alloc);
+    for _ in 0..tasks {
+        registers.push(Registers::new(alloc, count)?)?;
+    }
+    Ok(registers)
 }
 
 /// The answer to a question.

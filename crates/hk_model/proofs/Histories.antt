@@ -1,5 +1,7 @@
 -- Histories with one entry more.
-use Rattle.std.proofs.Common.{◌≡◌, ◌≢◌, ◌⊎◌, ◌↔◌, inl, inr, ℕ, zero, suc, ◌+◌, ◌<◌, ◌≤◌, Bool, true, false, ◌&&◌, nat_eq, refl, sym, ◌∙◌, ap, arith, List, [], ◌∷◌, ◌++◌, length, map, filter, fold, get_or, Option, Some, None, if◌then◌else◌, length-append, append-nil, eq-eqb, ne_eqb, add-zero}
+use Rattle.std.proofs.Common.{◌≡◌, ◌≢◌, ◌⊎◌, ◌↔◌, inl, inr, ℕ, zero, suc, ◌+◌, ◌<◌, ◌≤◌, Bool, true, false, ◌&&◌, nat_eq, refl, sym, ◌∙◌, ap, arith, List, [], ◌∷◌, ◌++◌, length, map, filter, fold, get_or, Option, Some, None, if◌then◌else◌, length-append, append-nil, eq-eqb, ne_eqb, add-zero, subst}
+use Rattle.std.proofs.lemmas.Bool.{cases_lt}
+use Rattle.std.proofs.lemmas.Bool.Decides.{eqb_tells}
 use Rattle.std.proofs.lemmas.List.{map-append}
 use Rattle.std.proofs.lemmas.List.Elements.{filter-append}
 use Rattle.std.proofs.lemmas.List.Sums.{fold_push}
@@ -11,6 +13,7 @@ use Rattle.hk_words.specs.declared.call.Reply.TheVariants.{Unit as Done, Num, Ye
 use Rattle.hk_model.specs.Heap.{Heap, IsHeap, born, register, link}
 use Rattle.hk_model.specs.History.{Entry, History, is_new, is_done, is_full, is_birth, is_refused, after_entry, after, EntryLegal, Legal, of_seat, births, numbers, number_of, later_or, last_place, bearer}
 use Rattle.hk_model.specs.Replies.{has_number, has_reference, reply_of, heap_after, with_register, with_link, with_value, with_object}
+use Rattle.hk_model.specs.Laws.{IsLastBirth}
 use Rattle.hk_model.specs.View.{upd}
 use Rattle.hk_model.proofs.Heaps.{IsHeap-heap_after, entering_all}
 use Rattle.hk_model.proofs.Lists.{get_or-push_before, get_or-push_last}
@@ -194,3 +197,71 @@ bearer-push_birth history e b =
 pub bearer-push_other : (history : History) (e : Entry) → is_birth e ≡ false → bearer (history ++ e ∷ []) ≡ bearer history
 unfolding bearer
 bearer-push_other history e b = λ i n. last_place n (numbers-push_other history e b i)
+
+-- the bearer of a number is the last place of it
+
+abbrev IsLastPlace : ℕ → List ℕ → ℕ → Type 0
+IsLastPlace n ms place = (place < length ms) × (get_or ms place 0 ≡ n) × ((later : ℕ) → place < later → later < length ms → get_or ms later 0 ≢ n)
+
+abbrev HasNoPlace : ℕ → List ℕ → Type 0
+HasNoPlace n ms = (place : ℕ) → place < length ms → get_or ms place 0 ≢ n
+
+later_last : (n m : ℕ) (ms : List ℕ) (place : ℕ) → IsLastPlace n ms place → (later : ℕ) → suc place < later → later < length (m ∷ ms) → get_or (m ∷ ms) later 0 ≢ n
+later_last n m ms place is zero l k = absurd (omega arith)
+later_last n m ms place is (suc later) l k = is.2 later (omega arith) (omega arith)
+
+first_last : (n m : ℕ) (ms : List ℕ) → HasNoPlace n ms → (later : ℕ) → 0 < later → later < length (m ∷ ms) → get_or (m ∷ ms) later 0 ≢ n
+first_last n m ms none zero l k = absurd (omega arith)
+first_last n m ms none (suc later) l k = none later (omega arith)
+
+nowhere : (n m : ℕ) (ms : List ℕ) → m ≢ n → HasNoPlace n ms → HasNoPlace n (m ∷ ms)
+nowhere n m ms first none zero l = first
+nowhere n m ms first none (suc place) l = none place (omega arith)
+
+last_place_cases : (n : ℕ) (ms : List ℕ) → ((place : ℕ) × (last_place n ms ≡ Some place) × IsLastPlace n ms place) ⊎ ((last_place n ms ≡ None) × HasNoPlace n ms)
+unfolding last_place
+last_place_cases n [] = inr (refl, λ place l. absurd (omega arith))
+last_place_cases n (m ∷ ms) =
+    elim (last_place_cases n ms) [
+      inl (place, e, is) ↦ inl (suc place, rw e refl, (omega (arith, is.0), is.1, later_last n m ms place is))
+    | inr (e, none) ↦ elim (eqb_tells m n) [
+          inl (t, q) ↦ inl (0, rw (e, t) refl, (omega arith, q, first_last n m ms none))
+        | inr (t, d) ↦ inr (rw (e, t) refl, nowhere n m ms d none) ] ]
+
+one_last_place : (n : ℕ) (ms : List ℕ) (p q : ℕ) → IsLastPlace n ms p → IsLastPlace n ms q → p ≡ q
+one_last_place n ms p q a b =
+    elim (cases_lt p q) [
+      inl l ↦ absurd (a.2 q l b.0 b.1)
+    | inr l ↦ elim (cases_lt q p) [ inl m ↦ absurd (b.2 p m a.0 a.1) | inr m ↦ omega arith ] ]
+
+last_place_is : (n : ℕ) (ms : List ℕ) (place : ℕ) → last_place n ms ≡ Some place → IsLastPlace n ms place
+last_place_is n ms place e =
+    elim (last_place_cases n ms) [
+      inl (p, f, is) ↦ let q : p ≡ place = cc (e, f) in subst (λ x. IsLastPlace n ms x) q is
+    | inr (f, none) ↦ absurd (cc (e, f)) ]
+
+last_place_of : (n : ℕ) (ms : List ℕ) (place : ℕ) → IsLastPlace n ms place → last_place n ms ≡ Some place
+last_place_of n ms place is =
+    elim (last_place_cases n ms) [
+      inl (p, f, at) ↦ rw (one_last_place n ms place p is at) f
+    | inr (f, none) ↦ absurd (none place is.0 is.1) ]
+
+no_last_place : (n : ℕ) (ms : List ℕ) → last_place n ms ≡ None → HasNoPlace n ms
+no_last_place n ms e =
+    elim (last_place_cases n ms) [
+      inl (p, f, is) ↦ absurd (cc (e, f))
+    | inr (f, none) ↦ none ]
+
+no_place_last : (n : ℕ) (ms : List ℕ) → HasNoPlace n ms → last_place n ms ≡ None
+no_place_last n ms none =
+    elim (last_place_cases n ms) [
+      inl (p, f, is) ↦ absurd (none p is.0 is.1)
+    | inr (f, _) ↦ f ]
+
+pub bearer_is_last : (history : History) (number birth : ℕ) → (bearer history number ≡ Some birth) ↔ IsLastBirth history number birth
+unfolding bearer number_of
+bearer_is_last history number birth = (last_place_is number (numbers history) birth, last_place_of number (numbers history) birth)
+
+pub no_bearer : (history : History) (number : ℕ) → (bearer history number ≡ None) ↔ ((birth : ℕ) → birth < length (numbers history) → number_of history birth ≢ number)
+unfolding bearer number_of
+no_bearer history number = (no_last_place number (numbers history), no_place_last number (numbers history))

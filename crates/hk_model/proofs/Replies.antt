@@ -1,10 +1,11 @@
 -- Each call's reply and the heap after it, where the registers and the shape are known.
-use Rattle.std.proofs.Common.{◌≡◌, ℕ, ◌<◌, ◌≤◌, Bool, true, false, nat_lt, refl, sym, ◌∙◌, ap, arith, Option, Some, None, is_none, Result, Ok, Err, if◌then◌else◌}
+use Rattle.std.proofs.Common.{◌≡◌, ℕ, ◌<◌, ◌≤◌, ◌≢◌, Bool, true, false, nat_lt, refl, sym, ◌∙◌, ap, arith, Option, Some, None, is_none, Result, Ok, Err, if◌then◌else◌}
 use Rattle.std.proofs.lemmas.Bool.Decides.{nat_tests}
 use Rattle.hk_words.specs.declared.shape.Shape.{Shape}
+use Rattle.hk_words.specs.declared.call.Call.{Call}
 use Rattle.hk_words.specs.declared.call.Call.TheVariants.{Get, Put, Load, Store, Move, Clear, New, Same, IsNull}
 use Rattle.hk_words.specs.declared.call.Reply.{Reply}
-use Rattle.hk_words.specs.declared.call.Reply.TheVariants.{Unit as Done, Num, Nil, Field}
+use Rattle.hk_words.specs.declared.call.Reply.TheVariants.{Unit as Done, Num, Yes, No, Nil, Field, Full}
 use Rattle.hk_model.specs.Heap.{Heap, born, register, refs, nums, link, value}
 use Rattle.hk_model.specs.Replies.{entering, has_number, has_reference, said, is_same, reply_of, heap_after, with_register, with_link, with_value, with_object}
 
@@ -136,3 +137,25 @@ looked_number h seat reg field birth e = let p = looked_ok (register h seat reg)
 
 pub looked_reference : (h : Heap) (seat reg field birth : ℕ) → Ok birth ≡ looked (register h seat reg) (has_reference h field) → (register h seat reg ≡ Some birth) × (field < refs h birth)
 looked_reference h seat reg field birth e = let p = looked_ok (register h seat reg) (has_reference h field) birth e in (p.0, grind (arith, nat_tests, p.1))
+
+-- no call finds the heap full
+
+never_full_entering : (entered : Option ℕ) (has : ℕ → Bool) (done : ℕ → Reply) → ((birth : ℕ) → done birth ≢ Full) → entering entered has Nil Field done ≢ Full
+never_full_entering None has done d = λ e. absurd (cc e)
+never_full_entering (Some birth) has done d = elim (has birth) as (λ v. (if v then done birth else Field) ≢ Full) [ true ↦ d birth | false ↦ λ e. absurd (cc e) ]
+
+never_full_said : (b : Bool) → said b ≢ Full
+never_full_said true = λ e. absurd (cc e)
+never_full_said false = λ e. absurd (cc e)
+
+pub never_full : (h : Heap) (seat : ℕ) (call : Call) → reply_of h seat call ≢ Full
+unfolding reply_of
+never_full h seat (Get reg field) = never_full_entering (register h seat reg) (has_number h field) (λ birth. Num (value h birth field)) (λ b e. absurd (cc e))
+never_full h seat (Put reg field number) = never_full_entering (register h seat reg) (has_number h field) (λ birth. Done) (λ b e. absurd (cc e))
+never_full h seat (Load dest reg field) = never_full_entering (register h seat reg) (has_reference h field) (λ birth. Done) (λ b e. absurd (cc e))
+never_full h seat (Store reg field from) = never_full_entering (register h seat reg) (has_reference h field) (λ birth. Done) (λ b e. absurd (cc e))
+never_full h seat (Move dest from) = λ e. absurd (cc e)
+never_full h seat (Clear dest) = λ e. absurd (cc e)
+never_full h seat (New dest shape) = λ e. absurd (cc e)
+never_full h seat (Same a b) = never_full_said (is_same (register h seat a) (register h seat b))
+never_full h seat (IsNull reg) = never_full_said (is_none (register h seat reg))

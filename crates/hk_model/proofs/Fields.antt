@@ -16,7 +16,8 @@ IsPlain-kept tasks count h is =
       register_born = is.register_born;
       link_born = is.link_born;
       refs_are = is.refs_are;
-      nums_are = is.nums_are }
+      nums_are = is.nums_are;
+    }
 
 -- registers
 

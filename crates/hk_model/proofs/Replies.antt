@@ -119,8 +119,9 @@ pub looked_ok : (entered : Option ℕ) (has : ℕ → Bool) (birth : ℕ) → Ok
 looked_ok None has birth e = absurd (cc e)
 looked_ok (Some b) has birth e =
     elim (has b) as (λ v. (has b ≡ v) → Ok birth ≡ (if v then Ok b else Err Field) → (Some b ≡ Some birth) × (has birth ≡ true)) [
-      true ↦ λ h q. let m : b ≡ birth = cc q in (cc m, ap has (sym m) ∙ h)
-    | false ↦ λ h q. absurd (cc q) ] refl e
+      | true ↦ λ h q. let m : b ≡ birth = cc q in (cc m, ap has (sym m) ∙ h)
+      | false ↦ λ h q. absurd (cc q)
+    ] refl e
 
 pub looked_err : (entered : Option ℕ) (has : ℕ → Bool) (reply : Reply) → Err reply ≡ looked entered has → (done : ℕ → Reply) → reply ≡ entering entered has Nil Field done
 looked_err None has reply e done = cc e

@@ -91,7 +91,7 @@ pub of_object-with_object : {A : Type 0} (absent : A) (read : Object → A) (h :
 unfolding with_object of_object born
 of_object-with_object absent read h shape =
     is_upd (of_object absent read (with_object h shape)) (of_object absent read h) (length h.objects) (read (made shape))
-        (read-push_last read absent h.objects (made shape)) (λ k d. read-push_before read absent h.objects (made shape) k d)
+    (read-push_last read absent h.objects (made shape)) (λ k d. read-push_before read absent h.objects (made shape) k d)
 
 -- what is read of a new object as it would be of none is read nowhere else either
 pub of_object-with_object_kept : {A : Type 0} (absent : A) (read : Object → A) (h : Heap) (shape : Shape) → read (made shape) ≡ absent
@@ -99,8 +99,9 @@ pub of_object-with_object_kept : {A : Type 0} (absent : A) (read : Object → A)
 unfolding with_object of_object
 of_object-with_object_kept absent read h shape same k =
     elim (cases_eq k (length h.objects)) [
-      inl e ↦ rw e (read-push_last read absent h.objects (made shape) ∙ same ∙ sym (read_past read absent h.objects (length h.objects) (omega arith)))
-    | inr d ↦ read-push_before read absent h.objects (made shape) k d ]
+      | inl e ↦ rw e (read-push_last read absent h.objects (made shape) ∙ same ∙ sym (read_past read absent h.objects (length h.objects) (omega arith)))
+      | inr d ↦ read-push_before read absent h.objects (made shape) k d
+    ]
 
 pub get_or-replicate_same : {A : Type 0} (n i : ℕ) (a : A) → get_or (replicate n a) i a ≡ a
 get_or-replicate_same n i a =

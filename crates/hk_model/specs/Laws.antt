@@ -92,4 +92,8 @@ ClearEffect = (tasks count : ℕ) (h : Heap) (seat dest : ℕ) → IsHeap tasks 
 abbrev pub NewEffect : Type 0
 NewEffect = (tasks count : ℕ) (h : Heap) (seat dest : ℕ) (shape : Shape) → IsHeap tasks count h → seat < tasks → dest < count
     → view_of (heap_after h seat (New dest shape)) ≡ record (view_of h) {
-        born = born h + 1; refs = upd (refs h) (born h) shape.refs; nums = upd (nums h) (born h) shape.nums; register = upd2 (register h) seat dest (Some (born h)) }
+      born = born h + 1;
+      refs = upd (refs h) (born h) shape.refs;
+      nums = upd (nums h) (born h) shape.nums;
+      register = upd2 (register h) seat dest (Some (born h));
+    }

@@ -16,4 +16,4 @@ returns-clause-heap c = opening_is c.args.tasks c.args.count c.args.board _ _ _ 
 pub returns-clause-registers : goal.returns-clause-registers
 returns-clause-registers c =
     λ task l. ap (λ h. register_count h task) (opening_is c.args.tasks c.args.count c.args.board _ _ _ _ c.in_ok-new.ensures c.new-objects.ensures.items c.in_ok-push.ensures.items c.in_ok-registers.ensures)
-        ∙ opening_count c.args.tasks c.args.count c.args.board task c.requires l
+    ∙ opening_count c.args.tasks c.args.count c.args.board task c.requires l

@@ -1,8 +1,8 @@
 -- What each call does to the view of a heap.
-use Rattle.std.proofs.Common.{◌≡◌, ℕ, ◌+◌, ◌<◌, refl, sym, ◌∙◌, ap, arith, length, get_or, slice_index, Option, Some, None, length-append}
+use Rattle.std.proofs.Common.{◌≡◌, ℕ, ◌+◌, ◌<◌, refl, ◌∙◌, ap, arith, length, get_or, slice_index, Option, Some, None}
 use Rattle.hk_words.specs.declared.shape.Shape.{Shape}
 use Rattle.hk_words.specs.declared.call.Call.TheVariants.{Put, Load, Store, Move, Clear, New}
-use Rattle.hk_model.specs.Heap.{Object, Heap, IsHeap, born, register, register_count, of_object, refs, nums, link, value, made}
+use Rattle.hk_model.specs.Heap.{Heap, IsHeap, born, register, register_count, of_object, refs, nums, link, value, made}
 use Rattle.hk_model.specs.Replies.{heap_after, with_register, with_link, with_value, with_object}
 use Rattle.hk_model.specs.View.{upd, upd2, View, view_of}
 use Rattle.hk_model.proofs.Replies.{heap_after-put, heap_after-load, heap_after-store, heap_after-move, heap_after-clear, heap_after-new}

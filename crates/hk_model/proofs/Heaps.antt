@@ -1,5 +1,5 @@
 -- What every call keeps of a heap.
-use Rattle.std.proofs.Common.{◌≡◌, ℕ, zero, suc, ◌+◌, ◌-◌, ◌<◌, ◌≤◌, ◌≢◌, ◌⊎◌, inl, inr, refl, sym, ◌∙◌, ap, arith, sub-one, Bool, true, false, List, [], ◌∷◌, length, get_or, set, slice_get, slice_index, replicate, unwrap_or, option_map, Option, Some, None, if◌then◌else◌}
+use Rattle.std.proofs.Common.{◌≡◌, ℕ, zero, suc, ◌+◌, ◌-◌, ◌<◌, ◌≤◌, ◌⊎◌, inl, inr, refl, sym, ◌∙◌, ap, arith, sub-one, Bool, true, false, List, [], ◌∷◌, length, get_or, set, slice_get, replicate, unwrap_or, option_map, Option, Some, None, if◌then◌else◌}
 use Rattle.std.proofs.lemmas.Bool.{cases_eq, cases_lt}
 use Rattle.std.proofs.lemmas.List.{length-replicate, length-set, get_or-replicate, get_or_past}
 use Rattle.hk_words.specs.declared.shape.Shape.{Shape}
@@ -8,10 +8,8 @@ use Rattle.hk_words.specs.declared.call.Call.TheVariants.{Get, Put, Load, Store,
 use Rattle.hk_words.specs.Calls.{RegistersFit}
 use Rattle.hk_model.specs.Heap.{Object, Heap, IsHeap, HoldsBoard, KeepsTasks, born, register, register_count, of_object, refs, nums, link, value, made, first_registers, opening}
 use Rattle.hk_model.specs.Replies.{entering, has_number, has_reference, heap_after, with_register, with_link, with_value, with_object}
-use Rattle.hk_model.specs.View.{upd}
 use Rattle.hk_model.proofs.Lists.{length-changed_at, measure-changed_at, get_or-set_cases, get_or-changed_row_cases, read-changed_at_same, read-changed_at_other}
-use Rattle.hk_model.proofs.Updates.{upd_same, upd_other}
-use Rattle.hk_model.proofs.Views.{get_or-replicate_same, register-with_register_elsewhere, born-with_link, born-with_value, born-with_object, register-with_link, register-with_value, register-with_object, of_object-with_link, of_object-with_value, of_object-with_object, of_object-with_register, link-with_object, registers-with_link, registers-with_value, registers-with_object}
+use Rattle.hk_model.proofs.Views.{get_or-replicate_same, register-with_register_elsewhere, born-with_link, born-with_value, born-with_object, register-with_link, register-with_value, register-with_object, of_object-with_link, of_object-with_value, of_object-with_object, link-with_object, registers-with_link, registers-with_value, registers-with_object}
 
 -- a birth that something may refer to
 abbrev Refers : Heap → Option ℕ → Type 0
@@ -216,6 +214,11 @@ unfolding first_registers
 first_registers_born count zero birth e = let z : 0 ≡ birth = cc e in omega arith
 first_registers_born count (suc reg) birth e = absurd (let n : get_or (nulls (count - 1)) reg None ≡ None = get_or-replicate_same (count - 1) reg None in cc (n, e))
 
+first_registers_null : (count reg : ℕ) → 0 < reg → get_or (first_registers count) reg null ≡ null
+unfolding first_registers
+first_registers_null count zero l = absurd (omega arith)
+first_registers_null count (suc reg) l = get_or-replicate_same (count - 1) reg None
+
 opening_register_born : (tasks count : ℕ) (board : Shape) (seat reg birth : ℕ) → register (opening tasks count board) seat reg ≡ Some birth → birth < 1
 unfolding register opening
 opening_register_born tasks count board seat reg birth e =
@@ -229,6 +232,11 @@ opening_link : (tasks count : ℕ) (board : Shape) (owner field : ℕ) → link 
 unfolding link opening of_object made
 opening_link tasks count board zero field = get_or-replicate_same board.refs field None
 opening_link tasks count board (suc owner) field = refl
+
+opening_value : (tasks count : ℕ) (board : Shape) (owner field : ℕ) → value (opening tasks count board) owner field ≡ 0
+unfolding value opening of_object made
+opening_value tasks count board zero field = get_or-replicate_same board.nums field 0
+opening_value tasks count board (suc owner) field = refl
 
 opening_refs : (tasks count : ℕ) (board : Shape) (birth : ℕ) → of_object 0 (λ o. length o.refs) (opening tasks count board) birth ≡ of_object 0 (λ o. o.shape.refs) (opening tasks count board) birth
 unfolding opening of_object
@@ -296,3 +304,26 @@ HoldsBoard-heap_after tasks count h seat (New dest shape) fit held =
     register_0-with_register tasks (with_object h shape) seat dest (Some (born h)) fit.0 (same_board tasks h (with_object h shape) (register-with_object h shape) held)
 HoldsBoard-heap_after tasks count h seat (Same a b) fit held = held
 HoldsBoard-heap_after tasks count h seat (IsNull reg) fit held = held
+
+-- what the heap at the start says
+
+pub register-opening : (tasks count : ℕ) (board : Shape) (seat reg : ℕ) → 0 < reg → register (opening tasks count board) seat reg ≡ None
+unfolding register opening
+register-opening tasks count board seat reg l =
+    elim (cases_lt seat tasks) [
+      inl m ↦ ap (λ own. get_or own reg null) (get_or-replicate tasks seat (first_registers count) [] m) ∙ first_registers_null count reg l
+    | inr m ↦ ap (λ own. get_or own reg null) (get_or_past (replicate tasks (first_registers count)) seat [] (omega (arith, length-replicate tasks (first_registers count)))) ]
+
+pub link-opening : (tasks count : ℕ) (board : Shape) → link (opening tasks count board) ≡ (λ owner field. None)
+link-opening tasks count board = λ i owner field. opening_link tasks count board owner field i
+
+pub value-opening : (tasks count : ℕ) (board : Shape) → value (opening tasks count board) ≡ (λ owner field. 0)
+value-opening tasks count board = λ i owner field. opening_value tasks count board owner field i
+
+pub refs-opening : (tasks count : ℕ) (board : Shape) → refs (opening tasks count board) 0 ≡ board.refs
+unfolding refs of_object opening made
+refs-opening tasks count board = refl
+
+pub nums-opening : (tasks count : ℕ) (board : Shape) → nums (opening tasks count board) 0 ≡ board.nums
+unfolding nums of_object opening made
+nums-opening tasks count board = refl

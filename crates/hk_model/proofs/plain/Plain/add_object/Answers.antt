@@ -1,4 +1,4 @@
-use Rattle.std.proofs.Common.{◌≡◌, ◌<◌, arith, subst, sym, ap, ◌∙◌}
+use Rattle.std.proofs.Common.{arith, subst, sym, ap, ◌∙◌}
 use Rattle.hk_model.specs.Plain.{heap_in}
 use Rattle.hk_model.specs.Heap.{Heap, KeepsTasks, born}
 use Rattle.hk_model.proofs.Fields.{object_added, object_added_kept}

@@ -1,6 +1,5 @@
 use Rattle.std.proofs.Common.{subst, sym, ◌∙◌, ap}
 use Rattle.hk_model.specs.Heap.{IsPlain, register_count, opening}
-use Rattle.hk_model.specs.Plain.{heap_in}
 use Rattle.hk_model.proofs.Fields.{IsPlain-kept, opening_is}
 use Rattle.hk_model.proofs.Heaps.{IsHeap-opening, opening_count}
 use Rattle.hk_model.proofs.plain.Plain.with_registers.Goals as goal

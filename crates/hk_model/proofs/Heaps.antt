@@ -311,8 +311,9 @@ pub register-opening : (tasks count : ℕ) (board : Shape) (seat reg : ℕ) → 
 unfolding register opening
 register-opening tasks count board seat reg l =
     elim (cases_lt seat tasks) [
-      inl m ↦ ap (λ own. get_or own reg null) (get_or-replicate tasks seat (first_registers count) [] m) ∙ first_registers_null count reg l
-    | inr m ↦ ap (λ own. get_or own reg null) (get_or_past (replicate tasks (first_registers count)) seat [] (omega (arith, length-replicate tasks (first_registers count)))) ]
+      | inl m ↦ ap (λ own. get_or own reg null) (get_or-replicate tasks seat (first_registers count) [] m) ∙ first_registers_null count reg l
+      | inr m ↦ ap (λ own. get_or own reg null) (get_or_past (replicate tasks (first_registers count)) seat [] (omega (arith, length-replicate tasks (first_registers count))))
+    ]
 
 pub link-opening : (tasks count : ℕ) (board : Shape) → link (opening tasks count board) ≡ (λ owner field. None)
 link-opening tasks count board = λ i owner field. opening_link tasks count board owner field i

@@ -1,8 +1,8 @@
 -- What each call does to the view of a heap.
-use Rattle.std.proofs.Common.{◌≡◌, ℕ, ◌+◌, ◌<◌, refl, sym, ◌∙◌, ap, arith, length, get_or, slice_index, Option, Some, None, length-append}
+use Rattle.std.proofs.Common.{◌≡◌, ℕ, ◌+◌, ◌<◌, refl, ◌∙◌, ap, arith, length, get_or, slice_index, Option, Some, None}
 use Rattle.hk_words.specs.declared.shape.Shape.{Shape}
 use Rattle.hk_words.specs.declared.call.Call.TheVariants.{Put, Load, Store, Move, Clear, New}
-use Rattle.hk_model.specs.Heap.{Object, Heap, IsHeap, born, register, register_count, of_object, refs, nums, link, value, made}
+use Rattle.hk_model.specs.Heap.{Heap, IsHeap, born, register, register_count, of_object, refs, nums, link, value, made}
 use Rattle.hk_model.specs.Replies.{heap_after, with_register, with_link, with_value, with_object}
 use Rattle.hk_model.specs.View.{upd, upd2, View, view_of}
 use Rattle.hk_model.proofs.Replies.{heap_after-put, heap_after-load, heap_after-store, heap_after-move, heap_after-clear, heap_after-new}
@@ -83,13 +83,13 @@ pub view_of-load : (tasks count : ℕ) (h : Heap) (seat dest reg field birth : �
     → view_of (heap_after h seat (Load dest reg field)) ≡ record (view_of h) { register = upd2 (register h) seat dest (link h birth field) }
 view_of-load tasks count h seat dest reg field birth is s d e l =
     rw (heap_after-load h seat dest reg field birth e l)
-        (view_of-with_register h seat dest (link h birth field) (seat_within tasks count h seat is s) (register_within tasks count h seat dest is s d))
+    (view_of-with_register h seat dest (link h birth field) (seat_within tasks count h seat is s) (register_within tasks count h seat dest is s d))
 
 pub view_of-move : (tasks count : ℕ) (h : Heap) (seat dest from : ℕ) → IsHeap tasks count h → seat < tasks → dest < count
     → view_of (heap_after h seat (Move dest from)) ≡ record (view_of h) { register = upd2 (register h) seat dest (register h seat from) }
 view_of-move tasks count h seat dest from is s d =
     rw (heap_after-move h seat dest from)
-        (view_of-with_register h seat dest (register h seat from) (seat_within tasks count h seat is s) (register_within tasks count h seat dest is s d))
+    (view_of-with_register h seat dest (register h seat from) (seat_within tasks count h seat is s) (register_within tasks count h seat dest is s d))
 
 pub view_of-clear : (tasks count : ℕ) (h : Heap) (seat dest : ℕ) → IsHeap tasks count h → seat < tasks → dest < count
     → view_of (heap_after h seat (Clear dest)) ≡ record (view_of h) { register = upd2 (register h) seat dest None }
@@ -106,9 +106,13 @@ with_new_register seat dest v view = record view { register = upd2 view.register
 
 pub view_of-new : (tasks count : ℕ) (h : Heap) (seat dest : ℕ) (shape : Shape) → IsHeap tasks count h → seat < tasks → dest < count
     → view_of (heap_after h seat (New dest shape)) ≡ record (view_of h) {
-        born = born h + 1; refs = upd (refs h) (born h) shape.refs; nums = upd (nums h) (born h) shape.nums; register = upd2 (register h) seat dest (Some (born h)) }
+      born = born h + 1;
+      refs = upd (refs h) (born h) shape.refs;
+      nums = upd (nums h) (born h) shape.nums;
+      register = upd2 (register h) seat dest (Some (born h));
+    }
 unfolding with_new_register view_of
 view_of-new tasks count h seat dest shape is s d =
     rw (heap_after-new h seat dest shape)
-        (view_of-object_at h shape seat dest (seat_within tasks count h seat is s) (register_within tasks count h seat dest is s d)
-        ∙ ap (with_new_register seat dest (Some (born h))) (view_of-with_object h shape))
+    (view_of-object_at h shape seat dest (seat_within tasks count h seat is s) (register_within tasks count h seat dest is s d)
+    ∙ ap (with_new_register seat dest (Some (born h))) (view_of-with_object h shape))

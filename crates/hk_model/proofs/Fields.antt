@@ -1,6 +1,6 @@
 -- What the fields of a `Plain` say of the heap that it is. The heap of the fields is k, and h is the heap that the
 -- caller has; own are the registers of a task, and o is the object of a birth, as they are read from a list.
-use Rattle.std.proofs.Common.{◌≡◌, ℕ, ◌+◌, ◌<◌, ◌≤◌, refl, sym, ◌∙◌, ap, subst, arith, List, [], ◌∷◌, ◌++◌, length, get_or, set, slice_index, replicate, Option, Some, None, IfSome}
+use Rattle.std.proofs.Common.{◌≡◌, ℕ, ◌<◌, refl, sym, ◌∙◌, ap, subst, arith, List, [], ◌∷◌, ◌++◌, length, get_or, set, slice_index, replicate, Option, Some, None, IfSome}
 use Rattle.hk_words.specs.declared.shape.Shape.{Shape}
 use Rattle.hk_model.specs.Heap.{Object, Heap, IsHeap, IsPlain, born, register, register_count, of_object, refs, nums, link, value, made, first_registers, opening}
 use Rattle.hk_model.specs.Replies.{changed_at, with_register, with_link, with_value, with_object}
@@ -16,7 +16,8 @@ IsPlain-kept tasks count h is =
       register_born = is.register_born;
       link_born = is.link_born;
       refs_are = is.refs_are;
-      nums_are = is.nums_are }
+      nums_are = is.nums_are;
+    }
 
 -- registers
 

@@ -1,5 +1,5 @@
 -- What every call keeps of a heap.
-use Rattle.std.proofs.Common.{◌≡◌, ℕ, zero, suc, ◌+◌, ◌-◌, ◌<◌, ◌≤◌, ◌≢◌, ◌⊎◌, inl, inr, refl, sym, ◌∙◌, ap, arith, sub-one, Bool, true, false, List, [], ◌∷◌, length, get_or, set, slice_get, slice_index, replicate, unwrap_or, option_map, Option, Some, None, if◌then◌else◌}
+use Rattle.std.proofs.Common.{◌≡◌, ℕ, zero, suc, ◌+◌, ◌-◌, ◌<◌, ◌≤◌, ◌⊎◌, inl, inr, refl, sym, ◌∙◌, ap, arith, sub-one, Bool, true, false, List, [], ◌∷◌, length, get_or, set, slice_get, replicate, unwrap_or, option_map, Option, Some, None, if◌then◌else◌}
 use Rattle.std.proofs.lemmas.Bool.{cases_eq, cases_lt}
 use Rattle.std.proofs.lemmas.List.{length-replicate, length-set, get_or-replicate, get_or_past}
 use Rattle.hk_words.specs.declared.shape.Shape.{Shape}
@@ -8,10 +8,8 @@ use Rattle.hk_words.specs.declared.call.Call.TheVariants.{Get, Put, Load, Store,
 use Rattle.hk_words.specs.Calls.{RegistersFit}
 use Rattle.hk_model.specs.Heap.{Object, Heap, IsHeap, HoldsBoard, KeepsTasks, born, register, register_count, of_object, refs, nums, link, value, made, first_registers, opening}
 use Rattle.hk_model.specs.Replies.{entering, has_number, has_reference, heap_after, with_register, with_link, with_value, with_object}
-use Rattle.hk_model.specs.View.{upd}
 use Rattle.hk_model.proofs.Lists.{length-changed_at, measure-changed_at, get_or-set_cases, get_or-changed_row_cases, read-changed_at_same, read-changed_at_other}
-use Rattle.hk_model.proofs.Updates.{upd_same, upd_other}
-use Rattle.hk_model.proofs.Views.{get_or-replicate_same, register-with_register_elsewhere, born-with_link, born-with_value, born-with_object, register-with_link, register-with_value, register-with_object, of_object-with_link, of_object-with_value, of_object-with_object, of_object-with_register, link-with_object, registers-with_link, registers-with_value, registers-with_object}
+use Rattle.hk_model.proofs.Views.{get_or-replicate_same, register-with_register_elsewhere, born-with_link, born-with_value, born-with_object, register-with_link, register-with_value, register-with_object, of_object-with_link, of_object-with_value, of_object-with_object, link-with_object, registers-with_link, registers-with_value, registers-with_object}
 
 -- a birth that something may refer to
 abbrev Refers : Heap → Option ℕ → Type 0
@@ -33,7 +31,8 @@ IsHeap-with_register tasks count h seat reg v is new =
       register_born = register_born-with_register h seat reg v is.register_born new;
       link_born = is.link_born;
       refs_are = is.refs_are;
-      nums_are = is.nums_are }
+      nums_are = is.nums_are;
+    }
 
 link_cases : (object : Option Object) (field : ℕ) (v : Option ℕ) (j : ℕ)
     → (unwrap_or (option_map (λ o. get_or (set o.refs field v) j None) object) None ≡ v)
@@ -45,18 +44,20 @@ link-with_link_cases : (h : Heap) (birth field : ℕ) (v : Option ℕ) (k j : �
 unfolding link with_link of_object
 link-with_link_cases h birth field v k j =
     elim (cases_eq k birth) [
-      inl e ↦ rw (e, read-changed_at_same (λ o. get_or o.refs j None) (λ o. record o { refs = set o.refs field v }) None h.objects birth)
+      | inl e ↦ rw (e, read-changed_at_same (λ o. get_or o.refs j None) (λ o. record o { refs = set o.refs field v }) None h.objects birth)
           (link_cases (slice_get h.objects birth) field v j)
-    | inr d ↦ inr (read-changed_at_other (λ o. get_or o.refs j None) (λ o. record o { refs = set o.refs field v }) None h.objects birth k d) ]
+      | inr d ↦ inr (read-changed_at_other (λ o. get_or o.refs j None) (λ o. record o { refs = set o.refs field v }) None h.objects birth k d)
+    ]
 
 -- the facts on registers, where the registers are the same and births were not lost
 same_registers : (tasks count : ℕ) (h k : Heap) → IsHeap tasks count h → k.registers ≡ h.registers → born h ≤ born k
     → (length k.registers ≡ tasks) × ((s : ℕ) → s < tasks → register_count k s ≡ count) × ((s r b : ℕ) → register k s r ≡ Some b → b < born k)
 unfolding register_count register
-same_registers tasks count h k is e l =
-    (ap length e ∙ is.tasks_are,
-     (λ s m. ap (λ rows. length (get_or rows s [])) e ∙ is.registers_are s m),
-     (λ s r b at. let m : b < born h = is.register_born s r b (sym (ap (λ rows. get_or (get_or rows s []) r None) e) ∙ at) in omega arith))
+same_registers tasks count h k is e l = (
+  ap length e ∙ is.tasks_are,
+  (λ s m. ap (λ rows. length (get_or rows s [])) e ∙ is.registers_are s m),
+  (λ s r b at. let m : b < born h = is.register_born s r b (sym (ap (λ rows. get_or (get_or rows s []) r None) e) ∙ at) in omega arith),
+)
 
 pub IsHeap-with_link : (tasks count : ℕ) (h : Heap) (birth field : ℕ) (v : Option ℕ) → IsHeap tasks count h → Refers h v → IsHeap tasks count (with_link h birth field v)
 unfolding refs nums
@@ -74,7 +75,8 @@ IsHeap-with_link tasks count h birth field v is new =
       register_born = g.2;
       link_born = λ k j b e. rw n (elim (link-with_link_cases h birth field v k j) [ inl a ↦ new b (sym a ∙ e) | inr a ↦ is.link_born k j b (sym a ∙ e) ]);
       refs_are = rw (r, q) is.refs_are;
-      nums_are = rw (m, p) is.nums_are }
+      nums_are = rw (m, p) is.nums_are;
+    }
 
 pub IsHeap-with_value : (tasks count : ℕ) (h : Heap) (birth field v : ℕ) → IsHeap tasks count h → IsHeap tasks count (with_value h birth field v)
 unfolding refs nums link
@@ -86,7 +88,7 @@ IsHeap-with_value tasks count h birth field v is =
     let m : of_object 0 (λ o. length o.nums) (with_value h birth field v) ≡ of_object 0 (λ o. length o.nums) h = of_object-with_value 0 (λ o. length o.nums) h birth field v (λ o. length-set o.nums field v) in
     let p : of_object 0 (λ o. o.shape.nums) (with_value h birth field v) ≡ of_object 0 (λ o. o.shape.nums) h = of_object-with_value 0 (λ o. o.shape.nums) h birth field v (λ o. refl) in
     let linked : (k j : ℕ) → of_object None (λ o. get_or o.refs j None) (with_value h birth field v) k ≡ of_object None (λ o. get_or o.refs j None) h k =
-        λ k j. ap {B = Option ℕ} (λ (f : ℕ → Option ℕ). f k) (of_object-with_value None (λ o. get_or o.refs j None) h birth field v (λ o. refl)) in
+    λ k j. ap {B = Option ℕ} (λ (f : ℕ → Option ℕ). f k) (of_object-with_value None (λ o. get_or o.refs j None) h birth field v (λ o. refl)) in
     record {
       tasks_are = g.0;
       registers_are = g.1;
@@ -94,7 +96,8 @@ IsHeap-with_value tasks count h birth field v is =
       register_born = g.2;
       link_born = λ k j b e. rw n (is.link_born k j b (sym (linked k j) ∙ e));
       refs_are = rw (r, q) is.refs_are;
-      nums_are = rw (m, p) is.nums_are }
+      nums_are = rw (m, p) is.nums_are;
+    }
 
 -- two readings of the objects that agree before and on a new object agree after it
 agree-with_object : (read other : Object → ℕ) (h : Heap) (shape : Shape) → ((b : ℕ) → of_object 0 read h b ≡ of_object 0 other h b) → read (made shape) ≡ other (made shape)
@@ -123,7 +126,8 @@ IsHeap-with_object tasks count h shape is =
       register_born = g.2;
       link_born = λ k j b e. let l : b < born h = is.link_born k j b (rw (link-with_object h shape) at e) in omega arith;
       refs_are = agree-with_object (λ o. length o.refs) (λ o. o.shape.refs) h shape is.refs_are (made_refs shape);
-      nums_are = agree-with_object (λ o. length o.nums) (λ o. o.shape.nums) h shape is.nums_are (made_nums shape) }
+      nums_are = agree-with_object (λ o. length o.nums) (λ o. o.shape.nums) h shape is.nums_are (made_nums shape);
+    }
 
 -- what holds of both ends of a call that enters an object, and of what it does there, holds where it comes to
 pub entering_all : {A : Type 0} (P : A → Type 0) (entered : Option ℕ) (has : ℕ → Bool) (nil no_field : A) (done : ℕ → A) → P nil → P no_field → ((birth : ℕ) → P (done birth)) → P (entering entered has nil no_field done)
@@ -138,10 +142,10 @@ IsHeap-heap_after tasks count h seat (Put reg field number) is =
     entering_all (IsHeap tasks count) (register h seat reg) (has_number h field) h h (λ birth. with_value h birth field number) is is (λ b. IsHeap-with_value tasks count h b field number is)
 IsHeap-heap_after tasks count h seat (Load dest reg field) is =
     entering_all (IsHeap tasks count) (register h seat reg) (has_reference h field) h h (λ birth. with_register h seat dest (link h birth field)) is is
-        (λ b. IsHeap-with_register tasks count h seat dest (link h b field) is (is.link_born b field))
+    (λ b. IsHeap-with_register tasks count h seat dest (link h b field) is (is.link_born b field))
 IsHeap-heap_after tasks count h seat (Store reg field from) is =
     entering_all (IsHeap tasks count) (register h seat reg) (has_reference h field) h h (λ birth. with_link h birth field (register h seat from)) is is
-        (λ b. IsHeap-with_link tasks count h b field (register h seat from) is (is.register_born seat from))
+    (λ b. IsHeap-with_link tasks count h b field (register h seat from) is (is.register_born seat from))
 IsHeap-heap_after tasks count h seat (Move dest from) is = IsHeap-with_register tasks count h seat dest (register h seat from) is (is.register_born seat from)
 IsHeap-heap_after tasks count h seat (Clear dest) is = IsHeap-with_register tasks count h seat dest None is (λ b e. absurd (cc e))
 IsHeap-heap_after tasks count h seat (New dest shape) is =
@@ -174,13 +178,13 @@ unfolding heap_after
 KeepsTasks-heap_after h seat (Get reg field) = KeepsTasks-same h h refl
 KeepsTasks-heap_after h seat (Put reg field number) =
     entering_all (KeepsTasks h) (register h seat reg) (has_number h field) h h (λ birth. with_value h birth field number) (KeepsTasks-same h h refl) (KeepsTasks-same h h refl)
-        (λ b. KeepsTasks-same h (with_value h b field number) (registers-with_value h b field number))
+    (λ b. KeepsTasks-same h (with_value h b field number) (registers-with_value h b field number))
 KeepsTasks-heap_after h seat (Load dest reg field) =
     entering_all (KeepsTasks h) (register h seat reg) (has_reference h field) h h (λ birth. with_register h seat dest (link h birth field)) (KeepsTasks-same h h refl) (KeepsTasks-same h h refl)
-        (λ b. KeepsTasks-with_register h seat dest (link h b field))
+    (λ b. KeepsTasks-with_register h seat dest (link h b field))
 KeepsTasks-heap_after h seat (Store reg field from) =
     entering_all (KeepsTasks h) (register h seat reg) (has_reference h field) h h (λ birth. with_link h birth field (register h seat from)) (KeepsTasks-same h h refl) (KeepsTasks-same h h refl)
-        (λ b. KeepsTasks-same h (with_link h b field (register h seat from)) (registers-with_link h b field (register h seat from)))
+    (λ b. KeepsTasks-same h (with_link h b field (register h seat from)) (registers-with_link h b field (register h seat from)))
 KeepsTasks-heap_after h seat (Move dest from) = KeepsTasks-with_register h seat dest (register h seat from)
 KeepsTasks-heap_after h seat (Clear dest) = KeepsTasks-with_register h seat dest None
 KeepsTasks-heap_after h seat (New dest shape) = KeepsTasks-with_object_register h shape seat dest (Some (born h))
@@ -210,18 +214,29 @@ unfolding first_registers
 first_registers_born count zero birth e = let z : 0 ≡ birth = cc e in omega arith
 first_registers_born count (suc reg) birth e = absurd (let n : get_or (nulls (count - 1)) reg None ≡ None = get_or-replicate_same (count - 1) reg None in cc (n, e))
 
+first_registers_null : (count reg : ℕ) → 0 < reg → get_or (first_registers count) reg null ≡ null
+unfolding first_registers
+first_registers_null count zero l = absurd (omega arith)
+first_registers_null count (suc reg) l = get_or-replicate_same (count - 1) reg None
+
 opening_register_born : (tasks count : ℕ) (board : Shape) (seat reg birth : ℕ) → register (opening tasks count board) seat reg ≡ Some birth → birth < 1
 unfolding register opening
 opening_register_born tasks count board seat reg birth e =
     elim (cases_lt seat tasks) [
-      inl l ↦ first_registers_born count reg birth (sym (ap (λ own. get_or own reg None) (get_or-replicate tasks seat (first_registers count) [] l)) ∙ e)
-    | inr l ↦ absurd (let n : get_or (replicate tasks (first_registers count)) seat [] ≡ [] = get_or_past (replicate tasks (first_registers count)) seat [] (omega (arith, length-replicate tasks (first_registers count))) in
-          let m : get_or (get_or (replicate tasks (first_registers count)) seat []) reg None ≡ null = ap (λ own. get_or own reg null) n in cc (m, e)) ]
+      | inl l ↦ first_registers_born count reg birth (sym (ap (λ own. get_or own reg None) (get_or-replicate tasks seat (first_registers count) [] l)) ∙ e)
+      | inr l ↦ absurd (let n : get_or (replicate tasks (first_registers count)) seat [] ≡ [] = get_or_past (replicate tasks (first_registers count)) seat [] (omega (arith, length-replicate tasks (first_registers count))) in
+          let m : get_or (get_or (replicate tasks (first_registers count)) seat []) reg None ≡ null = ap (λ own. get_or own reg null) n in cc (m, e))
+    ]
 
 opening_link : (tasks count : ℕ) (board : Shape) (owner field : ℕ) → link (opening tasks count board) owner field ≡ None
 unfolding link opening of_object made
 opening_link tasks count board zero field = get_or-replicate_same board.refs field None
 opening_link tasks count board (suc owner) field = refl
+
+opening_value : (tasks count : ℕ) (board : Shape) (owner field : ℕ) → value (opening tasks count board) owner field ≡ 0
+unfolding value opening of_object made
+opening_value tasks count board zero field = get_or-replicate_same board.nums field 0
+opening_value tasks count board (suc owner) field = refl
 
 opening_refs : (tasks count : ℕ) (board : Shape) (birth : ℕ) → of_object 0 (λ o. length o.refs) (opening tasks count board) birth ≡ of_object 0 (λ o. o.shape.refs) (opening tasks count board) birth
 unfolding opening of_object
@@ -256,7 +271,8 @@ IsHeap-opening tasks count board l =
       register_born = λ s r b e. rw n (opening_register_born tasks count board s r b e);
       link_born = λ k j b e. absurd (let m : link (opening tasks count board) k j ≡ None = opening_link tasks count board k j in cc (m, e));
       refs_are = opening_refs tasks count board;
-      nums_are = opening_nums tasks count board }
+      nums_are = opening_nums tasks count board;
+    }
 
 -- register 0 holds the board for good
 
@@ -275,16 +291,40 @@ unfolding heap_after
 HoldsBoard-heap_after tasks count h seat (Get reg field) fit held = held
 HoldsBoard-heap_after tasks count h seat (Put reg field number) fit held =
     entering_all (HoldsBoard tasks) (register h seat reg) (has_number h field) h h (λ birth. with_value h birth field number) held held
-        (λ b. same_board tasks h (with_value h b field number) (register-with_value h b field number) held)
+    (λ b. same_board tasks h (with_value h b field number) (register-with_value h b field number) held)
 HoldsBoard-heap_after tasks count h seat (Load dest reg field) fit held =
     entering_all (HoldsBoard tasks) (register h seat reg) (has_reference h field) h h (λ birth. with_register h seat dest (link h birth field)) held held
-        (λ b. register_0-with_register tasks h seat dest (link h b field) fit.0.0 held)
+    (λ b. register_0-with_register tasks h seat dest (link h b field) fit.0.0 held)
 HoldsBoard-heap_after tasks count h seat (Store reg field from) fit held =
     entering_all (HoldsBoard tasks) (register h seat reg) (has_reference h field) h h (λ birth. with_link h birth field (register h seat from)) held held
-        (λ b. same_board tasks h (with_link h b field (register h seat from)) (register-with_link h b field (register h seat from)) held)
+    (λ b. same_board tasks h (with_link h b field (register h seat from)) (register-with_link h b field (register h seat from)) held)
 HoldsBoard-heap_after tasks count h seat (Move dest from) fit held = register_0-with_register tasks h seat dest (register h seat from) fit.0.0 held
 HoldsBoard-heap_after tasks count h seat (Clear dest) fit held = register_0-with_register tasks h seat dest None fit.0 held
 HoldsBoard-heap_after tasks count h seat (New dest shape) fit held =
     register_0-with_register tasks (with_object h shape) seat dest (Some (born h)) fit.0 (same_board tasks h (with_object h shape) (register-with_object h shape) held)
 HoldsBoard-heap_after tasks count h seat (Same a b) fit held = held
 HoldsBoard-heap_after tasks count h seat (IsNull reg) fit held = held
+
+-- what the heap at the start says
+
+pub register-opening : (tasks count : ℕ) (board : Shape) (seat reg : ℕ) → 0 < reg → register (opening tasks count board) seat reg ≡ None
+unfolding register opening
+register-opening tasks count board seat reg l =
+    elim (cases_lt seat tasks) [
+      | inl m ↦ ap (λ own. get_or own reg null) (get_or-replicate tasks seat (first_registers count) [] m) ∙ first_registers_null count reg l
+      | inr m ↦ ap (λ own. get_or own reg null) (get_or_past (replicate tasks (first_registers count)) seat [] (omega (arith, length-replicate tasks (first_registers count))))
+    ]
+
+pub link-opening : (tasks count : ℕ) (board : Shape) → link (opening tasks count board) ≡ (λ owner field. None)
+link-opening tasks count board = λ i owner field. opening_link tasks count board owner field i
+
+pub value-opening : (tasks count : ℕ) (board : Shape) → value (opening tasks count board) ≡ (λ owner field. 0)
+value-opening tasks count board = λ i owner field. opening_value tasks count board owner field i
+
+pub refs-opening : (tasks count : ℕ) (board : Shape) → refs (opening tasks count board) 0 ≡ board.refs
+unfolding refs of_object opening made
+refs-opening tasks count board = refl
+
+pub nums-opening : (tasks count : ℕ) (board : Shape) → nums (opening tasks count board) 0 ≡ board.nums
+unfolding nums of_object opening made
+nums-opening tasks count board = refl

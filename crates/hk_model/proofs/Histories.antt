@@ -1,5 +1,5 @@
 -- Histories with one entry more.
-use Rattle.std.proofs.Common.{◌≡◌, ◌≢◌, ◌⊎◌, ◌↔◌, inl, inr, ℕ, zero, suc, ◌+◌, ◌<◌, ◌≤◌, Bool, true, false, ◌&&◌, nat_eq, refl, sym, ◌∙◌, ap, arith, List, [], ◌∷◌, ◌++◌, length, map, filter, fold, get_or, Option, Some, None, if◌then◌else◌, length-append, append-nil, eq-eqb, ne_eqb, add-zero, subst}
+use Rattle.std.proofs.Common.{◌≡◌, ◌≢◌, ◌⊎◌, ◌↔◌, inl, inr, ℕ, zero, suc, ◌+◌, ◌<◌, true, false, ◌&&◌, nat_eq, refl, sym, ◌∙◌, ap, arith, List, [], ◌∷◌, ◌++◌, length, map, filter, get_or, Option, Some, None, if◌then◌else◌, length-append, append-nil, eq-eqb, ne_eqb, add-zero, subst}
 use Rattle.std.proofs.lemmas.Bool.{cases_lt}
 use Rattle.std.proofs.lemmas.Bool.Decides.{eqb_tells}
 use Rattle.std.proofs.lemmas.List.{map-append}
@@ -11,7 +11,7 @@ use Rattle.hk_words.specs.declared.call.Call.TheVariants.{Get, Put, Load, Store,
 use Rattle.hk_words.specs.declared.call.Reply.{Reply}
 use Rattle.hk_words.specs.declared.call.Reply.TheVariants.{Unit as Done, Num, Yes, No, Nil, Field, Full}
 use Rattle.hk_model.specs.Heap.{Heap, IsHeap, born, register, link}
-use Rattle.hk_model.specs.History.{Entry, History, is_new, is_done, is_full, is_birth, is_refused, after_entry, after, EntryLegal, Legal, of_seat, births, numbers, number_of, later_or, last_place, bearer}
+use Rattle.hk_model.specs.History.{Entry, History, is_new, is_done, is_full, is_birth, is_refused, after_entry, after, EntryLegal, Legal, of_seat, births, numbers, number_of, last_place, bearer}
 use Rattle.hk_model.specs.Replies.{has_number, has_reference, reply_of, heap_after, with_register, with_link, with_value, with_object}
 use Rattle.hk_model.specs.Laws.{IsLastBirth}
 use Rattle.hk_model.specs.View.{upd}
@@ -23,6 +23,14 @@ use Rattle.hk_model.proofs.Views.{born-with_register, born-with_link, born-with_
 pub after-push : (start : Heap) (history : History) (e : Entry) → after start (history ++ e ∷ []) ≡ after_entry (after start history) e
 unfolding after
 after-push start history e = fold_push after_entry start history e
+
+pub after_entry-done : (h : Heap) (e : Entry) → is_refused e ≡ false → after_entry h e ≡ heap_after h e.seat e.call
+unfolding after_entry
+after_entry-done h e r = rw r refl
+
+pub after_entry-refused : (h : Heap) (e : Entry) → is_refused e ≡ true → after_entry h e ≡ h
+unfolding after_entry
+after_entry-refused h e r = rw r refl
 
 -- the first entry is done first
 after-first : (start : Heap) (e : Entry) (later : History) → after start (e ∷ later) ≡ after (after_entry start e) later
@@ -94,7 +102,7 @@ born-heap_after_other h seat (Load dest reg field) n =
     entering_all (λ k. born k ≡ born h) (register h seat reg) (has_reference h field) h h (λ birth. with_register h seat dest (link h birth field)) refl refl (λ b. born-with_register h seat dest (link h b field))
 born-heap_after_other h seat (Store reg field from) n =
     entering_all (λ k. born k ≡ born h) (register h seat reg) (has_reference h field) h h (λ birth. with_link h birth field (register h seat from)) refl refl
-        (λ b. born-with_link h b field (register h seat from))
+    (λ b. born-with_link h b field (register h seat from))
 born-heap_after_other h seat (Move dest from) n = born-with_register h seat dest (register h seat from)
 born-heap_after_other h seat (Clear dest) n = born-with_register h seat dest None
 born-heap_after_other h seat (New dest shape) n = absurd (cc n)
@@ -132,8 +140,9 @@ births_of_entry h seat number (Move dest from) reply legal = born-heap_after_oth
 births_of_entry h seat number (Clear dest) reply legal = born-heap_after_other h seat (Clear dest) refl ∙ sym (add-zero (born h))
 births_of_entry h seat number (New dest shape) reply legal =
     elim (new_done_or_full h seat dest number shape reply legal) [
-      inl e ↦ rw e (born-heap_after_new h seat dest shape)
-    | inr e ↦ rw e (sym (add-zero (born h))) ]
+      | inl e ↦ rw e (born-heap_after_new h seat dest shape)
+      | inr e ↦ rw e (sym (add-zero (born h)))
+    ]
 births_of_entry h seat number (Same a b) reply legal = born-heap_after_other h seat (Same a b) refl ∙ sym (add-zero (born h))
 births_of_entry h seat number (IsNull reg) reply legal = born-heap_after_other h seat (IsNull reg) refl ∙ sym (add-zero (born h))
 
@@ -145,7 +154,7 @@ born-after start (e ∷ later) (here, rest) =
     let one : born (after_entry start e) ≡ born start + length (filter is_birth (e ∷ [])) = births_of_entry start e.seat e.number e.call e.reply here in
     let more : born (after (after_entry start e) later) ≡ born (after_entry start e) + length (filter is_birth later) = born-after (after_entry start e) later rest in
     let parts : length (filter is_birth (e ∷ later)) ≡ length (filter is_birth (e ∷ [])) + length (filter is_birth later) =
-        ap length (filter-append is_birth (e ∷ []) later) ∙ length-append (filter is_birth (e ∷ [])) (filter is_birth later) in
+    ap length (filter-append is_birth (e ∷ []) later) ∙ length-append (filter is_birth (e ∷ [])) (filter is_birth later) in
     omega arith
 
 -- the numbers of the objects, and their last births
@@ -169,7 +178,7 @@ number_of-push_birth history e b =
     let more : ℕ → ℕ = λ k. get_or (numbers history ++ e.number ∷ []) k 0 in
     let f : ◌≡◌ {A = ℕ → ℕ} (λ k. get_or (numbers (history ++ e ∷ [])) k 0) more = λ i k. get_or (p i) k 0 in
     f ∙ is_upd more (number_of history) (length (numbers history)) e.number (get_or-push_last (numbers history) e.number 0)
-        (λ k d. get_or-push_before (numbers history) e.number k 0 d)
+    (λ k d. get_or-push_before (numbers history) e.number k 0 d)
 
 pub number_of-push_other : (history : History) (e : Entry) → is_birth e ≡ false → number_of (history ++ e ∷ []) ≡ number_of history
 unfolding number_of
@@ -192,7 +201,7 @@ bearer-push_birth history e b =
     let more : ℕ → Option ℕ = λ n. last_place n (numbers history ++ e.number ∷ []) in
     let f : ◌≡◌ {A = ℕ → Option ℕ} (λ n. last_place n (numbers (history ++ e ∷ []))) more = λ i n. last_place n (p i) in
     f ∙ is_upd more (bearer history) e.number (Some (length (numbers history))) (last_place-push_same (numbers history) e.number)
-        (λ k d. last_place-push_other (numbers history) e.number k d)
+    (λ k d. last_place-push_other (numbers history) e.number k d)
 
 pub bearer-push_other : (history : History) (e : Entry) → is_birth e ≡ false → bearer (history ++ e ∷ []) ≡ bearer history
 unfolding bearer
@@ -223,40 +232,47 @@ unfolding last_place
 last_place_cases n [] = inr (refl, λ place l. absurd (omega arith))
 last_place_cases n (m ∷ ms) =
     elim (last_place_cases n ms) [
-      inl (place, e, is) ↦ inl (suc place, rw e refl, (omega (arith, is.0), is.1, later_last n m ms place is))
-    | inr (e, none) ↦ elim (eqb_tells m n) [
-          inl (t, q) ↦ inl (0, rw (e, t) refl, (omega arith, q, first_last n m ms none))
-        | inr (t, d) ↦ inr (rw (e, t) refl, nowhere n m ms d none) ] ]
+      | inl (place, e, is) ↦ inl (suc place, rw e refl, (omega (arith, is.0), is.1, later_last n m ms place is))
+      | inr (e, none) ↦ elim (eqb_tells m n) [
+        | inl (t, q) ↦ inl (0, rw (e, t) refl, (omega arith, q, first_last n m ms none))
+        | inr (t, d) ↦ inr (rw (e, t) refl, nowhere n m ms d none)
+      ]
+    ]
 
 one_last_place : (n : ℕ) (ms : List ℕ) (p q : ℕ) → IsLastPlace n ms p → IsLastPlace n ms q → p ≡ q
 one_last_place n ms p q a b =
     elim (cases_lt p q) [
-      inl l ↦ absurd (a.2 q l b.0 b.1)
-    | inr l ↦ elim (cases_lt q p) [ inl m ↦ absurd (b.2 p m a.0 a.1) | inr m ↦ omega arith ] ]
+      | inl l ↦ absurd (a.2 q l b.0 b.1)
+      | inr l ↦ elim (cases_lt q p) [ inl m ↦ absurd (b.2 p m a.0 a.1) | inr m ↦ omega arith ]
+    ]
 
 last_place_is : (n : ℕ) (ms : List ℕ) (place : ℕ) → last_place n ms ≡ Some place → IsLastPlace n ms place
 last_place_is n ms place e =
     elim (last_place_cases n ms) [
-      inl (p, f, is) ↦ let q : p ≡ place = cc (e, f) in subst (λ x. IsLastPlace n ms x) q is
-    | inr (f, none) ↦ absurd (cc (e, f)) ]
+      | inl (p, f, is) ↦ let q : p ≡ place = cc (e, f) in subst (λ x. IsLastPlace n ms x) q is
+      | inr (f, none) ↦ absurd (cc (e, f))
+    ]
 
 last_place_of : (n : ℕ) (ms : List ℕ) (place : ℕ) → IsLastPlace n ms place → last_place n ms ≡ Some place
 last_place_of n ms place is =
     elim (last_place_cases n ms) [
-      inl (p, f, at) ↦ rw (one_last_place n ms place p is at) f
-    | inr (f, none) ↦ absurd (none place is.0 is.1) ]
+      | inl (p, f, at) ↦ rw (one_last_place n ms place p is at) f
+      | inr (f, none) ↦ absurd (none place is.0 is.1)
+    ]
 
 no_last_place : (n : ℕ) (ms : List ℕ) → last_place n ms ≡ None → HasNoPlace n ms
 no_last_place n ms e =
     elim (last_place_cases n ms) [
-      inl (p, f, is) ↦ absurd (cc (e, f))
-    | inr (f, none) ↦ none ]
+      | inl (p, f, is) ↦ absurd (cc (e, f))
+      | inr (f, none) ↦ none
+    ]
 
 no_place_last : (n : ℕ) (ms : List ℕ) → HasNoPlace n ms → last_place n ms ≡ None
 no_place_last n ms none =
     elim (last_place_cases n ms) [
-      inl (p, f, is) ↦ absurd (none p is.0 is.1)
-    | inr (f, _) ↦ f ]
+      | inl (p, f, is) ↦ absurd (none p is.0 is.1)
+      | inr (f, _) ↦ f
+    ]
 
 pub bearer_is_last : (history : History) (number birth : ℕ) → (bearer history number ≡ Some birth) ↔ IsLastBirth history number birth
 unfolding bearer number_of

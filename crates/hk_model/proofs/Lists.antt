@@ -1,5 +1,5 @@
 -- Lists with one element changed.
-use Rattle.std.proofs.Common.{◌≡◌, ℕ, zero, suc, ◌<◌, ◌≤◌, ◌≢◌, ◌⊎◌, inl, inr, List, [], ◌∷◌, ◌++◌, length, get_or, set, slice_get, Option, Some, None, unwrap_or, option_map, refl, ap, arith, get_or-set_other}
+use Rattle.std.proofs.Common.{◌≡◌, ℕ, zero, suc, ◌<◌, ◌≤◌, ◌≢◌, ◌⊎◌, inl, inr, List, [], ◌∷◌, ◌++◌, length, get_or, set, slice_get, unwrap_or, option_map, refl, ap, arith, get_or-set_other}
 use Rattle.hk_model.specs.Replies.{changed_at}
 
 pub length-changed_at : {A : Type 0} (change : A → A) (xs : List A) (i : ℕ) → length (changed_at change xs i) ≡ length xs

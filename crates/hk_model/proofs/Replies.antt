@@ -1,11 +1,11 @@
 -- Each call's reply and the heap after it, where the registers and the shape are known.
-use Rattle.std.proofs.Common.{◌≡◌, ℕ, ◌<◌, ◌≤◌, ◌≢◌, Bool, true, false, nat_lt, refl, sym, ◌∙◌, ap, arith, Option, Some, None, is_none, Result, Ok, Err, if◌then◌else◌}
+use Rattle.std.proofs.Common.{◌≡◌, ℕ, ◌<◌, ◌≤◌, ◌≢◌, Bool, true, false, refl, sym, ◌∙◌, ap, arith, Option, Some, None, is_none, Result, Ok, Err, if◌then◌else◌}
 use Rattle.std.proofs.lemmas.Bool.Decides.{nat_tests}
 use Rattle.hk_words.specs.declared.shape.Shape.{Shape}
 use Rattle.hk_words.specs.declared.call.Call.{Call}
 use Rattle.hk_words.specs.declared.call.Call.TheVariants.{Get, Put, Load, Store, Move, Clear, New, Same, IsNull}
 use Rattle.hk_words.specs.declared.call.Reply.{Reply}
-use Rattle.hk_words.specs.declared.call.Reply.TheVariants.{Unit as Done, Num, Yes, No, Nil, Field, Full}
+use Rattle.hk_words.specs.declared.call.Reply.TheVariants.{Unit as Done, Num, Nil, Field, Full}
 use Rattle.hk_model.specs.Heap.{Heap, born, register, refs, nums, link, value}
 use Rattle.hk_model.specs.Replies.{entering, has_number, has_reference, said, is_same, reply_of, heap_after, with_register, with_link, with_value, with_object}
 
@@ -119,8 +119,9 @@ pub looked_ok : (entered : Option ℕ) (has : ℕ → Bool) (birth : ℕ) → Ok
 looked_ok None has birth e = absurd (cc e)
 looked_ok (Some b) has birth e =
     elim (has b) as (λ v. (has b ≡ v) → Ok birth ≡ (if v then Ok b else Err Field) → (Some b ≡ Some birth) × (has birth ≡ true)) [
-      true ↦ λ h q. let m : b ≡ birth = cc q in (cc m, ap has (sym m) ∙ h)
-    | false ↦ λ h q. absurd (cc q) ] refl e
+      | true ↦ λ h q. let m : b ≡ birth = cc q in (cc m, ap has (sym m) ∙ h)
+      | false ↦ λ h q. absurd (cc q)
+    ] refl e
 
 pub looked_err : (entered : Option ℕ) (has : ℕ → Bool) (reply : Reply) → Err reply ≡ looked entered has → (done : ℕ → Reply) → reply ≡ entering entered has Nil Field done
 looked_err None has reply e done = cc e

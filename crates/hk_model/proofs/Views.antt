@@ -1,12 +1,12 @@
 -- What each change of a heap is on its view: one function changed at one place, and the others as they were.
-use Rattle.std.proofs.Common.{◌≡◌, ℕ, ◌+◌, ◌<◌, ◌≤◌, ◌≢◌, ◌⊎◌, inl, inr, refl, sym, ◌∙◌, ap, arith, List, [], ◌∷◌, length, get_or, set, replicate, Option, Some, None, get_or-set_same, get_or-set_other, length-append, slice_get, unwrap_or, option_map}
+use Rattle.std.proofs.Common.{◌≡◌, ℕ, ◌≤◌, ◌+◌, ◌<◌, ◌≢◌, ◌⊎◌, inl, inr, refl, sym, ◌∙◌, arith, [], ◌∷◌, length, get_or, set, replicate, Option, Some, None, get_or-set_same, get_or-set_other, length-append, slice_get, unwrap_or, option_map}
 use Rattle.std.proofs.lemmas.Bool.{cases_eq, cases_lt}
 use Rattle.std.proofs.lemmas.List.{get_or-replicate, length-replicate}
 use Rattle.std.proofs.Math.ListN.{get_or-eq_default}
 use Rattle.hk_words.specs.declared.shape.Shape.{Shape}
-use Rattle.hk_model.specs.Heap.{Object, Heap, IsHeap, born, register, register_count, of_object, refs, nums, link, value, made}
+use Rattle.hk_model.specs.Heap.{Object, Heap, born, register, register_count, of_object, refs, nums, link, value, made}
 use Rattle.hk_model.specs.Replies.{with_register, with_link, with_value, with_object}
-use Rattle.hk_model.specs.View.{upd, upd2, View, view_of}
+use Rattle.hk_model.specs.View.{upd, upd2}
 use Rattle.hk_model.proofs.Lists.{get_or-changed_at_same, get_or-changed_row_other, length-changed_at, read-changed_at_kept, read-changed_at_other, read-changed_at_same, read-push_before, read-push_last, read_past}
 use Rattle.hk_model.proofs.Updates.{is_upd, is_upd2}
 
@@ -91,7 +91,7 @@ pub of_object-with_object : {A : Type 0} (absent : A) (read : Object → A) (h :
 unfolding with_object of_object born
 of_object-with_object absent read h shape =
     is_upd (of_object absent read (with_object h shape)) (of_object absent read h) (length h.objects) (read (made shape))
-        (read-push_last read absent h.objects (made shape)) (λ k d. read-push_before read absent h.objects (made shape) k d)
+    (read-push_last read absent h.objects (made shape)) (λ k d. read-push_before read absent h.objects (made shape) k d)
 
 -- what is read of a new object as it would be of none is read nowhere else either
 pub of_object-with_object_kept : {A : Type 0} (absent : A) (read : Object → A) (h : Heap) (shape : Shape) → read (made shape) ≡ absent
@@ -99,8 +99,9 @@ pub of_object-with_object_kept : {A : Type 0} (absent : A) (read : Object → A)
 unfolding with_object of_object
 of_object-with_object_kept absent read h shape same k =
     elim (cases_eq k (length h.objects)) [
-      inl e ↦ rw e (read-push_last read absent h.objects (made shape) ∙ same ∙ sym (read_past read absent h.objects (length h.objects) (omega arith)))
-    | inr d ↦ read-push_before read absent h.objects (made shape) k d ]
+      | inl e ↦ rw e (read-push_last read absent h.objects (made shape) ∙ same ∙ sym (read_past read absent h.objects (length h.objects) (omega arith)))
+      | inr d ↦ read-push_before read absent h.objects (made shape) k d
+    ]
 
 pub get_or-replicate_same : {A : Type 0} (n i : ℕ) (a : A) → get_or (replicate n a) i a ≡ a
 get_or-replicate_same n i a =
@@ -161,3 +162,25 @@ registers-with_value h birth field v = refl
 pub registers-with_object : (h : Heap) (shape : Shape) → (with_object h shape).registers ≡ h.registers
 unfolding with_object
 registers-with_object h shape = refl
+
+-- what is read of a birth that is still to come
+
+of_object_unborn : {A : Type 0} (absent : A) (read : Object → A) (h : Heap) (birth : ℕ) → born h ≤ birth → of_object absent read h birth ≡ absent
+unfolding of_object born
+of_object_unborn absent read h birth l = read_past read absent h.objects birth l
+
+pub refs_unborn : (h : Heap) (birth : ℕ) → born h ≤ birth → refs h birth ≡ 0
+unfolding refs
+refs_unborn h birth l = of_object_unborn 0 (λ o. o.shape.refs) h birth l
+
+pub nums_unborn : (h : Heap) (birth : ℕ) → born h ≤ birth → nums h birth ≡ 0
+unfolding nums
+nums_unborn h birth l = of_object_unborn 0 (λ o. o.shape.nums) h birth l
+
+pub link_unborn : (h : Heap) (birth field : ℕ) → born h ≤ birth → link h birth field ≡ None
+unfolding link
+link_unborn h birth field l = of_object_unborn None (λ o. get_or o.refs field None) h birth l
+
+pub value_unborn : (h : Heap) (birth field : ℕ) → born h ≤ birth → value h birth field ≡ 0
+unfolding value
+value_unborn h birth field l = of_object_unborn 0 (λ o. get_or o.nums field 0) h birth l

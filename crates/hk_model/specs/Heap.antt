@@ -32,10 +32,11 @@ register_count h seat = length (slice_index_or h.registers seat [])
 unfoldable pub of_object : {A : Type 0} → A → (Object → A) → Heap → ℕ → A
 of_object absent read h birth = unwrap_or (option_map read (slice_get h.objects birth)) absent
 
--- how many reference fields and how many number fields the object of a birth has
+-- how many reference fields the object of a birth has
 unfoldable pub refs : Heap → ℕ → ℕ
 refs = of_object 0 (λ object. object.shape.refs)
 
+-- how many number fields it has
 unfoldable pub nums : Heap → ℕ → ℕ
 nums = of_object 0 (λ object. object.shape.nums)
 
@@ -77,13 +78,13 @@ pub record IsHeap (tasks count : ℕ) (h : Heap) : Type 0 where
   pub refs_are : (birth : ℕ) → of_object 0 (λ object. length object.refs) h birth ≡ refs h birth
   pub nums_are : (birth : ℕ) → of_object 0 (λ object. length object.nums) h birth ≡ nums h birth
 
+-- the same of a heap that itself says how many tasks there are, and by its first task how many registers each has
+abbrev pub IsPlain : Heap → Type 0
+IsPlain h = IsHeap (length h.registers) (register_count h 0) h
+
 -- register 0 of each of so many tasks refers to the board
 abbrev pub HoldsBoard : (tasks : ℕ) → Heap → Type 0
 HoldsBoard tasks h = (seat : ℕ) → seat < tasks → register h seat 0 ≡ Some 0
-
--- the same of a heap whose first task tells how many registers each task has
-abbrev pub IsPlain : Heap → Type 0
-IsPlain h = IsHeap (length h.registers) (register_count h 0) h
 
 -- the tasks of two heaps are as many, and each has as many registers
 abbrev pub KeepsTasks : (old new : Heap) → Type 0

@@ -1,4 +1,5 @@
--- Histories: the calls that tasks have done, in the order of their effects, with what each answered.
+-- Histories: the calls that tasks have done, in the order of their effects, with what each answered. The reply `Unit`
+-- is called `Done` here, since `Unit` is a word of the logic.
 use Rattle.std.specs.Prelude.{◌≡◌, ◌≢◌, ◌⊎◌, ℕ, suc, Bool, true, false, ◌&&◌, nat_eq, List, [], ◌∷◌, map, filter, fold, slice_index, Option, Some, None, if◌then◌else◌}
 use Rattle.hk_words.specs.declared.call.Call.{Call}
 use Rattle.hk_words.specs.declared.call.Call.TheVariants.{Get, Put, Load, Store, Move, Clear, New, Same, IsNull}
@@ -63,10 +64,11 @@ is_full Nil = false
 is_full Field = false
 is_full Full = true
 
--- a New that made its object, and one that found no room
+-- the entry is a New that made its object
 abbrev pub is_birth : Entry → Bool
 is_birth e = is_new e.call && is_done e.reply
 
+-- the entry is a New that found no room
 abbrev pub is_refused : Entry → Bool
 is_refused e = is_new e.call && is_full e.reply
 

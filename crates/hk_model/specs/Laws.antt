@@ -1,14 +1,14 @@
 -- Laws of the heap that never collects and of its histories.
-use Rattle.std.specs.Prelude.{◌≡◌, ◌≢◌, ◌↔◌, ℕ, ◌+◌, ◌<◌, List, [], ◌∷◌, ◌++◌, length, true, false, Option, Some, None}
+use Rattle.std.specs.Prelude.{◌≡◌, ◌≢◌, ◌↔◌, ℕ, ◌+◌, ◌<◌, [], ◌∷◌, ◌++◌, length, true, false, Some, None}
 use Rattle.hk_words.specs.declared.shape.Shape.{Shape}
 use Rattle.hk_words.specs.declared.call.Call.{Call}
-use Rattle.hk_words.specs.declared.call.Call.TheVariants.{Get, Put, Load, Store, Move, Clear, New, Same, IsNull}
+use Rattle.hk_words.specs.declared.call.Call.TheVariants.{Put, Load, Store, Move, Clear, New}
 use Rattle.hk_words.specs.declared.call.Reply.TheVariants.{Full}
 use Rattle.hk_words.specs.Calls.{RegistersFit}
 use Rattle.hk_model.specs.Heap.{Heap, IsHeap, HoldsBoard, born, register, refs, nums, link, value, opening}
 use Rattle.hk_model.specs.Replies.{reply_of, heap_after}
 use Rattle.hk_model.specs.History.{Entry, History, after_entry, after, EntryLegal, Legal, is_birth, numbers, number_of, bearer}
-use Rattle.hk_model.specs.View.{upd, upd2, View, view_of}
+use Rattle.hk_model.specs.View.{upd, upd2, view_of}
 
 -- the heap after a history with one more entry is the heap after that entry
 abbrev pub AfterGrows : Type 0
@@ -92,4 +92,8 @@ ClearEffect = (tasks count : ℕ) (h : Heap) (seat dest : ℕ) → IsHeap tasks 
 abbrev pub NewEffect : Type 0
 NewEffect = (tasks count : ℕ) (h : Heap) (seat dest : ℕ) (shape : Shape) → IsHeap tasks count h → seat < tasks → dest < count
     → view_of (heap_after h seat (New dest shape)) ≡ record (view_of h) {
-        born = born h + 1; refs = upd (refs h) (born h) shape.refs; nums = upd (nums h) (born h) shape.nums; register = upd2 (register h) seat dest (Some (born h)) }
+      born = born h + 1;
+      refs = upd (refs h) (born h) shape.refs;
+      nums = upd (nums h) (born h) shape.nums;
+      register = upd2 (register h) seat dest (Some (born h));
+    }

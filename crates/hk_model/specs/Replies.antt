@@ -1,11 +1,12 @@
--- What a call answers, and what it changes, on the heap that never collects.
-use Rattle.std.specs.Prelude.{ℕ, zero, suc, Bool, true, false, nat_lt, nat_eq, List, [], ◌∷◌, ◌++◌, slice_set, slice_index_or, Option, Some, None, is_none, if◌then◌else◌}
+-- What a call answers, and what it changes, on the heap that never collects. The reply `Unit` is called `Done` here,
+-- since `Unit` is a word of the logic.
+use Rattle.std.specs.Prelude.{ℕ, zero, suc, Bool, true, false, nat_lt, nat_eq, List, [], ◌∷◌, ◌++◌, slice_set, Option, Some, None, is_none, if◌then◌else◌}
 use Rattle.hk_words.specs.declared.shape.Shape.{Shape}
 use Rattle.hk_words.specs.declared.call.Call.{Call}
 use Rattle.hk_words.specs.declared.call.Call.TheVariants.{Get, Put, Load, Store, Move, Clear, New, Same, IsNull}
 use Rattle.hk_words.specs.declared.call.Reply.{Reply}
-use Rattle.hk_words.specs.declared.call.Reply.TheVariants.{Unit as Done, Num, Yes, No, Nil, Field, Full}
-use Rattle.hk_model.specs.Heap.{Object, Heap, register, refs, nums, link, value, born, made}
+use Rattle.hk_words.specs.declared.call.Reply.TheVariants.{Unit as Done, Num, Yes, No, Nil, Field}
+use Rattle.hk_model.specs.Heap.{Heap, register, refs, nums, link, value, born, made}
 
 -- the outcome of a call that enters an object: the first where the entered register is null, the second where the
 -- object of its birth has no such field, and else what is done with the birth
@@ -13,10 +14,11 @@ abbrev pub entering : {A : Type 0} → Option ℕ → (ℕ → Bool) → A → A
 entering None has_field nil no_field done = nil
 entering (Some birth) has_field nil no_field done = if has_field birth then done birth else no_field
 
--- the object of a birth has a number field of this place, and a reference field of this place
+-- the object of a birth has a number field of this place
 abbrev pub has_number : Heap → ℕ → ℕ → Bool
 has_number h field birth = nat_lt field (nums h birth)
 
+-- it has a reference field of this place
 abbrev pub has_reference : Heap → ℕ → ℕ → Bool
 has_reference h field birth = nat_lt field (refs h birth)
 

@@ -1,5 +1,5 @@
 -- A heap seen by functions: each call changes one of them at one place, and leaves the others as they are.
-use Rattle.std.specs.Prelude.{ℕ, Option, nat_eq, ◌&&◌, if◌then◌else◌}
+use Rattle.std.specs.Prelude.{ℕ, Option, nat_eq, if◌then◌else◌}
 use Rattle.hk_model.specs.Heap.{Heap, born, register, refs, nums, link, value}
 
 -- a function with one of its values changed
@@ -19,5 +19,6 @@ pub record View : Type 0 where
   pub link : ℕ → ℕ → Option ℕ
   pub value : ℕ → ℕ → ℕ
 
+-- the view of a heap
 unfoldable pub view_of : Heap → View
 view_of h = record { born = born h; refs = refs h; nums = nums h; register = register h; link = link h; value = value h }

@@ -4,8 +4,7 @@ ghost use Rattle.hk_model.specs.Laws.{AfterGrows, LegalGrows, OpeningIsHeap, Cal
 pub fn one_more_entry()
     ensures heap { AfterGrows }
     ensures legal { LegalGrows }
-{
-}
+{}
 
 /// Laws of what every call keeps: births in registers and cells were born, each object has the cells of its shape,
 /// the tasks and their registers stay, and register 0 holds the board.
@@ -16,8 +15,7 @@ pub fn what_calls_keep()
     ensures opening_board { OpeningHoldsBoard }
     ensures board { CallsKeepBoard }
     ensures never_full { NeverFull }
-{
-}
+{}
 
 /// Laws of the numbers that objects are given: a number may be given again, and its bearer is the last object that
 /// was given it.
@@ -27,8 +25,7 @@ pub fn numbers_and_bearers()
     ensures none { NoBearer }
     ensures birth { BirthGivesNumber }
     ensures others { OthersGiveNone }
-{
-}
+{}
 
 /// Laws of a heap that is seen by functions: each call changes one of them at one place. Only a New changes more.
 pub fn one_change_a_call()
@@ -38,5 +35,4 @@ pub fn one_change_a_call()
     ensures move_effect { MoveEffect }
     ensures clear { ClearEffect }
     ensures new { NewEffect }
-{
-}
+{}

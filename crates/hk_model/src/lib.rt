@@ -6,6 +6,8 @@ mod laws;
 mod object;
 mod plain;
 mod registers;
+#[cfg(test)]
+mod tests;
 
 pub use laws::{numbers_and_bearers, one_change_a_call, one_more_entry, what_calls_keep};
 pub use plain::{Memory, Plain};

@@ -123,6 +123,7 @@ impl Plain {
         requires reg { reg < register_count self.old seat }
         ensures reply { result ≡ reply_of self.old seat (Put reg field number) }
         ensures heap { self.new ≡ heap_after self.old seat (Put reg field number) }
+        ensures tasks { KeepsTasks self.old self.new }
     {
         match self.enter_number(seat, reg, field) {
             Ok(birth) => {
@@ -139,6 +140,7 @@ impl Plain {
         requires reg { reg < register_count self.old seat }
         ensures reply { result ≡ reply_of self.old seat (Load dest reg field) }
         ensures heap { self.new ≡ heap_after self.old seat (Load dest reg field) }
+        ensures tasks { KeepsTasks self.old self.new }
     {
         match self.enter_reference(seat, reg, field) {
             Ok(birth) => {
@@ -156,6 +158,7 @@ impl Plain {
         requires from { from < register_count self.old seat }
         ensures reply { result ≡ reply_of self.old seat (Store reg field from) }
         ensures heap { self.new ≡ heap_after self.old seat (Store reg field from) }
+        ensures tasks { KeepsTasks self.old self.new }
     {
         match self.enter_reference(seat, reg, field) {
             Ok(birth) => {
@@ -251,7 +254,8 @@ impl Plain {
     fn set_number(&mut self, birth: usize, field: u8, number: u64)
         requires birth { birth < born self.old }
         requires field { field < nums self.old birth }
-        ensures { self.new ≡ with_value self.old birth field number }
+        ensures heap { self.new ≡ with_value self.old birth field number }
+        ensures tasks { KeepsTasks self.old self.new }
     {
         self.objects[birth].set_number(field, number);
     }
@@ -261,7 +265,8 @@ impl Plain {
         requires birth { birth < born self.old }
         requires field { field < refs self.old birth }
         requires target { IfSome target (λ other. other < born self.old) }
-        ensures { self.new ≡ with_link self.old birth field target }
+        ensures heap { self.new ≡ with_link self.old birth field target }
+        ensures tasks { KeepsTasks self.old self.new }
     {
         self.objects[birth].set_reference(field, target);
     }
@@ -271,7 +276,8 @@ impl Plain {
         requires seat { seat < length self.old.registers }
         requires reg { reg < register_count self.old seat }
         requires target { IfSome target (λ birth. birth < born self.old) }
-        ensures { self.new ≡ with_register self.old seat reg target }
+        ensures heap { self.new ≡ with_register self.old seat reg target }
+        ensures tasks { KeepsTasks self.old self.new }
     {
         self.registers[usize::from(seat)].set(reg, target);
     }
@@ -279,8 +285,10 @@ impl Plain {
     /// Adds an object whose cells are null and 0, and gives its birth.
     fn add_object(&mut self, alloc: Global, shape: Shape) -> Result<usize, Memory>
         ensures birth { IfOk result (λ birth. birth ≡ born self.old) }
+        ensures born { IfOk result (λ birth. birth < born self.new) }
         ensures heap { OnOk result (self.new ≡ with_object self.old shape) }
         ensures memory { OnErr result (self.new ≡ self.old) }
+        ensures tasks { KeepsTasks self.old self.new }
     {
         let birth = self.objects.len();
         let object = StoredObject::new(alloc, shape)?;

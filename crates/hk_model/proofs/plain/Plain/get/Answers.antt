@@ -1,5 +1,5 @@
 use Rattle.std.proofs.Common.{sym, ◌∙◌, ap}
-use Rattle.hk_words.specs.declared.call.Reply.TheVariants.{Unit as Done, Num}
+use Rattle.hk_words.specs.declared.call.Reply.TheVariants.{Num}
 use Rattle.hk_model.specs.Heap.{register, value}
 use Rattle.hk_model.specs.Replies.{has_number, reply_of}
 use Rattle.hk_model.proofs.Replies.{looked_number, looked_err, reply_of-get}

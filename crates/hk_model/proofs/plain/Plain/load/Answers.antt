@@ -11,7 +11,7 @@ returns-in-Ok-clause-reply c = let p = looked_reference c.args.self.now c.args.s
 pub returns-in-Ok-clause-heap : goal.returns-in-Ok-clause-heap
 returns-in-Ok-clause-heap c =
     let p = looked_reference c.args.self.now c.args.seat c.args.reg c.args.field c.in-Ok.birth c.in-Ok.ensures.value in
-    c.set_register.ensures ∙ ap (with_register c.args.self.now c.args.seat c.args.dest) c.reference-found.ensures.value ∙ sym (heap_after-load c.args.self.now c.args.seat c.args.dest c.args.reg c.args.field c.in-Ok.birth p.0 p.1)
+    c.set_register.ensures.heap ∙ ap (with_register c.args.self.now c.args.seat c.args.dest) c.reference-found.ensures.value ∙ sym (heap_after-load c.args.self.now c.args.seat c.args.dest c.args.reg c.args.field c.in-Ok.birth p.0 p.1)
 
 pub returns-in-Err-clause-reply : goal.returns-in-Err-clause-reply
 unfolding reply_of

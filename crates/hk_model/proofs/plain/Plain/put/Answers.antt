@@ -11,7 +11,7 @@ returns-in-Ok-clause-reply c = let p = looked_number c.args.self.now c.args.seat
 pub returns-in-Ok-clause-heap : goal.returns-in-Ok-clause-heap
 returns-in-Ok-clause-heap c =
     let p = looked_number c.args.self.now c.args.seat c.args.reg c.args.field c.in-Ok.birth c.in-Ok.ensures.value in
-    c.set_number.ensures ∙ sym (heap_after-put c.args.self.now c.args.seat c.args.reg c.args.field c.args.number c.in-Ok.birth p.0 p.1)
+    c.set_number.ensures.heap ∙ sym (heap_after-put c.args.self.now c.args.seat c.args.reg c.args.field c.args.number c.in-Ok.birth p.0 p.1)
 
 pub returns-in-Err-clause-reply : goal.returns-in-Err-clause-reply
 unfolding reply_of

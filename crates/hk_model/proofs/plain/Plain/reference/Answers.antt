@@ -15,4 +15,4 @@ returns-clause-value c = link_read c.args.self.now (heap_in c.self.inside) c.arg
 pub returns-clause-born : goal.returns-clause-born
 returns-clause-born c =
     link_if_born c.args.self.now (heap_in c.self.inside) c.args.birth c.args.field c.reference.result c.self.view_is c.self.invariant
-        (link_read c.args.self.now (heap_in c.self.inside) c.args.birth c.args.field c.reference.result c.index.result.now c.self.view_is c.requires.birth c.index.ensures c.reference.ensures)
+    (link_read c.args.self.now (heap_in c.self.inside) c.args.birth c.args.field c.reference.result c.index.result.now c.self.view_is c.requires.birth c.index.ensures c.reference.ensures)

@@ -12,4 +12,4 @@ returns-clause-value c =
 pub returns-clause-born : goal.returns-clause-born
 returns-clause-born c =
     register_if_born c.args.self.now (heap_in c.self.inside) c.args.seat c.args.reg c.get.result c.self.view_is c.self.invariant
-        (own_holds c.args.self.now (heap_in c.self.inside) c.args.seat c.from.result c.args.reg c.index.result.now c.get.result c.self.view_is c.from.ensures c.requires.seat c.index.ensures c.get.ensures)
+    (own_holds c.args.self.now (heap_in c.self.inside) c.args.seat c.from.result c.args.reg c.index.result.now c.get.result c.self.view_is c.from.ensures c.requires.seat c.index.ensures c.get.ensures)

@@ -1,0 +1,15 @@
+//! The collector of the heap, one event on one word at a time.
+#![tactic(auto)]
+
+#[cfg(test)]
+mod checks;
+mod decide;
+mod follow;
+mod step;
+#[cfg(test)]
+mod walk;
+
+pub use decide::event;
+pub use follow::took;
+pub use hk_core::Work;
+pub use step::advance;

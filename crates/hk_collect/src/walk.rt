@@ -1,0 +1,398 @@
+//! Walks of the machine: rows worked out by hand, and a long random one beside the heap that never collects.
+ghost use Rattle.std.specs.Prelude.{◌≡◌, ℕ, ◌<◌, length, IfOk};
+ghost use Rattle.hk_words.specs.Geometry.{tasks};
+ghost use Rattle.hk_words.specs.Calls.{RegistersFit};
+ghost use Rattle.hk_words.specs.declared.geometry.TheConstants.{REGISTERS};
+ghost use Rattle.hk_model.specs.Heap.{register_count};
+
+use crate::checks::{can_collect, can_step, spot_fits};
+use crate::{Work, advance};
+use hk_core::{Core, Fault, Flight, Memory, Outcome, Step};
+use hk_model::Plain;
+use hk_words::{Call, Geometry, REGISTERS, Reply, Shape, w0_words};
+use std::alloc::Global;
+use std::process::Abort;
+use std::test::Fail;
+
+/// The plain heap of three tasks.
+#[derive(Drop)]
+struct Mirror {
+    plain: Plain,
+    ghost tasks: { length plain.registers ≡ 3 },
+    ghost registers: { (seat : ℕ) → seat < 3 → register_count plain seat ≡ REGISTERS },
+}
+
+impl Mirror {
+    fn open(alloc: Global, board: Shape) -> Result<Mirror, Memory> {
+        let plain = Plain::open(alloc, 3, board)?;
+        Ok(Mirror { plain })
+    }
+
+    fn apply(&mut self, alloc: Global, seat: u8, call: Call) -> Result<Reply, Memory>
+        requires seat { seat < 3 }
+        requires registers { RegistersFit REGISTERS call }
+    {
+        self.plain.apply(alloc, seat, call)
+    }
+}
+
+/// One event of the collector.
+fn collect(rt: &impl Abort, core: &mut Core) -> Work {
+    assert!(rt; spot_fits(&core.geometry(), &core.spot()));
+    assert!(rt; can_collect(core));
+    advance(core)
+}
+
+/// One step of a seat.
+fn step(rt: &impl Abort, core: &mut Core, seat: u8) -> Step {
+    assert!(rt; seat < core.geometry().tasks());
+    assert!(rt; can_step(core, seat));
+    core.advance(seat)
+}
+
+/// The begin of a call.
+fn begin(rt: &impl Abort, core: &mut Core, seat: u8, call: Call) -> Result<(), Fault> {
+    assert!(rt; seat < core.geometry().tasks());
+    assert!(rt; core.flight(seat).place == 0);
+    assert!(rt; call.registers_fit(core.geometry().registers()));
+    match call {
+        Call::Same { .. } | Call::IsNull { .. } => panic!(rt; "a question"),
+        _ => core.start(seat, call),
+    }
+}
+
+/// A call of a seat, begun and stepped to its end; the number of steps and how it ended.
+fn whole(rt: &impl Abort, core: &mut Core, seat: u8, call: Call) -> (u32, Option<Outcome>) {
+    if begin(rt, core, seat, call).is_err() {
+        return (0, None);
+    }
+    rest(rt, core, seat)
+}
+
+/// The rest of a call of a seat.
+fn rest(rt: &impl Abort, core: &mut Core, seat: u8) -> (u32, Option<Outcome>) {
+    for steps in 1..20 {
+        if let Step::Ended(outcome) = step(rt, core, seat) {
+            return (steps, Some(outcome));
+        }
+    }
+    (20, None)
+}
+
+/// How many events of the collector in a row are useful.
+fn useful(rt: &impl Abort, core: &mut Core) -> (u32, Work) {
+    for events in 0..200 {
+        let work = collect(rt, core);
+        if work != Work::Useful {
+            return (events, work);
+        }
+    }
+    (200, Work::Useful)
+}
+
+/// A store of the board into its own field, met by the collector.
+const STORE: Call = Call::Store {
+    reg: 0,
+    field: 0,
+    from: 0,
+};
+
+#[test]
+fn store_while_moved(rt: HostRuntime) -> Result<(), Fail> {
+    let g = Geometry::new(8, 16, 0, 1, 0, 1, 0)?;
+    let mut core = Core::open(rt.alloc(), g)?;
+    assert_eq!(rt; begin(&rt, &mut core, 0, STORE), Ok(()));
+    assert_eq!(rt; step(&rt, &mut core, 0), Step::Going);
+    assert_eq!(rt; collect(&rt, &mut core), Work::Flipped);
+    assert_eq!(rt; useful(&rt, &mut core), (15, Work::BusyObject(0)));
+    assert_eq!(rt; useful(&rt, &mut core), (0, Work::BusyObject(0)));
+    assert_eq!(rt;
+        rest(&rt, &mut core, 0),
+        (6, Some(Outcome::Done(Reply::Unit)))
+    );
+    for _ in 0..5 {
+        assert_eq!(rt; collect(&rt, &mut core), Work::Useful);
+    }
+    // The copy stands at the first word of space 0, whose place is 1; its cell is the next word.
+    assert_eq!(rt; core.word(g.space_at(2)), 1 + (1 << 20));
+    Ok(())
+}
+
+#[test]
+fn store_spoils_the_copy(rt: HostRuntime) -> Result<(), Fail> {
+    let g = Geometry::new(8, 16, 0, 1, 0, 1, 0)?;
+    let mut core = Core::open(rt.alloc(), g)?;
+    assert_eq!(rt; collect(&rt, &mut core), Work::Flipped);
+    for _ in 0..18 {
+        assert_eq!(rt; collect(&rt, &mut core), Work::Useful);
+    }
+    assert_eq!(rt;
+        whole(&rt, &mut core, 0, STORE),
+        (7, Some(Outcome::Done(Reply::Unit)))
+    );
+    assert_eq!(rt; collect(&rt, &mut core), Work::Lost(4));
+    Ok(())
+}
+
+#[test]
+fn full(rt: HostRuntime) -> Result<(), Fail> {
+    let g = Geometry::new(8, 16, 8, 1, 1, 1, 0)?;
+    let mut core = Core::open(rt.alloc(), g)?;
+    let shape = Shape::new(1, 0).ok_or("a shape")?;
+    let make = Call::New { dest: 1, shape };
+    for (seat, words) in [(1, 8), (0, 16)] {
+        for _ in 0..4 {
+            assert_eq!(rt;
+                whole(&rt, &mut core, seat, make),
+                (7, Some(Outcome::Done(Reply::Unit)))
+            );
+        }
+        assert_eq!(rt;
+            whole(&rt, &mut core, seat, make),
+            (7, Some(Outcome::Full { words }))
+        );
+    }
+    Ok(())
+}
+
+/// Numbers drawn one after another from a state.
+#[derive(Drop)]
+struct Draws {
+    state: u64,
+}
+
+impl Draws {
+    fn below(&mut self, bound: u64) -> u64
+        requires { 0 < bound }
+        ensures { result < bound }
+    {
+        self.state = self
+            .state
+            .wrapping_mul(6_364_136_223_846_793_005)
+            .wrapping_add(1_442_695_040_888_963_407);
+        (self.state >> 33) % bound
+    }
+
+    /// A register to write, and one to read.
+    fn dest(&mut self) -> u8 {
+        1 + self.below(3) as u8
+    }
+
+    fn reg(&mut self) -> u8 {
+        self.below(4) as u8
+    }
+
+    fn field(&mut self) -> u8 {
+        self.below(2) as u8
+    }
+
+    fn call(&mut self) -> Call {
+        match self.below(7) {
+            0 => Call::Get {
+                reg: self.reg(),
+                field: self.field(),
+            },
+            1 => Call::Put {
+                reg: self.reg(),
+                field: self.field(),
+                value: self.below(1000),
+            },
+            2 => Call::Load {
+                dest: self.dest(),
+                reg: self.reg(),
+                field: self.field(),
+            },
+            3 => Call::Store {
+                reg: self.reg(),
+                field: self.field(),
+                from: self.reg(),
+            },
+            4 => Call::Move {
+                dest: self.dest(),
+                from: self.reg(),
+            },
+            5 => Call::Clear { dest: self.dest() },
+            _ => self.make(),
+        }
+    }
+
+    fn make(&mut self) -> Call {
+        let dest = self.dest();
+        match Shape::new(self.below(3) as u8, 1 + self.below(2) as u8) {
+            Some(shape) => Call::New { dest, shape },
+            None => Call::Clear { dest },
+        }
+    }
+}
+
+/// A machine of three seats, the plain heap beside it, and what the plain heap answered to each call in flight at its
+/// effect; and how often the spaces were flipped, a copy was lost, a call was done and a New found no room.
+#[derive(Drop)]
+struct Walk {
+    core: Core,
+    mirror: Mirror,
+    answered: [Option<Reply>; 3],
+    flips: u32,
+    lost: u32,
+    done: u32,
+    full: u32,
+}
+
+/// The place that the flight does next has the effect of its call.
+fn has_effect(flight: &Flight) -> bool {
+    match flight.call {
+        Call::Get { .. } | Call::Put { .. } | Call::Move { .. } => flight.place == 2,
+        Call::Clear { .. } => flight.place == 1,
+        Call::Load { .. } => flight.place == 4,
+        Call::Store { .. } => flight.place == 6,
+        Call::New { .. } => flight.place == 6 && !flight.full,
+        Call::Same { .. } | Call::IsNull { .. } => false,
+    }
+}
+
+/// A call on the plain heap.
+fn mirrored(
+    rt: &impl Abort,
+    alloc: Global,
+    walk: &mut Walk,
+    seat: u8,
+    call: Call,
+) -> Result<Reply, Memory> {
+    assert!(rt; seat < 3);
+    assert!(rt; call.registers_fit(REGISTERS));
+    walk.mirror.apply(alloc, seat, call)
+}
+
+/// An idle seat begins a call; one that is refused is answered likewise by the plain heap.
+fn begin_some(
+    rt: &impl Abort,
+    alloc: Global,
+    walk: &mut Walk,
+    seat: u8,
+    call: Call,
+) -> Result<(), Memory> {
+    let Err(fault) = begin(rt, &mut walk.core, seat, call) else {
+        return Ok(());
+    };
+    let reply = mirrored(rt, alloc, walk, seat, call)?;
+    let refused = match fault {
+        Fault::Nil => reply == Reply::Nil,
+        Fault::Field => reply == Reply::Field,
+        Fault::Spent => false,
+    };
+    assert!(rt;
+        refused,
+        "a begin is refused otherwise than on the plain heap"
+    );
+    Ok(())
+}
+
+/// The registers of a seat are null, and the same as one another, where those of the plain heap are.
+fn compare(rt: &impl Abort, alloc: Global, walk: &mut Walk, seat: u8) -> Result<(), Memory> {
+    for reg in 0..4 {
+        let other = (reg + 1) % 4;
+        let null = mirrored(rt, alloc, walk, seat, Call::IsNull { reg })? == Reply::Yes;
+        let same = mirrored(rt, alloc, walk, seat, Call::Same { a: reg, b: other })? == Reply::Yes;
+        assert!(rt; seat < walk.core.geometry().tasks() && 4 < walk.core.geometry().registers());
+        assert!(rt;
+            walk.core.is_null(seat, reg) == null,
+            "null otherwise than on the plain heap"
+        );
+        assert!(rt;
+            walk.core.same(seat, reg, other) == same,
+            "the same otherwise than on the plain heap"
+        );
+    }
+    Ok(())
+}
+
+/// A step of a seat with a call in flight. At the effect of the call the plain heap does it too; at the end of the call
+/// its reply is that of the plain heap.
+fn step_some(
+    rt: &impl Abort,
+    alloc: Global,
+    walk: &mut Walk,
+    flight: &Flight,
+) -> Result<(), Memory> {
+    let seat = flight.seat;
+    assert!(rt; seat < 3);
+    if has_effect(flight) {
+        walk.answered[seat as usize] = Some(mirrored(rt, alloc, walk, seat, flight.call)?);
+    }
+    let answered = walk.answered[seat as usize];
+    match step(rt, &mut walk.core, seat) {
+        Step::Going => {}
+        Step::Ended(outcome) => {
+            walk.answered[seat as usize] = None;
+            ended(rt, walk, outcome, answered);
+            compare(rt, alloc, walk, seat)?;
+        }
+    }
+    Ok(())
+}
+
+/// A call that ended has the reply of the plain heap; a New that found no room has no effect.
+fn ended(rt: &impl Abort, walk: &mut Walk, outcome: Outcome, answered: Option<Reply>) {
+    match outcome {
+        Outcome::Done(reply) => {
+            assert!(rt;
+                answered == Some(reply),
+                "another reply than the plain heap's"
+            );
+            walk.done = walk.done.wrapping_add(1);
+        }
+        Outcome::Full { .. } => {
+            assert!(rt;
+                answered.is_none(),
+                "a New that found no room did something"
+            );
+            walk.full = walk.full.wrapping_add(1);
+        }
+    }
+}
+
+/// One action of a walk.
+fn act(rt: &impl Abort, alloc: Global, walk: &mut Walk, draws: &mut Draws) -> Result<(), Memory> {
+    let seat = draws.below(5) as u8;
+    if seat >= 3 {
+        match collect(rt, &mut walk.core) {
+            Work::Flipped => walk.flips = walk.flips.wrapping_add(1),
+            Work::Lost(_) => walk.lost = walk.lost.wrapping_add(1),
+            _ => {}
+        }
+        return Ok(());
+    }
+    assert!(rt; seat < walk.core.geometry().tasks());
+    let flight = walk.core.flight(seat);
+    if flight.place == 0 {
+        let call = draws.call();
+        begin_some(rt, alloc, walk, seat, call)
+    } else {
+        step_some(rt, alloc, walk, &flight)
+    }
+}
+
+#[test]
+fn replies_of_the_plain_heap(rt: HostRuntime) -> Result<(), Fail> {
+    for number in 1..4 {
+        let g = Geometry::new(64, 64, 16, 2, 1, 2, 1)?;
+        let mut walk = Walk {
+            core: Core::open(rt.alloc(), g)?,
+            mirror: Mirror::open(rt.alloc(), g.board())?,
+            answered: [None; 3],
+            flips: 0,
+            lost: 0,
+            done: 0,
+            full: 0,
+        };
+        let mut draws = Draws { state: number };
+        for _ in 0..20_000 {
+            act(&rt, rt.alloc(), &mut walk, &mut draws)?;
+        }
+        assert!(rt;
+            walk.flips > 5 && walk.lost > 5 && walk.done > 1000 && walk.full > 5,
+            "in walk {number}"
+        );
+    }
+    Ok(())
+}

@@ -1,0 +1,5 @@
+mod OpeningTables
+mod OpeningHeap
+mod OpeningRow
+mod OpeningFacts
+pub mod OpeningLawful

@@ -1,0 +1,16 @@
+pub mod Event
+pub mod State
+pub mod Step
+pub mod Begin
+pub mod Collect
+pub mod Run
+pub mod Counts
+pub mod View
+pub mod Flights
+pub mod Lines
+pub mod Colours
+pub mod Facts
+pub mod Lawful
+pub mod Reach
+pub mod Stands
+pub mod Fits

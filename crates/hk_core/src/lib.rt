@@ -1,0 +1,18 @@
+//! The heap's row of words, and the operations of the tasks on it, place by place.
+#![tactic(auto)]
+
+mod decide;
+mod event;
+mod flight;
+mod machine;
+mod opening;
+mod outcome;
+mod spot;
+mod took;
+
+pub use event::Event;
+pub use flight::{Flight, reference_size, reserved_fits};
+pub use hk_model::Memory;
+pub use machine::{Core, MAX_CALLS};
+pub use outcome::{Fault, Outcome, Step};
+pub use spot::{Line, Spot, Stage, Work};

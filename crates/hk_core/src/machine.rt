@@ -1,0 +1,318 @@
+ghost use Rattle.std.specs.Prelude.{◌≡◌, ◌↔◌, ◌<◌, [], length, IsTrue, false, IfNone, IfOk, MatchResult, slice_index};
+ghost use Rattle.hk_words.specs.Geometry.{tasks};
+ghost use Rattle.hk_words.specs.Layout.{w0_words, w0_cycle};
+ghost use Rattle.hk_words.specs.Row.{W0, W1, IsRegister, word_of};
+ghost use Rattle.hk_words.specs.Calls.{RegistersFit};
+ghost use Rattle.hk_model.specs.History.{is_question};
+ghost use Rattle.hk_core.specs.Event.{CanFire, CanFireIf, fired, fired_if, old_of, learnt};
+ghost use Rattle.hk_core.specs.State.{State, IsSized, opening, flight_of};
+ghost use Rattle.hk_core.specs.Step.{next, answer_by};
+ghost use Rattle.hk_core.specs.Begin.{most_calls, register_word, entered_word, copied_word, has_field, first_flight, after_begin, refusal};
+ghost use Rattle.hk_core.specs.Fits.{CanStep};
+ghost use Rattle.hk_core.specs.Lawful.{Lawful};
+
+use crate::opening::{opening_begun, opening_flights, opening_row, opening_spot};
+use crate::{Event, Fault, Flight, Spot, Step};
+use hk_model::Memory;
+use hk_words::{Call, Geometry, reference_nums, reference_refs, w0_cycle, w0_words};
+use std::alloc::Global;
+use std::marker::Model;
+
+/// The calls that a seat can begin.
+pub const MAX_CALLS: u32 = 1 << 30;
+
+/// The machine of the heap: its row of words, the calls in flight, the begun calls of each seat, and where the
+/// collector is.
+#[derive(Drop)]
+pub struct Core {
+    geometry: Geometry,
+    row: Vec<u64>,
+    flights: Vec<Flight>,
+    begun: Vec<u32>,
+    spot: Spot,
+}
+
+impl Model for Core {
+    ghost use Rattle.hk_core.specs.State.{State, IsSized};
+
+    ghost Value = { State };
+
+    ghost view = { λ c. record { geometry = c.geometry; row = c.row.items; flights = c.flights.items; begun = c.begun.items; spot = c.spot } };
+
+    ghost invariant = { λ c. IsSized (record { geometry = c.geometry; row = c.row.items; flights = c.flights.items; begun = c.begun.items; spot = c.spot }) };
+}
+
+impl Core {
+    /// The machine at the start: cycle 1, the board alone in the heap, every seat idle, and the collector at rest. Only
+    /// this call takes memory.
+    #[tactic(auto, unfolding(crate::specs::State::opening))]
+    pub fn open(alloc: Global, geometry: Geometry) -> Result<Core, Memory>
+        ensures state { IfOk result (λ core. core ≡ opening geometry) }
+        ensures lawful { IfOk result (λ core. Lawful core []) }
+    {
+        Ok(Core {
+            geometry,
+            row: opening_row(alloc, &geometry)?,
+            flights: opening_flights(alloc, &geometry)?,
+            begun: opening_begun(alloc, &geometry)?,
+            spot: opening_spot(),
+        })
+    }
+
+    /// The geometry that the machine was opened with. No call changes it. The row has the words that it says, and there
+    /// are as many flights as tasks.
+    pub fn geometry(&self) -> Geometry
+        ensures geometry { result ≡ self.now.geometry }
+        ensures sized { IsSized self.now }
+    {
+        self.geometry
+    }
+
+    /// The number of the cycle.
+    pub fn cycle(&self) -> u32
+        ensures { result ≡ w0_cycle (word_of self.now.geometry self.now.row W0) }
+    {
+        w0_cycle(self.row[self.geometry.w0_at() as usize])
+    }
+
+    /// The words used for allocation in this cycle.
+    pub fn words_used(&self) -> u32
+        ensures { result ≡ w0_words (word_of self.now.geometry self.now.row W0) }
+    {
+        w0_words(self.row[self.geometry.w0_at() as usize])
+    }
+
+    /// The words reserved for evacuation in this cycle.
+    pub fn reserved(&self) -> u64
+        ensures { result ≡ word_of self.now.geometry self.now.row W1 }
+    {
+        self.row[self.geometry.w1_at() as usize]
+    }
+
+    /// Where the collector is.
+    pub fn spot(&self) -> Spot
+        ensures { result ≡ self.now.spot }
+    {
+        self.spot
+    }
+
+    /// Sets where the collector is. For the collector alone.
+    pub fn set_spot(&mut self, spot: Spot)
+        ensures { self.new ≡ record self.old { spot = spot } }
+    {
+        self.spot = spot;
+    }
+
+    /// The reference in a register of a seat, 0 where it is null.
+    #[tactic(auto, unfolding(crate::specs::Begin::register_word))]
+    fn register(&self, seat: u8, reg: u8) -> u64
+        requires { IsRegister self.now.geometry seat reg }
+        ensures { result ≡ register_word self.now seat reg }
+    {
+        self.row[self.geometry.register_at(seat, reg) as usize]
+    }
+
+    /// The register of the seat is null.
+    pub fn is_null(&self, seat: u8, reg: u8) -> bool
+        requires { IsRegister self.now.geometry seat reg }
+        ensures { IsTrue result ↔ (register_word self.now seat reg ≡ 0) }
+    {
+        self.register(seat, reg) == 0
+    }
+
+    /// Two registers of the seat refer to one object, or are both null.
+    pub fn same(&self, seat: u8, a: u8, b: u8) -> bool
+        requires first { IsRegister self.now.geometry seat a }
+        requires second { IsRegister self.now.geometry seat b }
+        ensures { IsTrue result ↔ (register_word self.now seat a ≡ register_word self.now seat b) }
+    {
+        self.register(seat, a) == self.register(seat, b)
+    }
+
+    /// A word of the row, by its index.
+    pub fn word(&self, index: u32) -> u64
+        requires { index < length self.now.row }
+        ensures { result ≡ slice_index self.now.row index }
+    {
+        self.row[index as usize]
+    }
+
+    /// Whether an event may be fired: its word is one of the row, and a sum or a difference stays in the range.
+    #[tactic(auto, unfolding(crate::specs::Event::old_of))]
+    pub fn can_fire(&self, event: &Event) -> bool
+        ensures { IsTrue result → CanFire self.now.row event.now }
+    {
+        let index = event.word();
+        index < self.geometry.words() && event.amount_fits(self.row[index as usize])
+    }
+
+    /// Does one event, and answers what the word was. It changes that word alone.
+    #[tactic(auto, unfolding(crate::specs::Event::fired, crate::specs::Event::old_of))]
+    pub fn fire(&mut self, event: Event) -> u64
+        requires { CanFire self.old.row event }
+        ensures row { self.new ≡ record self.old { row = fired self.old.row event } }
+        ensures old { result ≡ old_of self.old.row event }
+    {
+        let word = event.word() as usize;
+        let old = self.row[word];
+        self.row[word] = event.after(old);
+        old
+    }
+
+    /// Does an event that may be left out, and answers what is learnt from it.
+    #[tactic(auto, unfolding(crate::specs::Event::fired_if, crate::specs::Event::learnt))]
+    pub fn fire_if(&mut self, event: Option<Event>) -> u64
+        requires { CanFireIf self.old.row event }
+        ensures row { self.new ≡ record self.old { row = fired_if self.old.row event } }
+        ensures learnt { result ≡ learnt self.old.row event }
+    {
+        match event {
+            Some(event) => {
+                let old = self.fire(event);
+                event.learnt(old)
+            }
+            None => 0,
+        }
+    }
+
+    /// The flight of a seat.
+    #[tactic(auto, unfolding(crate::specs::State::flight_of))]
+    pub fn flight(&self, seat: u8) -> Flight
+        requires { seat < tasks self.now.geometry }
+        ensures { result ≡ flight_of self.now.flights seat }
+    {
+        self.flights[seat as usize]
+    }
+
+    /// Does the next place of the seat's call: its event on the row, and what the flight takes from it.
+    #[tactic(auto, unfolding(crate::specs::Step::next, crate::specs::Step::answer_by, crate::specs::Step::event_by, crate::specs::Step::found_by))]
+    pub fn advance(&mut self, seat: u8) -> Step
+        requires seat { seat < tasks self.old.geometry }
+        requires can_step { CanStep self.old seat }
+        ensures next { self.new ≡ next self.old seat }
+        ensures step { result ≡ answer_by self.old seat }
+    {
+        let mut flight = self.flight(seat);
+        let event = flight.event(&self.geometry);
+        let found = self.fire_if(event);
+        let step = flight.took(&self.geometry, found);
+        self.flights[seat as usize] = flight;
+        step
+    }
+
+    /// Begins a call of a seat: it does no event. A call that is refused changes nothing.
+    #[tactic(auto, unfolding(crate::specs::Begin::after_begin, crate::specs::Begin::accepted))]
+    pub fn start(&mut self, seat: u8, call: Call) -> Result<(), Fault>
+        requires seat { seat < tasks self.old.geometry }
+        requires idle { (flight_of self.old.flights seat).place ≡ 0 }
+        requires question { is_question call ≡ false }
+        requires registers { RegistersFit self.old.geometry.registers call }
+        ensures state { self.new ≡ after_begin self.old seat call }
+        ensures answer { MatchResult result (λ _. refusal self.old seat call ≡ None) (λ fault. refusal self.old seat call ≡ Some fault) }
+    {
+        if let Some(fault) = self.refusal(seat, &call) {
+            return Err(fault);
+        }
+        self.flights[seat as usize] = self.first_flight(seat, call);
+        let begun = self.begun[seat as usize];
+        self.begun[seat as usize] = begun + 1;
+        Ok(())
+    }
+
+    /// The first reason why a call isn't begun.
+    #[tactic(auto, unfolding(crate::specs::Begin::refusal))]
+    fn refusal(&self, seat: u8, call: &Call) -> Option<Fault>
+        requires seat { seat < tasks self.now.geometry }
+        requires registers { RegistersFit self.now.geometry.registers call.now }
+        ensures refusal { result ≡ refusal self.now seat call.now }
+        ensures room { IfNone result (slice_index self.now.begun seat < most_calls) }
+    {
+        let entered = self.entered_word(seat, call);
+        if self.begun[seat as usize] >= MAX_CALLS {
+            Some(Fault::Spent)
+        } else if call.entered().is_some() && entered == 0 {
+            Some(Fault::Nil)
+        } else if !has_field(call, entered) {
+            Some(Fault::Field)
+        } else {
+            None
+        }
+    }
+
+    /// The flight of a call that begins: it has read nothing but registers.
+    #[tactic(auto, unfolding(crate::specs::Begin::first_flight))]
+    fn first_flight(&self, seat: u8, call: Call) -> Flight
+        requires seat { seat < tasks self.now.geometry }
+        requires registers { RegistersFit self.now.geometry.registers call }
+        ensures { result ≡ first_flight self.now seat call }
+    {
+        Flight {
+            seat,
+            call,
+            place: 1,
+            entered: self.entered_word(seat, &call),
+            at: 0,
+            word: 0,
+            item: self.copied_word(seat, &call),
+            claimer: false,
+            offset: 0,
+            number: 0,
+            full: false,
+            raised: false,
+        }
+    }
+
+    /// The reference in the register that a call enters, and 0 where it enters none.
+    #[tactic(auto, unfolding(crate::specs::Begin::entered_word))]
+    fn entered_word(&self, seat: u8, call: &Call) -> u64
+        requires seat { seat < tasks self.now.geometry }
+        requires registers { RegistersFit self.now.geometry.registers call.now }
+        ensures { result ≡ entered_word self.now seat call.now }
+    {
+        match *call {
+            Call::Get { reg, .. }
+            | Call::Put { reg, .. }
+            | Call::Load { reg, .. }
+            | Call::Store { reg, .. } => { self.register(seat, reg) }
+            Call::Move { .. }
+            | Call::Clear { .. }
+            | Call::New { .. }
+            | Call::Same { .. }
+            | Call::IsNull { .. } => 0,
+        }
+    }
+
+    /// The reference in the register that a call copies from, and 0 where it copies from none.
+    #[tactic(auto, unfolding(crate::specs::Begin::copied_word))]
+    fn copied_word(&self, seat: u8, call: &Call) -> u64
+        requires seat { seat < tasks self.now.geometry }
+        requires registers { RegistersFit self.now.geometry.registers call.now }
+        ensures { result ≡ copied_word self.now seat call.now }
+    {
+        match *call {
+            Call::Store { from, .. } | Call::Move { from, .. } => self.register(seat, from),
+            Call::Get { .. }
+            | Call::Put { .. }
+            | Call::Load { .. }
+            | Call::Clear { .. }
+            | Call::New { .. }
+            | Call::Same { .. }
+            | Call::IsNull { .. } => 0,
+        }
+    }
+}
+
+/// The object that a reference names has the field of the call.
+fn has_field(call: &Call, reference: u64) -> bool
+    ensures { result ≡ has_field call.now reference }
+{
+    match *call {
+        Call::Get { field, .. } | Call::Put { field, .. } => field < reference_nums(reference),
+        Call::Load { field, .. } | Call::Store { field, .. } => field < reference_refs(reference),
+        Call::Move { .. }
+        | Call::Clear { .. }
+        | Call::New { .. }
+        | Call::Same { .. }
+        | Call::IsNull { .. } => true,
+    }
+}

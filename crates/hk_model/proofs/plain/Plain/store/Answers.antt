@@ -1,0 +1,23 @@
+use Rattle.std.proofs.Common.{sym, ◌∙◌, ap}
+use Rattle.hk_words.specs.declared.call.Reply.TheVariants.{Unit as Done}
+use Rattle.hk_model.specs.Heap.{register}
+use Rattle.hk_model.specs.Replies.{has_reference, reply_of, heap_after, with_link}
+use Rattle.hk_model.proofs.Replies.{looked_reference, looked_err, looked_err_same, reply_of-store, heap_after-store}
+use Rattle.hk_model.proofs.plain.Plain.store.Goals as goal
+
+pub returns-in-Ok-clause-reply : goal.returns-in-Ok-clause-reply
+returns-in-Ok-clause-reply c = let p = looked_reference c.args.self.now c.args.seat c.args.reg c.args.field c.in-Ok.birth c.in-Ok.ensures.value in sym (reply_of-store c.args.self.now c.args.seat c.args.reg c.args.field c.args.from c.in-Ok.birth p.0 p.1)
+
+pub returns-in-Ok-clause-heap : goal.returns-in-Ok-clause-heap
+returns-in-Ok-clause-heap c =
+    let p = looked_reference c.args.self.now c.args.seat c.args.reg c.args.field c.in-Ok.birth c.in-Ok.ensures.value in
+    c.set_reference.ensures.heap ∙ ap (with_link c.args.self.now c.in-Ok.birth c.args.field) c.register-stored.ensures.value ∙ sym (heap_after-store c.args.self.now c.args.seat c.args.reg c.args.field c.args.from c.in-Ok.birth p.0 p.1)
+
+pub returns-in-Err-clause-reply : goal.returns-in-Err-clause-reply
+unfolding reply_of
+returns-in-Err-clause-reply c = looked_err (register c.args.self.now c.args.seat c.args.reg) (has_reference c.args.self.now c.args.field) c.in-Err.reply c.in-Err.ensures.value (λ birth. Done)
+
+pub returns-in-Err-clause-heap : goal.returns-in-Err-clause-heap
+unfolding heap_after
+returns-in-Err-clause-heap c =
+    looked_err_same (register c.args.self.now c.args.seat c.args.reg) (has_reference c.args.self.now c.args.field) c.in-Err.reply c.in-Err.ensures.value c.args.self.now (λ birth. with_link c.args.self.now birth c.args.field (register c.args.self.now c.args.seat c.args.from))

@@ -1,0 +1,6 @@
+pub mod Heap
+pub mod Replies
+pub mod History
+pub mod Laws
+pub mod Plain
+pub mod View

@@ -3,3 +3,5 @@ mod OpeningHeap
 mod OpeningRow
 mod OpeningFacts
 pub mod OpeningLawful
+pub mod Update
+pub mod Counts

@@ -5,3 +5,4 @@ mod OpeningFacts
 pub mod OpeningLawful
 pub mod Update
 pub mod Counts
+pub mod Columns

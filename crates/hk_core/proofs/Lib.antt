@@ -6,3 +6,4 @@ pub mod OpeningLawful
 pub mod Update
 pub mod Counts
 pub mod Columns
+pub mod Encode

@@ -7,3 +7,4 @@ pub mod Update
 pub mod Counts
 pub mod Columns
 pub mod Encode
+pub mod kinds

@@ -1,0 +1,3 @@
+pub mod Seats
+pub mod Enter
+pub mod Leave

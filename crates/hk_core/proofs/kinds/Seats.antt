@@ -425,6 +425,26 @@ module _ (x : Flight) (q at : ℕ) (t : GoesOn x.call x.place q) where
   unfolding f.has_number
   goes_without_number = rw t.numbered_before refl
 
+  pub goes_in_object : SameObject x.call x.place q → f.in_object (moved_on x q at) ≡ f.in_object x
+  unfolding f.in_object
+  goes_in_object o = o.inside
+
+  pub goes_is_inside : SameObject x.call x.place q → (m : ℕ) → f.is_inside (moved_on x q at) m ≡ f.is_inside x m
+  unfolding f.is_inside f.in_object
+  goes_is_inside o m = rw o.inside refl
+
+  pub goes_before_object : SameObject x.call x.place q → f.before_object (moved_on x q at) ≡ f.before_object x
+  unfolding f.before_object
+  goes_before_object o = o.before
+
+  pub goes_in_frame : SameFrame x.call x.place q → f.in_frame (moved_on x q at) ≡ f.in_frame x
+  unfolding f.in_frame
+  goes_in_frame o = rw o.inside refl
+
+  pub goes_before_frame : SameFrame x.call x.place q → f.before_frame (moved_on x q at) ≡ f.before_frame x
+  unfolding f.before_frame
+  goes_before_frame o = rw o.before refl
+
   pub goes_hand : (g : Geometry) → SameClaim x.call x.place q → hand_of_flight g (moved_on x q at) ≡ hand_of_flight g x
   unfolding f.hand_of_flight
   goes_hand g c = rw (c.reserves, c.links) refl

@@ -3,3 +3,8 @@ mod OpeningHeap
 mod OpeningRow
 mod OpeningFacts
 pub mod OpeningLawful
+pub mod Update
+pub mod Counts
+pub mod Columns
+pub mod Encode
+pub mod kinds

@@ -140,7 +140,7 @@ impl Core {
     /// Whether an event may be fired: its word is one of the row, and a sum or a difference stays in the range.
     #[tactic(auto, unfolding(crate::specs::Event::old_of))]
     pub fn can_fire(&self, event: &Event) -> bool
-        ensures { IsTrue result → CanFire self.now.row event.now }
+        ensures { IsTrue result ↔ CanFire self.now.row event.now }
     {
         let index = event.word();
         index < self.geometry.words() && event.amount_fits(self.row[index as usize])

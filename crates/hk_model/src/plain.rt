@@ -48,7 +48,10 @@ impl Model for Plain {
 }
 
 impl Plain {
-    /// The heap of so many tasks that holds the board alone.
+    /// The heap of so many tasks that holds the board alone, an object of this shape. Register 0 of each task refers to
+    /// the board, and its other registers are null.
+    ///
+    /// [`Memory`] where there is no memory for that.
     pub fn open(alloc: Global, tasks: u8, board: Shape) -> Result<Plain, Memory>
         ensures heap { IfOk result (λ plain. plain ≡ opening tasks REGISTERS board) }
         ensures tasks { IfOk result (λ plain. length plain.registers ≡ tasks) }
@@ -70,8 +73,11 @@ impl Plain {
         Ok(Plain { objects, registers })
     }
 
+    /// Does a call of the task of a seat, and answers it. The seat is one of the tasks', and the registers of the call
+    /// are in their ranges.
+    ///
+    /// [`Memory`] where there is no memory for a new object; the heap is then as it was. Only a New takes memory.
     #[tactic(auto, unfolding(crate::specs::Replies::reply_of, crate::specs::Replies::heap_after))]
-    /// Does a call of the task of a seat, and answers it. Only a New takes memory.
     pub fn apply(&mut self, alloc: Global, seat: u8, call: Call) -> Result<Reply, Memory>
         requires seat { seat < length self.old.registers }
         requires fits { RegistersFit (register_count self.old seat) call }
@@ -80,7 +86,6 @@ impl Plain {
         ensures heap { OnOk result (self.new ≡ heap_after self.old seat call) }
         ensures memory { OnErr result (self.new ≡ self.old) }
         ensures only_new { OnErr result (is_new call ≡ true) }
-
         ensures tasks { KeepsTasks self.old self.new }
     {
         match call {

@@ -19,8 +19,8 @@ impl Model for Registers {
 }
 
 impl Registers {
-    #[tactic(auto, using(crate::proofs::Heaps::first_registers_is))]
     /// Registers of which the first refers to birth 0, and the others are null.
+    #[tactic(auto, using(crate::proofs::Heaps::first_registers_is))]
     pub fn new(alloc: Global, count: u8) -> Result<Registers, AllocError>
         requires { 0 < count }
         ensures { IfOk result (λ r. r ≡ first_registers count) }

@@ -1,43 +1,8 @@
-ghost use Rattle.std.specs.Prelude.{◌≡◌, ℕ, ◌<◌, ◌≤◌, length, IsTrue};
-ghost use Rattle.hk_words.specs.Calls.{RegistersFit};
-ghost use Rattle.hk_model.specs.Heap.{KeepsTasks, register_count};
-
 use crate::{Memory, Plain};
 use hk_words::{Call, REGISTERS, Reply, Shape};
 use std::alloc::Global;
 use std::process::Abort;
 use std::test::Fail;
-
-/// Whether a task may make a call: its registers are there, and it doesn't write register 0.
-fn fits(call: Call) -> bool
-    ensures { IsTrue result → RegistersFit REGISTERS call }
-{
-    let there = |reg: u8| reg < REGISTERS;
-    let writable = |reg: u8| reg > 0 && reg < REGISTERS;
-    match call {
-        Call::Get { reg, field: _ } => there(reg),
-        Call::Put {
-            reg,
-            field: _,
-            value: _,
-        } => there(reg),
-        Call::Load {
-            dest,
-            reg,
-            field: _,
-        } => writable(dest) && there(reg),
-        Call::Store {
-            reg,
-            field: _,
-            from,
-        } => there(reg) && there(from),
-        Call::Move { dest, from } => writable(dest) && there(from),
-        Call::Clear { dest } => writable(dest),
-        Call::New { dest, shape: _ } => writable(dest),
-        Call::Same { a, b } => there(a) && there(b),
-        Call::IsNull { reg } => there(reg),
-    }
-}
 
 /// Makes the calls of a table in order, and compares each answer with the one beside it.
 fn play(
@@ -49,7 +14,7 @@ fn play(
 ) -> Result<(), Memory> {
     let mut plain = Plain::open(alloc, tasks, board)?;
     for (seat, call, want) in table {
-        assert!(rt; *seat < tasks && fits(*call), "{call:?}");
+        assert!(rt; *seat < tasks && call.registers_fit(REGISTERS), "{call:?}");
         let reply = plain.apply(alloc, *seat, *call)?;
         assert_eq!(rt; reply, *want, "seat {seat}: {call:?}");
     }

@@ -1,0 +1,4 @@
+pub mod Seats
+pub mod Enter
+pub mod Leave
+pub mod Frame

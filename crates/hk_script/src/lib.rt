@@ -1,0 +1,11 @@
+//! The script language: what a task's job does, tick by tick. A script is parsed from a text and printed again,
+//! its cost in ticks and in words is known before it runs, and a walk of it goes on statement by statement.
+#![tactic(auto)]
+
+mod error;
+mod lex;
+mod reading;
+mod statement;
+
+pub use error::ScriptError;
+pub use statement::{MAX_COUNT, Statement, Test, VARIABLES};

@@ -1,2 +1,3 @@
 pub mod Lex
+pub mod Shapes
 pub mod Reading

@@ -12,6 +12,7 @@ use Rattle.hk_script.specs.declared.statement.Test.TheVariants as test
 use Rattle.hk_script.specs.declared.error.Fault.{Fault}
 use Rattle.hk_script.specs.declared.error.Fault.TheVariants as fault
 use Rattle.hk_script.specs.Lex.{number_of, index_of}
+use Rattle.hk_script.specs.Shapes.{shape_of}
 
 infixl 10 ◌>>=◌
 abbrev pub ◌>>=◌ : {A B : Type 0} → Result A Fault → (A → Result B Fault) → Result B Fault
@@ -73,3 +74,54 @@ two_words name a =
     else if bytes_eq name (codes "clear") then (target_of a >>= λ dest. Ok (statement.Clear dest))
     else if bytes_eq name (codes "repeat") then (count_of a >>= λ count. Ok (statement.Repeat count))
     else Err fault.Word
+
+-- two variables, from the left
+abbrev pub variables_of : {B : Type 0} → List ℕ → List ℕ → (ℕ → ℕ → B) → Result B Fault
+variables_of a b make = variable_of a >>= λ left. variable_of b >>= λ right. Ok (make left right)
+
+-- the statement of a line of three words
+unfoldable pub three_words : List ℕ → List ℕ → List ℕ → Result Statement Fault
+three_words name a b =
+    if bytes_eq name (codes "set") then (variable_of a >>= λ variable. value_of b >>= λ value. Ok (statement.Set variable value))
+    else if bytes_eq name (codes "copy") then variables_of a b statement.Copy
+    else if bytes_eq name (codes "add") then variables_of a b statement.Add
+    else if bytes_eq name (codes "sub") then variables_of a b statement.Sub
+    else if bytes_eq name (codes "move") then (target_of a >>= λ dest. register_of b >>= λ from. Ok (statement.Move dest from))
+    else if bytes_eq name (codes "if") && bytes_eq a (codes "null") then (register_of b >>= λ reg. Ok (statement.If (test.Null reg)))
+    else Err fault.Word
+
+-- a new object, whose shape is looked at last
+unfoldable pub new_of : List ℕ → List ℕ → List ℕ → Result Statement Fault
+new_of a b c = do
+  dest ← target_of a
+  refs ← size_of b
+  nums ← size_of c
+  shape ← ok_or (shape_of refs nums) fault.Shape
+  Ok (statement.New dest shape)
+
+-- the test of an `if` line of four words: the third word is looked at before the second
+unfoldable pub test_of : List ℕ → List ℕ → List ℕ → Result Statement Fault
+test_of a b c =
+    if bytes_eq b (codes "<") then variables_of a c (λ left right. statement.If (test.Less left right))
+    else if bytes_eq b (codes "=") then variables_of a c (λ left right. statement.If (test.Equal left right))
+    else if bytes_eq a (codes "same") then (register_of b >>= λ left. register_of c >>= λ right. Ok (statement.If (test.Same left right)))
+    else Err fault.Word
+
+-- the statement of a line of four words
+unfoldable pub four_words : List ℕ → List ℕ → List ℕ → List ℕ → Result Statement Fault
+four_words name a b c =
+    if bytes_eq name (codes "get") then (variable_of a >>= λ variable. register_of b >>= λ reg. field_of c >>= λ field. Ok (statement.Get variable reg field))
+    else if bytes_eq name (codes "put") then (register_of a >>= λ reg. field_of b >>= λ field. variable_of c >>= λ variable. Ok (statement.Put reg field variable))
+    else if bytes_eq name (codes "load") then (target_of a >>= λ dest. register_of b >>= λ reg. field_of c >>= λ field. Ok (statement.Load dest reg field))
+    else if bytes_eq name (codes "store") then (register_of a >>= λ reg. field_of b >>= λ field. register_of c >>= λ from. Ok (statement.Store reg field from))
+    else if bytes_eq name (codes "new") then new_of a b c
+    else if bytes_eq name (codes "if") then test_of a b c
+    else Err fault.Word
+
+-- the statement of a line, of these words
+unfoldable pub statement_of : List (List ℕ) → Result Statement Fault
+statement_of (name ∷ []) = one_word name
+statement_of (name ∷ a ∷ []) = two_words name a
+statement_of (name ∷ a ∷ b ∷ []) = three_words name a b
+statement_of (name ∷ a ∷ b ∷ c ∷ []) = four_words name a b c
+statement_of words = Err fault.Word

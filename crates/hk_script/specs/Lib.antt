@@ -1,3 +1,4 @@
 pub mod Lex
 pub mod Shapes
 pub mod Reading
+pub mod Spelling

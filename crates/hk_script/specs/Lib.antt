@@ -2,3 +2,5 @@ pub mod Lex
 pub mod Shapes
 pub mod Reading
 pub mod Spelling
+pub mod Blocks
+pub mod Texts

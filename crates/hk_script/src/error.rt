@@ -62,3 +62,23 @@ pub(crate) enum Fault {
     Deep,
     Long,
 }
+
+impl Fault {
+    ghost use Rattle.hk_script.specs.Texts.{fault_at};
+
+    /// The fault, in this line.
+    pub(crate) fn at(self, line: u32) -> ScriptError
+        ensures { result ≡ fault_at line self }
+    {
+        match self {
+            Fault::Word => ScriptError::Word(line),
+            Fault::Number => ScriptError::Number(line),
+            Fault::Register => ScriptError::Register(line),
+            Fault::Variable => ScriptError::Variable(line),
+            Fault::Shape => ScriptError::Shape(line),
+            Fault::Block => ScriptError::Block(line),
+            Fault::Deep => ScriptError::Deep(line),
+            Fault::Long => ScriptError::Long,
+        }
+    }
+}

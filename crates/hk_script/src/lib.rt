@@ -2,10 +2,13 @@
 //! its cost in ticks and in words is known before it runs, and a walk of it goes on statement by statement.
 #![tactic(auto)]
 
+mod blocks;
 mod error;
 mod lex;
 mod reading;
+mod script;
 mod statement;
 
 pub use error::ScriptError;
-pub use statement::{MAX_COUNT, Statement, Test, VARIABLES};
+pub use script::Script;
+pub use statement::{MAX_COUNT, MAX_DEPTH, MAX_STATEMENTS, Statement, Test, VARIABLES};

@@ -8,6 +8,12 @@ pub const VARIABLES: u8 = 8;
 /// The most ticks that one `work` takes, and the most turns of one `repeat`.
 pub const MAX_COUNT: u16 = 65_535;
 
+/// The most statements of a script.
+pub const MAX_STATEMENTS: usize = 1024;
+
+/// The most blocks inside each other.
+pub const MAX_DEPTH: usize = 16;
+
 /// What an `if` tests.
 #[derive(Clone, Copy, Debug, PartialEq, Eq)]
 pub enum Test {

@@ -4,3 +4,4 @@ pub mod Reading
 pub mod Spelling
 pub mod Blocks
 pub mod Texts
+pub mod Progress

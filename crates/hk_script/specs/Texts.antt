@@ -59,6 +59,10 @@ abbrev pub then_at : {A B : Type 0} → ℕ → Result A Fault → (A → Result
 then_at line (Ok x) f = f x
 then_at line (Err e) f = Err (fault_at line e)
 
+-- nothing comes after
+abbrev pub done : {A : Type 0} → A → Result A ScriptError
+done x = Ok x
+
 -- the number of the next line; a line past the last number has that number
 abbrev pub next_line : ℕ → ℕ
 next_line line = min (line + 1) (2 ^ 32 - 1)

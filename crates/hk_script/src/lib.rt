@@ -5,6 +5,8 @@
 mod blocks;
 mod error;
 mod lex;
+mod parse;
+mod progress;
 mod reading;
 mod script;
 mod statement;

@@ -5,3 +5,4 @@ pub mod Spelling
 pub mod Blocks
 pub mod Texts
 pub mod Progress
+pub mod Printing

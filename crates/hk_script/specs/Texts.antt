@@ -1,5 +1,5 @@
 -- Which texts spell a script, and the first reason why a text spells none.
-use Rattle.std.specs.Prelude.{◌≡◌, ℕ, ◌+◌, ◌-◌, ◌^◌, min, List, [], ◌∷◌, ◌++◌, length, map, filter, nat_lt, if◌then◌else◌, Result, Ok, Err}
+use Rattle.std.specs.Prelude.{◌≡◌, ℕ, Bool, true, false, ◌+◌, ◌-◌, ◌^◌, min, List, [], ◌∷◌, ◌++◌, length, map, filter, nat_lt, if◌then◌else◌, Result, Ok, Err}
 use Rattle.std.specs.List.{AllZip}
 use Rattle.hk_script.specs.declared.blocks.Open.{Open}
 use Rattle.hk_script.specs.declared.error.Fault.{Fault}
@@ -13,9 +13,14 @@ use Rattle.hk_script.specs.Reading.{◌>>=◌, statement_of}
 use Rattle.hk_script.specs.Spelling.{SpellsStatement}
 use Rattle.hk_script.specs.Blocks.{nest, IsScript}
 
+-- a line has words
+abbrev pub has_words : List (List ℕ) → Bool
+has_words [] = false
+has_words (w ∷ ws) = true
+
 -- the lines of a text that have words, each as its words
 abbrev pub statement_lines : List ℕ → List (List (List ℕ))
-statement_lines text = filter (λ ws. nat_lt 0 (length ws)) (map words (lines text))
+statement_lines text = filter has_words (map words (lines text))
 
 -- a text spells a script: each line with words spells its statement
 pub record Spells (text : List ℕ) (s : List Statement) : Type 0 where
@@ -67,10 +72,10 @@ done x = Ok x
 abbrev pub next_line : ℕ → ℕ
 next_line line = min (line + 1) (2 ^ 32 - 1)
 
--- the lines were read, of which the first has this number, up to the first fault
-abbrev pub lines_read : ℕ → Progress → List (List ℕ) → Result Progress ScriptError
+-- lines of these words were read, of which the first has this number, up to the first fault
+abbrev pub lines_read : ℕ → Progress → List (List (List ℕ)) → Result Progress ScriptError
 lines_read line p [] = Ok p
-lines_read line p (l ∷ ls) = then_at line (line_read line p (words l)) (λ q. lines_read (next_line line) q ls)
+lines_read line p (ws ∷ more) = then_at line (line_read line p ws) (λ q. lines_read (next_line line) q more)
 
 -- the end of the text: a block that is open is looked at first, the innermost one, and then whether there is a statement
 abbrev pub finished : List Open → List Statement → Result (List Statement) ScriptError
@@ -84,7 +89,7 @@ finish (Err e) = Err e
 
 -- the script of a text, or the first reason why there is none
 unfoldable pub script_of : List ℕ → Result (List Statement) ScriptError
-script_of text = finish (lines_read 1 nothing_read (lines text))
+script_of text = finish (lines_read 1 nothing_read (map words (lines text)))
 
 -- what a call returned is the result of reading, unless memory ran out
 abbrev pub Refuses : {B : Type 0} → ScriptError → Result B ScriptError → Type 0

@@ -6,6 +6,7 @@ mod blocks;
 mod error;
 mod lex;
 mod parse;
+mod print;
 mod progress;
 mod reading;
 mod script;

@@ -6,3 +6,5 @@ pub mod Blocks
 pub mod Texts
 pub mod Progress
 pub mod Printing
+pub mod Arguments
+pub mod Cost

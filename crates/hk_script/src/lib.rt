@@ -3,15 +3,21 @@
 #![tactic(auto)]
 
 mod blocks;
+mod cost;
 mod error;
+mod laws;
 mod lex;
-mod parse;
-mod print;
+mod parsing;
+mod printing;
 mod progress;
 mod reading;
 mod script;
 mod statement;
 
+pub use cost::MAX_COST;
 pub use error::ScriptError;
+pub use laws::{one_script, printed_again};
+pub use parsing::parse;
+pub use printing::print;
 pub use script::Script;
 pub use statement::{MAX_COUNT, MAX_DEPTH, MAX_STATEMENTS, Statement, Test, VARIABLES};

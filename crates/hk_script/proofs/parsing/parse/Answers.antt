@@ -3,7 +3,7 @@ use Rattle.std.proofs.lemmas.Result.{err_from_is_err_and}
 use Rattle.hk_script.specs.declared.statement.Statement.{Statement}
 use Rattle.hk_script.specs.Texts.{Refuses, Spells, script_of}
 use Rattle.hk_script.proofs.Texts.{text_takes, text_again}
-use Rattle.hk_script.proofs.parse.parse.Goals as goal
+use Rattle.hk_script.proofs.parsing.parse.Goals as goal
 
 pub new-requires : goal.new-requires
 new-requires c = (text_takes c.args.text.now _ c.in_ok-statements.ensures).script

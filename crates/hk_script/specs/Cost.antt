@@ -1,8 +1,10 @@
 -- The greatest sum over the ways through a script.
 use Rattle.std.specs.Prelude.{ℕ, ◌+◌, ◌*◌, max, List, [], ◌∷◌, Option, Some, None, nat_le, if◌then◌else◌}
 use Rattle.hk_words.specs.Shape.{size}
-use Rattle.hk_script.specs.declared.cost.TheConstants.{MAX_COST}
-use Rattle.hk_script.specs.declared.cost.Beyond.{Beyond}
+use Rattle.hk_script.specs.declared.costs.TheConstants.{MAX_COST}
+use Rattle.hk_script.specs.declared.costs.Measure.{Measure}
+use Rattle.hk_script.specs.declared.costs.Measure.TheVariants as measure
+use Rattle.hk_script.specs.declared.beyond.Beyond.{Beyond}
 use Rattle.hk_script.specs.declared.statement.Statement.{Statement}
 use Rattle.hk_script.specs.declared.statement.Statement.TheVariants as statement
 
@@ -41,26 +43,22 @@ pub record Ahead : Type 0 where
 abbrev pub beyond : ℕ → ℕ → Beyond
 beyond e f = record { other = e; after = f }
 
--- an `else`: what follows it is the other part of the block
-abbrev pub with_other : ℕ → List Beyond → List Beyond
-with_other e [] = []
-with_other e (b ∷ outer) = beyond e b.after ∷ outer
+-- what lies beyond the innermost block
+abbrev pub nearest : List Beyond → Beyond
+nearest [] = beyond 0 0
+nearest (b ∷ outer) = b
 
--- an `if`: its test, the greater of its parts, and what follows
-abbrev pub chosen : ℕ → ℕ → List Beyond → Ahead
-chosen w part [] = record { here = w + part; blocks = [] }
-chosen w part (b ∷ outer) = record { here = w + max part b.other + b.after; blocks = outer }
+-- the blocks around the innermost one
+abbrev pub outer_of : List Beyond → List Beyond
+outer_of [] = []
+outer_of (b ∷ outer) = outer
 
--- a `repeat`: a test and the block n times, a last test, and what follows
-abbrev pub repeated : ℕ → ℕ → ℕ → List Beyond → Ahead
-repeated w n part [] = record { here = n * (w + part) + w; blocks = [] }
-repeated w n part (b ∷ outer) = record { here = n * (w + part) + w + b.after; blocks = outer }
-
--- one statement more in front, where w is what it takes
+-- one statement more in front, where w is what it takes: an `if` takes its test, the greater of its parts and what
+-- follows; a `repeat` takes a test and its block n times, a last test, and what follows
 abbrev pub in_front : ℕ → Statement → Ahead → Ahead
-in_front w (statement.If t) a = chosen w a.here a.blocks
-in_front w (statement.Repeat n) a = repeated w n a.here a.blocks
-in_front w statement.Else a = record { here = 0; blocks = with_other a.here a.blocks }
+in_front w (statement.If t) a = record { here = w + max a.here (nearest a.blocks).other + (nearest a.blocks).after; blocks = outer_of a.blocks }
+in_front w (statement.Repeat n) a = record { here = n * (w + a.here) + w + (nearest a.blocks).after; blocks = outer_of a.blocks }
+in_front w statement.Else a = record { here = 0; blocks = beyond a.here (nearest a.blocks).after ∷ outer_of a.blocks }
 in_front w statement.End a = record { here = 0; blocks = beyond 0 a.here ∷ a.blocks }
 in_front w s a = record { here = w + a.here; blocks = a.blocks }
 
@@ -72,6 +70,11 @@ ahead weight (s ∷ rest) = in_front (weight s) s (ahead weight rest)
 -- the number, where it is not too large to be told
 abbrev pub told : ℕ → Option ℕ
 told n = if nat_le n MAX_COST then Some n else None
+
+-- what is summed
+abbrev pub weight_of : Measure → Statement → ℕ
+weight_of measure.Ticks s = ticks_of s
+weight_of measure.Words s = words_of s
 
 -- the greatest number of ticks of a way through a script
 unfoldable pub greatest_ticks : List Statement → ℕ

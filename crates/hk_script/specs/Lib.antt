@@ -8,3 +8,4 @@ pub mod Progress
 pub mod Printing
 pub mod Arguments
 pub mod Cost
+pub mod Sums

@@ -2,8 +2,9 @@
 //! its cost in ticks and in words is known before it runs, and a walk of it goes on statement by statement.
 #![tactic(auto)]
 
+mod beyond;
 mod blocks;
-mod cost;
+mod costs;
 mod error;
 mod laws;
 mod lex;
@@ -14,7 +15,7 @@ mod reading;
 mod script;
 mod statement;
 
-pub use cost::MAX_COST;
+pub use costs::{MAX_COST, cost, largest, words};
 pub use error::ScriptError;
 pub use laws::{one_script, printed_again};
 pub use parsing::parse;

@@ -129,7 +129,7 @@ parts_of p [] h =
 parts_of p (q ∷ ps) h =
     let some : nat_lt 0 (length (word_of p)) ≡ true = let s = h.0.some in grind (arith, nat_tests) in
     let split : slice_split is_blank (content p (q ∷ ps)) ≡ word_of p ∷ slice_split is_blank (content q ps) =
-        slice_split_at is_blank (word_of p) 32 (content q ps) (none_pass (λ b. nat_le 48 b) is_blank (word_of p) h.0.clean_word blank_apart) refl in
+    slice_split_at is_blank (word_of p) 32 (content q ps) (none_pass (λ b. nat_le 48 b) is_blank (word_of p) h.0.clean_word blank_apart) refl in
     rw (split, some) (ap (λ (t : List (List ℕ)). word_of p ∷ t) (parts_of q ps h.1))
 
 -- the bytes of a line
@@ -211,7 +211,7 @@ text_spells (s ∷ more) h =
     let good : AllGood (p ∷ ps) = subst AllGood n.is (good_pieces s h.0) in
     let cut : lines (text_of (s ∷ more)) ≡ content p ps ∷ lines (text_of more) = ap (λ (t : List Piece). lines (line_from t ++ text_of more)) n.is ∙ line_starts ps (text_of more) p good in
     let shown : statement_lines (text_of (s ∷ more)) ≡ map word_of (p ∷ ps) ∷ statement_lines (text_of more) =
-        ap (λ (t : List (List ℕ)). filter has_words (map words t)) cut ∙ ap (λ (t : List (List ℕ)). filter has_words (t ∷ map words (lines (text_of more)))) (words_of p ps good) in
+    ap (λ (t : List (List ℕ)). filter has_words (map words t)) cut ∙ ap (λ (t : List (List ℕ)). filter has_words (t ∷ map words (lines (text_of more)))) (words_of p ps good) in
     let spelled : AllZip SpellsPiece (map word_of (p ∷ ps)) (pieces s) = subst (λ (t : List Piece). AllZip SpellsPiece (map word_of (p ∷ ps)) t) (sym n.is) (spells_all (p ∷ ps) good) in
     subst (λ (t : List (List (List ℕ))). AllZip SpellsStatement t (s ∷ more)) (sym shown) (spelled, text_spells more h.1)
 

@@ -87,7 +87,9 @@ impl Sums {
         let sum = match statement {
             Statement::If { .. } => {
                 let beyond = self.blocks.pop();
-                weight.saturating_add(here.max(beyond.other)).saturating_add(beyond.after)
+                weight
+                    .saturating_add(here.max(beyond.other))
+                    .saturating_add(beyond.after)
             }
             Statement::Repeat { count } => {
                 let beyond = self.blocks.pop();
@@ -107,7 +109,6 @@ impl Sums {
         self.here = sum.min(LIMIT);
     }
 }
-
 
 /// The greatest sum of a way through a script, up to [`LIMIT`].
 fn greatest(script: &Script, measure: Measure) -> u64

@@ -9,11 +9,9 @@ ghost use Rattle.hk_script.specs.Printing.{text_of};
 /// A text spells one script at most. It takes no time; its clause is the law.
 pub fn one_script()
     ensures { (text : List ℕ) (first second : List Statement) → Spells text first → Spells text second → first ≡ second }
-{
-}
+{}
 
 /// What is printed is parsed as the script that was printed. It takes no time; its clause is the law.
 pub fn printed_again()
     ensures { (script : List Statement) → IsScript script → Spells (text_of script) script × (script_of (text_of script) ≡ Ok script) }
-{
-}
+{}

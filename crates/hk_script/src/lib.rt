@@ -22,3 +22,6 @@ pub use parsing::parse;
 pub use printing::print;
 pub use script::Script;
 pub use statement::{MAX_COUNT, MAX_DEPTH, MAX_STATEMENTS, Statement, Test, VARIABLES};
+
+#[cfg(test)]
+mod tests;

@@ -32,10 +32,12 @@ fn part(blocks: &mut Blocks, line: u32) -> Result<(), ScriptError>
     ensures { Gives (λ _. blocks.new) result (then_at line (parted blocks.old) done) }
 {
     match blocks.pop() {
-        Some(Open {
-            part: Part::Then,
-            mark,
-        }) => {
+        Some(
+            Open {
+                part: Part::Then,
+                mark,
+            },
+        ) => {
             blocks.push(Part::Otherwise, mark)?;
             Ok(())
         }
@@ -74,7 +76,12 @@ fn add(reading: &mut Reading, line: u32, statement: Statement) -> Result<(), Scr
 }
 
 /// Reads a line.
-fn read_line(alloc: Global, reading: &mut Reading, line: u32, text: &[u8]) -> Result<(), ScriptError>
+fn read_line(
+    alloc: Global,
+    reading: &mut Reading,
+    line: u32,
+    text: &[u8],
+) -> Result<(), ScriptError>
     ensures { Gives (λ _. progress_of reading.new) result (then_at line (line_read line (progress_of reading.old) (words text.now)) done) }
 {
     let words = words(alloc, text)?;

@@ -147,11 +147,7 @@ fn push_heap(alloc: Global, out: &mut Vec<u8>, statement: Statement) -> Result<(
 
 /// Writes the line of a statement.
 #[tactic(auto, unfolding(crate::specs::Printing::line_of))]
-fn push_statement(
-    alloc: Global,
-    out: &mut Vec<u8>,
-    statement: Statement,
-) -> Result<(), AllocError>
+fn push_statement(alloc: Global, out: &mut Vec<u8>, statement: Statement) -> Result<(), AllocError>
     requires { IsStatement statement }
     ensures { OnOk result (out.new.items ≡ out.old.items ++ line_of statement) }
 {
@@ -174,9 +170,7 @@ fn push_statement(
         Statement::Out { variable } => push_line(alloc, out, "out", &[Variable(variable)]),
         Statement::If { test } => push_test(alloc, out, test),
         Statement::Else => push_line(alloc, out, "else", &[]),
-        Statement::Repeat { count } => {
-            push_line(alloc, out, "repeat", &[Number(count.into())])
-        }
+        Statement::Repeat { count } => { push_line(alloc, out, "repeat", &[Number(count.into())]) }
         Statement::End => push_line(alloc, out, "end", &[]),
         _ => push_heap(alloc, out, statement),
     }

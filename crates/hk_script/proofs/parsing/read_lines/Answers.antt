@@ -9,7 +9,7 @@ pub returns-in_err-read_line : goal.returns-in_err-read_line
 returns-in_err-read_line c =
     let p = err_from_is_err_and c.from_residual.result c.from_residual.ensures.1 in
     rw (p.1, p.2) (subst (Refuses c.in_err-read_line.field-0.0) c.loop-end.invariant.1
-      (stops c.loop-end.line c.loop-end.end (progress_of c.loop-end.reading) c.loop-end.rest.now c.cut.result.0.now c.in_err-read_line.field-0.0 c.loop-end.invariant.0 (omega arith) c.cut.ensures.before c.in_err-read_line.ensures))
+    (stops c.loop-end.line c.loop-end.end (progress_of c.loop-end.reading) c.loop-end.rest.now c.cut.result.0.now c.in_err-read_line.field-0.0 c.loop-end.invariant.0 (omega arith) c.cut.ensures.before c.in_err-read_line.ensures))
 
 pub loop-end-preserved : goal.loop-end-preserved
 loop-end-preserved c =

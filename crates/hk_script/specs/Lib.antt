@@ -9,3 +9,8 @@ pub mod Printing
 pub mod Arguments
 pub mod Cost
 pub mod Sums
+pub mod Again
+pub mod Links
+pub mod Steps
+pub mod Levels
+pub mod Walks

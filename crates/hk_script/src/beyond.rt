@@ -61,4 +61,14 @@ impl Beyonds {
         self.depth -= 1;
         self.items[self.depth]
     }
+
+    /// What lies beyond the innermost block. Beyond none lies nothing.
+    pub(crate) fn nearest(&self) -> Beyond
+        ensures { result ≡ nearest self.now }
+    {
+        if self.depth == 0 {
+            return Beyond { other: 0, after: 0 };
+        }
+        self.items[self.depth - 1]
+    }
 }

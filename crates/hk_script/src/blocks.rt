@@ -2,6 +2,7 @@
 
 ghost use Rattle.std.specs.Prelude.{◌≡◌, [], ◌∷◌, length, OnOk, OnErr, MatchOption};
 ghost use Rattle.hk_script.specs.Blocks.{open_block};
+ghost use Rattle.hk_script.specs.Again.{again_of};
 
 use std::alloc::{AllocError, Global};
 use std::marker::Model;
@@ -70,5 +71,18 @@ impl Blocks {
         ensures { MatchOption result ((self.old ≡ []) × (self.new ≡ [])) (λ block. self.old ≡ block ∷ self.new) }
     {
         self.items.pop()
+    }
+
+    /// The mark of the innermost block, where it is a `repeat`.
+    pub(crate) fn again(&self) -> Option<u64>
+        ensures { result ≡ again_of self.now }
+    {
+        match self.items.last() {
+            Some(Open {
+                part: Part::Turns,
+                mark,
+            }) => Some(u64::from(*mark)),
+            _ => None,
+        }
     }
 }

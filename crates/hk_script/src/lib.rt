@@ -8,12 +8,14 @@ mod costs;
 mod error;
 mod laws;
 mod lex;
+mod linking;
 mod parsing;
 mod printing;
 mod progress;
 mod reading;
 mod script;
 mod statement;
+mod walk;
 
 pub use costs::{MAX_COST, cost, largest, words};
 pub use error::ScriptError;
@@ -22,6 +24,7 @@ pub use parsing::parse;
 pub use printing::print;
 pub use script::Script;
 pub use statement::{MAX_COUNT, MAX_DEPTH, MAX_STATEMENTS, Statement, Test, VARIABLES};
+pub use walk::{Need, Walk};
 
 #[cfg(test)]
 mod tests;

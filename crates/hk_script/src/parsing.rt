@@ -47,7 +47,7 @@ fn part(blocks: &mut Blocks, line: u32) -> Result<(), ScriptError>
 
 /// Begins, parts or ends a block, where a statement does so.
 #[tactic(auto, unfolding(crate::specs::Blocks::nest))]
-fn nest(blocks: &mut Blocks, line: u32, statement: &Statement) -> Result<(), ScriptError>
+pub(crate) fn nest(blocks: &mut Blocks, line: u32, statement: &Statement) -> Result<(), ScriptError>
     ensures { Gives (λ _. blocks.new) result (then_at line (nest line blocks.old statement.now) done) }
 {
     match statement {

@@ -75,7 +75,7 @@ length-arounds blocks place (x ∷ s) = ap suc (length-arounds (left_open (nest 
 -- ---- from the end
 
 -- what is around the statements from a place on
-arounds_drop : (p : ℕ) (o r : List Open) (s : List Statement) (i : ℕ) → i ≤ length s → nested p o (take i s) ≡ Ok r → drop i (arounds o p s) ≡ arounds r (p + i) (drop i s)
+pub arounds_drop : (p : ℕ) (o r : List Open) (s : List Statement) (i : ℕ) → i ≤ length s → nested p o (take i s) ≡ Ok r → drop i (arounds o p s) ≡ arounds r (p + i) (drop i s)
 arounds_drop p o r s zero le e = let same : p + 0 ≡ p = omega arith in let is : o ≡ r = ok_is o r e in rw same (ap (λ (b : List Open). arounds b p s) is)
 arounds_drop p o r [] (suc i) le e = absurd (omega arith)
 arounds_drop p o r (x ∷ s) (suc i) le e =
@@ -190,3 +190,12 @@ links_end s n all e len =
     let none : drop n s ≡ [] = drop_all n s (omega arith) in
     let nothing : drop n all ≡ [] = drop_all n all (omega arith) in
     nothing ∙ sym (ap (λ (t : List Statement). links (drop n (all_around s)) n t) none)
+
+length-links : (all : List Around) (p : ℕ) (s : List Statement) → length all ≡ length s → length (links all p s) ≡ length s
+length-links all p [] e = refl
+length-links [] p (x ∷ s) e = absurd (omega arith)
+length-links (a ∷ all) p (x ∷ s) e = ap suc (length-links all (p + 1) s (omega arith))
+
+pub length-links_of : (s : List Statement) → length (links_of s) ≡ length s
+unfolding links_of
+length-links_of s = length-links (all_around s) 0 s (length-arounds [] 0 s)

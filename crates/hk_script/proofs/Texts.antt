@@ -1,6 +1,6 @@
 -- What is read is spelled so, and what is spelled so is read.
 use Rattle.std.proofs.Common.{◌≡◌, ℕ, suc, ◌+◌, ◌-◌, ◌<◌, ◌≤◌, Bool, true, false, cond, List, [], ◌∷◌, ◌++◌, length, map, take, drop, Result, Ok, Err, refl, sym, ap, ◌∙◌, subst, arith, append_assoc, length-append}
-use Rattle.std.specs.Prelude.{nat_lt, filter, ◌==◌}
+use Rattle.std.specs.Prelude.{nat_lt, filter, ◌==◌, MatchResult, IfOk}
 use Rattle.std.specs.List.{AllZip, AllByRecursion}
 use Rattle.std.proofs.lemmas.Bool.Decides.{nat_tests}
 use Rattle.std.proofs.lemmas.List.{length-map, append-nil, take_all}
@@ -21,7 +21,7 @@ use Rattle.hk_script.specs.Lex.{words, lines}
 use Rattle.hk_script.specs.Reading.{◌>>=◌, statement_of}
 use Rattle.hk_script.specs.Spelling.{SpellsStatement, IsStatement}
 use Rattle.hk_script.specs.Blocks.{open_block, begun, parted_by, parted, ended, nest, nested, IsScript}
-use Rattle.hk_script.specs.Texts.{Progress, nothing_read, added, placed, line_read, fault_at, then_at, done, next_line, lines_read, finished, finish, script_of, has_words, statement_lines, Spells, Refuses}
+use Rattle.hk_script.specs.Texts.{Progress, nothing_read, added, placed, line_read, fault_at, then_at, done, next_line, lines_read, finished, finish, script_of, has_words, statement_lines, Spells, Refuses, Gives}
 use Rattle.hk_script.proofs.Arguments.{bind_ok, ok_is, passed_or, done as given}
 use Rattle.hk_script.proofs.Statements.{statement_takes, statement_again}
 
@@ -292,3 +292,13 @@ pub last_line : (n end : ℕ) (p : Progress) (rest : List ℕ) → end ≡ posit
 last_line n end p rest e le =
     let whole : lines rest ≡ rest ∷ [] = slice_split_none is_newline rest (λ k d lt. fails_before_first is_newline rest k d (omega arith)) in
     ap (λ (l : List (List ℕ)). lines_read n p (map words l)) whole
+
+-- ---- a script that was made
+
+pub made_spelled : (text : List ℕ) (items : List Statement) (r : Result (List Statement) ScriptError) → MatchResult r (λ s. s ≡ items) (λ e. e ≡ error.Memory) → Spells text items → IfOk r (λ s. Spells text s)
+made_spelled text items (Ok s) e h = subst (λ (t : List Statement). Spells text t) (sym e) h
+made_spelled text items (Err d) e h = tt
+
+pub made_gives : (items : List Statement) (r : Result (List Statement) ScriptError) (read : Result (List Statement) ScriptError) → MatchResult r (λ s. s ≡ items) (λ e. e ≡ error.Memory) → read ≡ Ok items → Gives (λ (found : List Statement). found) r read
+made_gives items (Ok s) read e h = rw e h
+made_gives items (Err d) read e h = rw e tt

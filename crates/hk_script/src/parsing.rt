@@ -153,5 +153,6 @@ pub fn parse(alloc: Global, text: &[u8]) -> Result<Script, ScriptError>
     // Which reason it is.
     ensures exact { Gives (λ found. found) result (script_of text.now) }
 {
-    Ok(Script::new(statements(alloc, text)?))
+    let statements = statements(alloc, text)?;
+    Script::new(alloc, statements)
 }

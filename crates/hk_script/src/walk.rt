@@ -1,7 +1,8 @@
 //! The walk of a script: a job's state, statement by statement.
 
-ghost use Rattle.std.specs.Prelude.{◌≡◌, ◌+◌, ◌<◌, ◌↔◌, length, IsNone, IsSome};
-ghost use Rattle.std.specs.Option.{ForSome};
+ghost use Rattle.std.specs.Prelude.{◌≡◌, ◌+◌, ◌<◌, ◌↔◌, List, length, IsNone, IsSome, IsSomeAnd};
+ghost use Rattle.hk_script.specs.declared.statement.Statement.{Statement};
+ghost use Rattle.hk_script.specs.Blocks.{IsScript};
 ghost use Rattle.hk_script.specs.Walks.{started, need_in, need_of, value, need_of_test, holds, number_of_reply, assigned, after_set, turned, stepped, walk_after, Fits, Answers};
 ghost use Rattle.hk_script.specs.Spelling.{IsStatement, IsTest, IsVariable};
 ghost use Rattle.hk_script.specs.Levels.{HasLevel};
@@ -37,9 +38,10 @@ pub struct Walk {
 }
 
 impl Walk {
-    /// The state in which a job begins: every variable is 0, and no turn was begun.
+    /// The state in which a job begins: every variable is 0, and no turn was begun. It fits every script.
     pub fn start(job: u64) -> Walk
-        ensures { result ≡ started job }
+        ensures started { result ≡ started job }
+        ensures fits { (script : List Statement) → IsScript script → Fits script result }
     {
         Walk {
             job,
@@ -47,6 +49,45 @@ impl Walk {
             place: 0,
             turns: [0; 16],
         }
+    }
+
+    /// What the next statement wants; None exactly at the end of the script.
+    #[tactic(auto, unfolding(crate::specs::Walks::need_of))]
+    pub fn next(&self, script: &Script) -> Option<Need>
+        requires { Fits script.now self.now }
+        ensures need { result ≡ need_of script.now self.now }
+        ensures end { IsNone result ↔ (self.now.place ≡ length script.now) }
+    {
+        let place = self.place as usize;
+        let statements = script.statements();
+        if place >= statements.len() {
+            return None;
+        }
+        self.need_in(statements[place])
+    }
+
+    /// The number of the statement that wants something, counted from 1, each `else` and `end` with the others.
+    pub fn statement(&self, script: &Script) -> u32
+        requires fits { Fits script.now self.now }
+        requires wants { IsSome (need_of script.now self.now) }
+        ensures { result ≡ self.now.place + 1 }
+    {
+        let _statements = script.statements();
+        self.place as u32 + 1
+    }
+
+    /// Goes on after the statement that wanted something, which had this reply: Unit, but a number for a get, and yes
+    /// or no for a question.
+    pub fn done(&mut self, script: &Script, reply: Reply)
+        requires fits { Fits script.now self.old }
+        requires answered { IsSomeAnd (need_of script.now self.old) (λ need. Answers need reply) }
+        ensures after { self.new ≡ walk_after script.now self.old reply }
+        ensures fits { Fits script.now self.new }
+    {
+        let place = self.place as usize;
+        let statement = script.statements()[place];
+        let link = script.link(place);
+        self.step(link, statement, reply);
     }
 
     /// The value of a variable.

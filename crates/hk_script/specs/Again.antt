@@ -13,4 +13,3 @@ again_by part.Otherwise place = None
 abbrev pub again_of : List Open → Option ℕ
 again_of [] = None
 again_of (b ∷ outer) = again_by b.part b.mark
-

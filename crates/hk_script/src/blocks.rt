@@ -78,10 +78,12 @@ impl Blocks {
         ensures { result ≡ again_of self.now }
     {
         match self.items.last() {
-            Some(Open {
-                part: Part::Turns,
-                mark,
-            }) => Some(u64::from(*mark)),
+            Some(
+                Open {
+                    part: Part::Turns,
+                    mark,
+                },
+            ) => Some(u64::from(*mark)),
             _ => None,
         }
     }

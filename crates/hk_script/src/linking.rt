@@ -102,7 +102,11 @@ pub(crate) fn links(alloc: Global, statements: &[Statement]) -> Result<Vec<Link>
 {
     let arounds = around_each(alloc, statements)?;
     let mut place = statements.len();
-    let mut all = vec![in alloc; Link { on: 0, past: 0, level: 0 }; place]?;
+    let mut all = vec![in alloc; Link {
+        on: 0,
+        past: 0,
+        level: 0
+    }; place]?;
     let mut places = Places {
         on: place as u64,
         blocks: Beyonds::new(),

@@ -195,7 +195,11 @@ impl Walk {
     {
         match statement {
             Statement::If { test } => {
-                self.place = if self.holds(test, reply) { link.on } else { link.past };
+                self.place = if self.holds(test, reply) {
+                    link.on
+                } else {
+                    link.past
+                };
             }
             Statement::Repeat { count } => self.turn(link, count),
             Statement::Else | Statement::End => {}

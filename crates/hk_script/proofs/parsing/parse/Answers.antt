@@ -11,8 +11,8 @@ new-requires c = (text_takes c.args.text.now _ c.in_ok-statements.ensures).scrip
 pub returns-in_err-statements-clause-only : goal.returns-in_err-statements-clause-only
 returns-in_err-statements-clause-only c =
     λ script h.
-      let p = err_from_is_err_and c.from_residual.result c.from_residual.ensures.1 in
-      rw (p.1, p.2) (subst (Refuses c.in_err-statements.field-0.0) (text_again c.args.text.now script h) c.in_err-statements.ensures)
+    let p = err_from_is_err_and c.from_residual.result c.from_residual.ensures.1 in
+    rw (p.1, p.2) (subst (Refuses c.in_err-statements.field-0.0) (text_again c.args.text.now script h) c.in_err-statements.ensures)
 
 pub returns-clause-spelled : goal.returns-clause-spelled
 returns-clause-spelled c = made_spelled c.args.text.now c.in_ok-statements.statements.items c.new.result c.new.ensures (text_takes c.args.text.now c.in_ok-statements.statements.items c.in_ok-statements.ensures)

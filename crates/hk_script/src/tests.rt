@@ -301,55 +301,37 @@ fn parses_and_prints(rt: HostRuntime) -> Result<(), Fail> {
     Ok(())
 }
 
-/// Walks a job of the script, where a get reads 5 and each question is answered so; the ticks before each value that
-/// is put out, the value, and the statement's number; and the ticks of all.
-fn walked(
-    rt: &impl Abort,
+/// Walks a job of the script, where a get reads 5 and each question is answered so: what is put out, with the ticks up
+/// to it and the statement's number, and the ticks of all.
+fn run(
     alloc: Global,
-    text: &[u8],
+    script: &Script,
     job: u64,
-    answer: Reply,
-    outs: &[(u64, u64, u32)],
-    all: u64,
-) -> Result<(), Fail> {
-    let script = parse(alloc, text)?;
+    answer: bool,
+) -> Result<(Vec<(u64, u64, u32)>, u64), Fail> {
+    let _statements = script.statements();
     let mut walk = Walk::start(job);
     let mut ticks: u64 = 0;
-    let mut seen = Vec::new(alloc);
+    let mut outs = Vec::new(alloc);
     for _ in 0..1000 {
-        let reply = match walk.next(&script) {
-            None => break,
-            Some(Need::Work(n)) => {
-                ticks = ticks.saturating_add(u64::from(n));
-                Reply::Unit
-            }
-            Some(Need::Local) => {
-                ticks = ticks.saturating_add(1);
-                Reply::Unit
-            }
-            Some(Need::Out(value)) => {
-                ticks = ticks.saturating_add(1);
-                seen.push((ticks, value, walk.statement(&script)))?;
-                Reply::Unit
-            }
-            Some(Need::Heap(Call::Get { .. })) => {
-                ticks = ticks.saturating_add(3);
-                Reply::Num(5)
-            }
-            Some(Need::Heap(_)) => {
-                ticks = ticks.saturating_add(7);
-                Reply::Unit
-            }
-            Some(Need::Ask(_)) => {
-                ticks = ticks.saturating_add(1);
-                answer
-            }
+        let Some(need) = walk.next(script) else {
+            break;
         };
-        walk.done(&script, reply);
+        let (taken, reply) = match need {
+            Need::Work(n) => (u64::from(n), Reply::Unit),
+            Need::Heap(Call::Get { .. }) => (3, Reply::Num(5)),
+            Need::Heap(_) => (7, Reply::Unit),
+            Need::Ask(_) if answer => (1, Reply::Yes),
+            Need::Ask(_) => (1, Reply::No),
+            Need::Local | Need::Out(_) => (1, Reply::Unit),
+        };
+        ticks = ticks.saturating_add(taken);
+        if let Need::Out(value) = need {
+            outs.push((ticks, value, walk.statement(script)))?;
+        }
+        walk.done(script, reply);
     }
-    assert_eq!(rt; seen.as_slice(), outs, "at {text:?}");
-    assert_eq!(rt; ticks, all, "at {text:?}");
-    Ok(())
+    Ok((outs, ticks))
 }
 
 #[test]
@@ -358,69 +340,72 @@ fn walks(rt: HostRuntime) -> Result<(), Fail> {
         (
             b"set v0 3\nrepeat 2\nadd v0 v0\nend\nout v0".as_slice(),
             0,
-            Reply::Yes,
+            true,
             [(7, 12, 5)].as_slice(),
             7,
         ),
         (
             b"job v1\nout v1\nsub v0 v1\nout v0",
             3,
-            Reply::Yes,
+            true,
             [(2, 3, 2), (4, 18_446_744_073_709_551_613, 4)].as_slice(),
             4,
         ),
         (
             b"set v0 18446744073709551615\nset v1 2\nadd v0 v1\nout v0",
             0,
-            Reply::Yes,
+            true,
             [(4, 1, 4)].as_slice(),
             4,
         ),
         (
             b"if null r1\nout v0\nelse\nset v0 9\nout v0\nend\nout v0",
             0,
-            Reply::Yes,
+            true,
             [(2, 0, 2), (3, 0, 7)].as_slice(),
             3,
         ),
         (
             b"if null r1\nout v0\nelse\nset v0 9\nout v0\nend\nout v0",
             0,
-            Reply::No,
+            false,
             [(3, 9, 5), (4, 9, 7)].as_slice(),
             4,
         ),
         (
             b"if same r0 r1\nelse\nend\nwork 4",
             0,
-            Reply::No,
+            false,
             [].as_slice(),
             5,
         ),
         (
             b"set v1 1\nif v0 < v1\nif v1 = v0\nout v1\nelse\nout v0\nend\nend\nout v1",
             0,
-            Reply::Yes,
+            true,
             [(4, 0, 6), (5, 1, 9)].as_slice(),
             5,
         ),
         (
             b"repeat 2\nrepeat 3\nend\nout v0\nend",
             0,
-            Reply::Yes,
+            true,
             [(6, 0, 4), (12, 0, 4)].as_slice(),
             13,
         ),
-        (b"repeat 3\nend", 0, Reply::Yes, [].as_slice(), 4),
+        (b"repeat 3\nend", 0, true, [].as_slice(), 4),
         (
             b"get v2 r0 0\ncopy v3 v2\nout v3\nput r0 1 v3\nout v2",
             0,
-            Reply::Yes,
+            true,
             [(5, 5, 3), (13, 5, 5)].as_slice(),
             13,
         ),
     ] {
-        walked(&rt, rt.alloc(), text, job, answer, outs, all)?;
+        let script = parse(rt.alloc(), text)?;
+        let (seen, ticks) = run(rt.alloc(), &script, job, answer)?;
+        assert_eq!(rt; seen.as_slice(), outs, "at {text:?}");
+        assert_eq!(rt; ticks, all, "at {text:?}");
     }
     Ok(())
 }

@@ -35,7 +35,7 @@ pub record StopAt (s : List Statement) (q : ℕ) : Type 0 where
   pub within : q ≤ length s
   pub stop : IsStop (slice_get s q)
 
-get_here : (s : List Statement) (i : ℕ) (d : Statement) → i < length s → slice_get s i ≡ Some (get_or s i d)
+pub get_here : (s : List Statement) (i : ℕ) (d : Statement) → i < length s → slice_get s i ≡ Some (get_or s i d)
 get_here [] i d lt = absurd (omega arith)
 get_here (x ∷ s) zero d lt = refl
 get_here (x ∷ s) (suc i) d lt = get_here s i d (omega arith)
@@ -144,7 +144,7 @@ leads_good s a i statement.Else w here near z g = let n = nearest_good s w.block
 leads_good s a i statement.End w here near z g = record { on = again_good s a.again w.on near g.on; blocks = ((g.on, g.on), g.blocks) }
 leads_good s a i x w here near z g = record { on = here tt; blocks = g.blocks }
 
-abbrev nothing_around : Around
+abbrev pub nothing_around : Around
 nothing_around = record { level = 0; again = None }
 
 ways_good : (s : List Statement) (k i : ℕ) → IsScript s → i + k ≡ length s → GoodWays s (ways_at s i)
@@ -289,3 +289,8 @@ read_here s given i x h same lt item =
 pub after_is : (s : List Statement) (w new : Walk) (r : Reply) (x : Statement) (l : Link) → Here s w.place x → l ≡ link_at s w.place → new ≡ stepped l w r x → new ≡ walk_after s w r
 unfolding walk_after
 after_is s w new r x l h e f = f ∙ ap (λ (k : Link). stepped k w r x) e ∙ ap (moved (link_at s w.place) w r) (sym h.get)
+
+pub item_past : (s : List Statement) (p : ℕ) → length s ≤ p → get_or s p statement.End ≡ statement.End
+item_past [] p le = refl
+item_past (x ∷ s) zero le = absurd (omega arith)
+item_past (x ∷ s) (suc p) le = item_past s p (omega arith)

@@ -14,3 +14,4 @@ pub mod Links
 pub mod Steps
 pub mod Levels
 pub mod Walks
+pub mod Runs

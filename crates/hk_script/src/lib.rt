@@ -19,7 +19,7 @@ mod walk;
 
 pub use costs::{MAX_COST, cost, largest, words};
 pub use error::ScriptError;
-pub use laws::{one_script, printed_again};
+pub use laws::{one_script, printed_again, walks_within_cost};
 pub use parsing::parse;
 pub use printing::print;
 pub use script::Script;

@@ -1,3 +1,5 @@
+ghost use Rattle.hk_script.specs.Walks.{Answers};
+
 use super::*;
 use hk_words::{Call, Reply};
 use std::alloc::Global;
@@ -301,6 +303,19 @@ fn parses_and_prints(rt: HostRuntime) -> Result<(), Fail> {
     Ok(())
 }
 
+/// What a need takes, and a reply that fits it: a get reads 5, and each question is answered so.
+fn reply_to(need: Need, answer: bool) -> (u64, Reply)
+    ensures { Answers need result.1 }
+{
+    match need {
+        Need::Work(n) => (u64::from(n), Reply::Unit),
+        Need::Local | Need::Out(_) => (1, Reply::Unit),
+        Need::Heap(Call::Get { reg: _, field: _ }) => (3, Reply::Num(5)),
+        Need::Heap(_) => (7, Reply::Unit),
+        Need::Ask(_) => (1, if answer { Reply::Yes } else { Reply::No }),
+    }
+}
+
 /// Walks a job of the script, where a get reads 5 and each question is answered so: what is put out, with the ticks up
 /// to it and the statement's number, and the ticks of all.
 fn run(
@@ -317,14 +332,7 @@ fn run(
         let Some(need) = walk.next(script) else {
             break;
         };
-        let (taken, reply) = match need {
-            Need::Work(n) => (u64::from(n), Reply::Unit),
-            Need::Heap(Call::Get { .. }) => (3, Reply::Num(5)),
-            Need::Heap(_) => (7, Reply::Unit),
-            Need::Ask(_) if answer => (1, Reply::Yes),
-            Need::Ask(_) => (1, Reply::No),
-            Need::Local | Need::Out(_) => (1, Reply::Unit),
-        };
+        let (taken, reply) = reply_to(need, answer);
         ticks = ticks.saturating_add(taken);
         if let Need::Out(value) = need {
             outs.push((ticks, value, walk.statement(script)))?;

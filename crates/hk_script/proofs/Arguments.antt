@@ -1,10 +1,10 @@
 -- What a reader of one argument takes is spelled so, and what is spelled so is taken.
-use Rattle.std.proofs.Common.{◌≡◌, ℕ, ◌+◌, ◌-◌, ◌*◌, ◌^◌, ◌<◌, ◌≤◌, Bool, true, false, cond, eqb, ltb, leb, List, [], ◌∷◌, length, Option, Some, None, Result, Ok, Err, refl, sym, ap, ◌∙◌, subst, arith}
-use Rattle.std.specs.Prelude.{◌&&◌, if◌then◌else◌, nat_le, nat_lt, ◌==◌}
+use Rattle.std.proofs.Common.{◌≡◌, ℕ, ◌+◌, ◌-◌, ◌^◌, ◌<◌, ◌≤◌, Bool, true, false, cond, List, [], ◌∷◌, length, Option, Some, None, Result, Ok, Err, refl, ap, ◌∙◌, subst, arith}
+use Rattle.std.specs.Prelude.{◌&&◌, nat_le, nat_lt, ◌==◌}
 use Rattle.std.specs.List.{list_all}
 use Rattle.std.specs.Option.{ok_or}
-use Rattle.std.specs.Char.{is_ascii_digit, digit_value}
-use Rattle.std.specs.Str.Parse.{AllDigits, IsNumeral, digits_value}
+use Rattle.std.specs.Char.{is_ascii_digit}
+use Rattle.std.specs.Str.Parse.{AllDigits, digits_value}
 use Rattle.std.proofs.lemmas.Bool.Decides.{nat_tests}
 use Rattle.hk_words.specs.declared.geometry.TheConstants.{REGISTERS}
 use Rattle.hk_script.specs.declared.statement.TheConstants.{VARIABLES}
@@ -14,7 +14,7 @@ use Rattle.hk_script.specs.declared.error.Fault.TheVariants as fault
 use Rattle.hk_script.specs.Lex.{is_number, number_of, index_of}
 use Rattle.hk_script.specs.Reading.{◌>>=◌, in_range, number_in, variable_of, register_of, target_of}
 use Rattle.hk_script.specs.Spelling.{Numeral, SpellsPiece, variable, register, IsVariable, IsRegister, IsTarget}
-use Rattle.hk_script.proofs.Digits.{digit_is, and_parts, all_digits}
+use Rattle.hk_script.proofs.Digits.{and_parts, all_digits}
 
 abbrev pub done : {A : Type 0} → A → Result A Fault
 done x = Ok x

@@ -1,5 +1,5 @@
 -- The links of a script, as they are made: what is around each statement from the front, and the ways from the end.
-use Rattle.std.proofs.Common.{◌≡◌, ℕ, suc, zero, ◌+◌, ◌-◌, ◌<◌, ◌≤◌, min, Bool, true, false, List, [], ◌∷◌, ◌++◌, length, map, take, drop, get_or, set, Result, Ok, Err, Option, Some, None, refl, sym, ap, ◌∙◌, subst, arith, append_assoc}
+use Rattle.std.proofs.Common.{◌≡◌, ℕ, suc, zero, ◌+◌, ◌-◌, ◌<◌, ◌≤◌, List, [], ◌∷◌, ◌++◌, length, take, drop, get_or, Result, Ok, Err, refl, sym, ap, ◌∙◌, subst, arith, append_assoc}
 use Rattle.std.specs.Prelude.{slice_set}
 use Rattle.std.proofs.lemmas.Grind.{common_steps}
 use Rattle.std.proofs.lemmas.List.{drop_more, drop_all}
@@ -12,14 +12,13 @@ use Rattle.hk_script.specs.declared.linking.Around.{Around}
 use Rattle.hk_script.specs.declared.linking.Link.{Link}
 use Rattle.hk_script.specs.declared.statement.Statement.{Statement}
 use Rattle.hk_script.specs.declared.statement.Statement.TheVariants as statement
-use Rattle.hk_script.specs.Reading.{◌>>=◌}
 use Rattle.hk_script.specs.Blocks.{nest, nested, IsScript}
 use Rattle.hk_script.specs.Cost.{beyond, nearest, outer_of}
 use Rattle.hk_script.specs.Sums.{room_of}
 use Rattle.hk_script.specs.Texts.{then_at, done, Refuses}
 use Rattle.hk_script.specs.Links.{around, left_open, arounds, Ways, leads, ways, link, links, links_of}
 use Rattle.hk_script.proofs.Arguments.{bind_ok, ok_is}
-use Rattle.hk_script.proofs.Totals.{Leaves, nest_leaves, At, at_place}
+use Rattle.hk_script.proofs.Totals.{Leaves, nest_leaves, at_place}
 
 pub only_memory : {A : Type 0} (e : ScriptError) (r : Result A ScriptError) (x : A) → r ≡ Ok x → Refuses e r → e ≡ error.Memory
 only_memory error.Memory r x i h = refl

@@ -1,10 +1,10 @@
 -- A walk takes no more than its script costs: what is left falls with each step by what the step takes.
-use Rattle.std.proofs.Common.{◌≡◌, ℕ, suc, zero, ◌+◌, ◌-◌, ◌*◌, ◌^◌, ◌<◌, ◌≤◌, max, Bool, true, false, cond, List, [], ◌∷◌, length, take, drop, get_or, set, Result, Ok, Err, Option, Some, None, refl, sym, ap, ◌∙◌, subst, arith, inl, inr}
-use Rattle.std.specs.Prelude.{slice_get, slice_index, slice_set, nat_lt, IsSomeAnd, replicate, unwrap_or}
+use Rattle.std.proofs.Common.{◌≡◌, ℕ, suc, zero, ◌+◌, ◌-◌, ◌*◌, ◌<◌, ◌≤◌, Bool, true, false, cond, List, [], ◌∷◌, length, drop, get_or, Result, Ok, Option, Some, None, refl, sym, ap, ◌∙◌, subst, arith, inl, inr}
+use Rattle.std.specs.Prelude.{slice_get, slice_index, slice_set, nat_lt, replicate, unwrap_or}
 use Rattle.std.proofs.lemmas.Bool.{cases_lt}
 use Rattle.std.proofs.lemmas.Bool.Decides.{nat_tests}
 use Rattle.std.proofs.lemmas.Grind.{common_steps}
-use Rattle.std.proofs.lemmas.List.{drop_more, drop_all, get_or_read, length-set}
+use Rattle.std.proofs.lemmas.List.{drop_more, drop_all, length-set}
 use Rattle.std.proofs.Math.Nat.{mul-le-mul_right}
 use Rattle.hk_words.specs.declared.call.Reply.{Reply}
 use Rattle.hk_script.specs.declared.beyond.Beyond.{Beyond}
@@ -22,13 +22,13 @@ use Rattle.hk_script.specs.declared.statement.Test.{Test}
 use Rattle.hk_script.specs.declared.statement.Test.TheVariants as test
 use Rattle.hk_script.specs.declared.walk.Need.{Need}
 use Rattle.hk_script.specs.declared.walk.Walk.{Walk}
-use Rattle.hk_script.specs.Again.{again_of, again_by}
+use Rattle.hk_script.specs.Again.{again_by}
 use Rattle.hk_script.specs.Blocks.{open_block, begun, parted_by, parted, ended, nest, nested, IsScript}
 use Rattle.hk_script.specs.Cost.{Ahead, beyond, nearest, outer_of, in_front, ahead, ticks_of, words_of, greatest_ticks, greatest_words}
-use Rattle.hk_script.specs.Links.{around, left_open, arounds, Ways, leads, ways, past_of, link, links_of}
+use Rattle.hk_script.specs.Links.{around, left_open, arounds, Ways, leads, link}
 use Rattle.hk_script.specs.Walks.{IsStop, link_at, at, after_set, holds, turned, stepped, moved, walk_after, started, need_of, need_at, need_in, Fits, Answers}
 use Rattle.hk_script.specs.Runs.{taken_by, AreReplies, taken, need_ticks, need_words}
-use Rattle.hk_script.proofs.Arguments.{bind_ok, ok_is, passed_or}
+use Rattle.hk_script.proofs.Arguments.{ok_is, passed_or}
 use Rattle.hk_script.proofs.Totals.{ahead_more, count_ahead, nest_few}
 use Rattle.hk_script.proofs.Linked.{nests_first, all_around, length-arounds, ways_at, ways_more, ways_end}
 use Rattle.hk_script.proofs.Stops.{get_here, nothing_around, link_is, wanted_within, keeps_fitting, started_fits, item_past}

@@ -1,18 +1,16 @@
 -- What is printed spells the script.
-use Rattle.std.proofs.Common.{◌≡◌, ℕ, ◌+◌, ◌-◌, ◌*◌, ◌^◌, ◌<◌, ◌≤◌, Bool, true, false, cond, List, [], ◌∷◌, ◌++◌, length, map, take, drop, get_or, refl, sym, ap, ◌∙◌, subst, arith, append_assoc, lit<, lit≤}
-use Rattle.std.specs.Prelude.{nat_lt, nat_le, filter, codes, ◌==◌, ◌||◌, ◌&&◌, not}
-use Rattle.std.specs.List.{AllZip, AllByRecursion, All, list_all, slice_split, position_or_len, flat_map}
+use Rattle.std.proofs.Common.{◌≡◌, ℕ, ◌+◌, ◌^◌, ◌<◌, ◌≤◌, Bool, true, false, List, [], ◌∷◌, ◌++◌, length, map, take, get_or, refl, sym, ap, ◌∙◌, subst, arith, append_assoc}
+use Rattle.std.specs.Prelude.{nat_lt, nat_le, filter, codes, ◌==◌, ◌||◌}
+use Rattle.std.specs.List.{AllZip, AllByRecursion, All, list_all, slice_split, position_or_len}
 use Rattle.std.specs.Fmt.{decimal}
-use Rattle.std.specs.Char.{digit_value}
-use Rattle.std.specs.Str.Parse.{IsNumeral, AllDigits, digits_value}
+use Rattle.std.specs.Str.Parse.{AllDigits}
 use Rattle.std.proofs.lemmas.Fmt.{decimal_is_IsNumeral, length-decimal-le}
 use Rattle.std.proofs.lemmas.Bool.Decides.{nat_tests}
-use Rattle.std.proofs.lemmas.List.{map-append, append-nil, take_more, take_all}
+use Rattle.std.proofs.lemmas.List.{map-append, append-nil, take_more}
 use Rattle.std.proofs.lemmas.List.Folds.{list_all-append}
 use Rattle.std.proofs.lemmas.List.Concat.{flat_map-append}
 use Rattle.std.proofs.lemmas.List.Splits.{slice_split_at, slice_split_none}
 use Rattle.std.proofs.lemmas.List.Sums.{position_or_len_is, AllPass-from_list_all}
-use Rattle.hk_words.specs.declared.shape.TheConstants.{MAX_FIELDS}
 use Rattle.hk_script.specs.declared.lex.TheConstants.{MAX_DIGITS}
 use Rattle.hk_script.specs.declared.statement.Statement.{Statement}
 use Rattle.hk_script.specs.declared.statement.Statement.TheVariants as statement
@@ -20,7 +18,7 @@ use Rattle.hk_script.specs.declared.statement.Test.{Test}
 use Rattle.hk_script.specs.declared.statement.Test.TheVariants as test
 use Rattle.hk_script.specs.declared.printing.Argument.{Argument}
 use Rattle.hk_script.specs.Lex.{is_blank, before_comment, words, lines}
-use Rattle.hk_script.specs.Spelling.{Piece, Exactly, Numeral, SpellsPiece, SpellsStatement, variable, register, pieces, test_pieces, IsTest, IsStatement}
+use Rattle.hk_script.specs.Spelling.{Piece, Exactly, Numeral, SpellsPiece, SpellsStatement, variable, register, pieces, test_pieces, IsStatement}
 use Rattle.hk_script.specs.Blocks.{IsScript}
 use Rattle.hk_script.specs.Texts.{has_words, statement_lines, Spells}
 use Rattle.hk_script.specs.Printing.{word_of, spaced, line_from, line_of, text_of}

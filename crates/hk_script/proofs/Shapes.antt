@@ -1,5 +1,5 @@
 -- A shape is its numbers of fields.
-use Rattle.std.proofs.Common.{◌≡◌, ℕ, ◌+◌, ◌<◌, ◌≤◌, Option, Some, None, Ok, refl, sym, ap, ◌∙◌, subst, arith}
+use Rattle.std.proofs.Common.{◌≡◌, ℕ, ◌+◌, ◌<◌, ◌≤◌, Option, Some, None, Ok, refl, sym, ap, ◌∙◌}
 use Rattle.std.specs.Prelude.{IsNone, IfSome, ◌↔◌}
 use native.Mathlib.Decide.{dec_le, dec_lt}
 use native.Mathlib.Bridge.{le_prop}
@@ -7,7 +7,6 @@ use Rattle.hk_words.specs.declared.shape.Shape.{Shape}
 use Rattle.hk_words.specs.declared.shape.TheConstants.{MAX_FIELDS}
 use Rattle.hk_words.specs.Shape.{IsShape}
 use Rattle.std.specs.Option.{ok_or}
-use Rattle.hk_script.specs.declared.error.Fault.{Fault}
 use Rattle.hk_script.specs.declared.error.Fault.TheVariants as fault
 use Rattle.hk_script.specs.Shapes.{shape_by, shape_of}
 use Rattle.hk_script.proofs.Arguments.{ok_is}

@@ -1,5 +1,5 @@
 -- A statement that is read is spelled by its words, and what spells a statement is read as it.
-use Rattle.std.proofs.Common.{◌≡◌, ℕ, ◌+◌, ◌-◌, ◌^◌, ◌<◌, ◌≤◌, Bool, true, false, cond, List, [], ◌∷◌, length, Option, Some, None, Result, Ok, Err, refl, sym, ap, ◌∙◌, subst, arith, lit<}
+use Rattle.std.proofs.Common.{◌≡◌, ℕ, ◌+◌, ◌-◌, ◌^◌, ◌<◌, ◌≤◌, Bool, true, false, cond, List, [], ◌∷◌, Result, Ok, Err, refl, sym, ap, subst, arith, lit<}
 use Rattle.std.specs.Prelude.{◌&&◌, codes}
 use Rattle.std.specs.List.{AllZip}
 use Rattle.std.specs.Option.{ok_or}
@@ -15,9 +15,9 @@ use Rattle.hk_script.specs.declared.statement.Test.TheVariants as test
 use Rattle.hk_script.specs.declared.error.Fault.{Fault}
 use Rattle.hk_script.specs.declared.error.Fault.TheVariants as fault
 use Rattle.hk_script.specs.Shapes.{shape_of}
-use Rattle.hk_script.specs.Reading.{◌>>=◌, number_in, count_of, value_of, field_of, size_of, variable_of, register_of, target_of, variables_of, one_word, two_words, three_words, new_of, test_of, four_words, statement_of}
-use Rattle.hk_script.specs.Spelling.{Piece, Exactly, Numeral, SpellsPiece, SpellsStatement, variable, register, pieces, test_pieces, IsVariable, IsRegister, IsTarget, IsField, IsCount, IsTest, IsStatement}
-use Rattle.hk_script.proofs.Arguments.{done, ok_is, some_is, bind_ok, variable_takes, variable_again, register_takes, register_again, target_takes, target_again, number_in_takes, number_in_again}
+use Rattle.hk_script.specs.Reading.{◌>>=◌, count_of, value_of, field_of, size_of, variable_of, register_of, target_of, one_word, two_words, three_words, new_of, test_of, four_words, statement_of}
+use Rattle.hk_script.specs.Spelling.{Piece, Exactly, Numeral, SpellsPiece, SpellsStatement, variable, register, IsField, IsCount, IsTest, IsStatement}
+use Rattle.hk_script.proofs.Arguments.{ok_is, bind_ok, variable_takes, variable_again, register_takes, register_again, target_takes, target_again, number_in_takes, number_in_again}
 use Rattle.hk_script.proofs.Digits.{and_parts}
 use Rattle.hk_script.proofs.Shapes.{shape_of_own, shape_numbers}
 

@@ -1,5 +1,5 @@
 -- A walk of a script stands at a statement that takes a tick, or at the end, wherever a link leads.
-use Rattle.std.proofs.Common.{◌≡◌, ℕ, suc, zero, ◌+◌, ◌-◌, ◌<◌, ◌≤◌, Bool, true, false, cond, List, [], ◌∷◌, length, take, drop, get_or, Result, Ok, Err, Option, Some, None, refl, sym, ap, ◌∙◌, subst, arith, inl, inr}
+use Rattle.std.proofs.Common.{◌≡◌, ℕ, suc, zero, ◌+◌, ◌-◌, ◌<◌, ◌≤◌, Bool, true, false, cond, List, [], ◌∷◌, length, drop, get_or, Ok, Err, Option, Some, None, refl, sym, ap, ◌∙◌, subst, arith, inl, inr}
 use Rattle.std.specs.Prelude.{slice_get, slice_index, slice_set, nat_lt, unwrap_or, IsSome, IsSomeAnd}
 use Rattle.std.specs.List.{AllByRecursion}
 use Rattle.std.proofs.lemmas.List.{drop_more, drop_all, get_or_read}
@@ -11,18 +11,16 @@ use Rattle.hk_script.specs.declared.beyond.Beyond.{Beyond}
 use Rattle.hk_script.specs.declared.blocks.Open.{Open}
 use Rattle.hk_script.specs.declared.blocks.Part.{Part}
 use Rattle.hk_script.specs.declared.blocks.Part.TheVariants as part
-use Rattle.hk_script.specs.declared.error.Fault.{Fault}
 use Rattle.hk_script.specs.declared.error.Fault.TheVariants as fault
 use Rattle.hk_script.specs.declared.linking.Around.{Around}
 use Rattle.hk_script.specs.declared.linking.Link.{Link}
 use Rattle.hk_script.specs.declared.statement.TheConstants.{MAX_DEPTH}
 use Rattle.hk_script.specs.declared.statement.Statement.{Statement}
 use Rattle.hk_script.specs.declared.statement.Statement.TheVariants as statement
-use Rattle.hk_script.specs.Reading.{◌>>=◌}
-use Rattle.hk_script.specs.Blocks.{open_block, begun, parted_by, parted, ended, nest, nested, IsScript}
-use Rattle.hk_script.specs.Cost.{beyond, nearest, outer_of}
+use Rattle.hk_script.specs.Blocks.{open_block, parted_by, parted, ended, nest, nested, IsScript}
+use Rattle.hk_script.specs.Cost.{nearest, outer_of}
 use Rattle.hk_script.specs.Again.{again_by, again_of}
-use Rattle.hk_script.specs.Links.{around, left_open, arounds, Ways, leads, ways, past_of, link, links, links_of}
+use Rattle.hk_script.specs.Links.{around, left_open, arounds, Ways, leads, past_of, link, links_of}
 use Rattle.hk_words.specs.declared.call.Reply.{Reply}
 use Rattle.hk_script.specs.declared.walk.Walk.{Walk}
 use Rattle.hk_script.specs.Walks.{IsStop, link_at, at, holds, stepped, moved, walk_after, started, need_in, need_at, need_of, Fits}

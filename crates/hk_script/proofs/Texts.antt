@@ -1,9 +1,9 @@
 -- What is read is spelled so, and what is spelled so is read.
-use Rattle.std.proofs.Common.{◌≡◌, ℕ, suc, ◌+◌, ◌-◌, ◌<◌, ◌≤◌, Bool, true, false, cond, List, [], ◌∷◌, ◌++◌, length, map, take, drop, Result, Ok, Err, refl, sym, ap, ◌∙◌, subst, arith, append_assoc, length-append}
+use Rattle.std.proofs.Common.{◌≡◌, ℕ, ◌+◌, ◌<◌, ◌≤◌, Bool, true, List, [], ◌∷◌, ◌++◌, length, map, take, drop, Result, Ok, Err, refl, sym, ap, ◌∙◌, subst, arith, append_assoc, length-append}
 use Rattle.std.specs.Prelude.{nat_lt, filter, ◌==◌, MatchResult, IfOk}
 use Rattle.std.specs.List.{AllZip, AllByRecursion}
 use Rattle.std.proofs.lemmas.Bool.Decides.{nat_tests}
-use Rattle.std.proofs.lemmas.List.{length-map, append-nil, take_all}
+use Rattle.std.proofs.lemmas.List.{length-map, append-nil}
 use Rattle.hk_script.specs.declared.blocks.Open.{Open}
 use Rattle.hk_script.specs.declared.blocks.Part.{Part}
 use Rattle.hk_script.specs.declared.blocks.Part.TheVariants as part
@@ -18,10 +18,10 @@ use Rattle.std.specs.List.{position_or_len}
 use Rattle.std.proofs.lemmas.List.Splits.{slice_split_first, slice_split_none}
 use Rattle.std.proofs.lemmas.List.Sums.{fails_before_first}
 use Rattle.hk_script.specs.Lex.{words, lines}
-use Rattle.hk_script.specs.Reading.{◌>>=◌, statement_of}
+use Rattle.hk_script.specs.Reading.{statement_of}
 use Rattle.hk_script.specs.Spelling.{SpellsStatement, IsStatement}
-use Rattle.hk_script.specs.Blocks.{open_block, begun, parted_by, parted, ended, nest, nested, IsScript}
-use Rattle.hk_script.specs.Texts.{Progress, nothing_read, added, placed, line_read, fault_at, then_at, done, next_line, lines_read, finished, finish, script_of, has_words, statement_lines, Spells, Refuses, Gives}
+use Rattle.hk_script.specs.Blocks.{open_block, begun, parted_by, parted, ended, nest, nested}
+use Rattle.hk_script.specs.Texts.{Progress, nothing_read, added, placed, line_read, then_at, done, next_line, lines_read, finished, finish, script_of, has_words, statement_lines, Spells, Refuses, Gives}
 use Rattle.hk_script.proofs.Arguments.{bind_ok, ok_is, passed_or, done as given}
 use Rattle.hk_script.proofs.Statements.{statement_takes, statement_again}
 

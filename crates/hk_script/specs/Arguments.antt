@@ -1,5 +1,5 @@
 -- The arguments that a line is printed with.
-use Rattle.std.specs.Prelude.{ℕ, ◌<◌, [], ◌∷◌}
+use Rattle.std.specs.Prelude.{◌<◌, [], ◌∷◌}
 use Rattle.hk_script.specs.declared.printing.Argument.{Argument}
 use Rattle.hk_script.specs.declared.printing.Argument.TheVariants as argument
 use Rattle.hk_script.specs.Spelling.{Piece, Exactly, Numeral, variable, register}

@@ -1,5 +1,5 @@
 -- Where a walk of a script goes on from each place.
-use Rattle.std.specs.Prelude.{ℕ, ◌+◌, List, [], ◌∷◌, length, Option, Some, None, unwrap_or, Result, Ok, Err}
+use Rattle.std.specs.Prelude.{ℕ, ◌+◌, List, [], ◌∷◌, length, unwrap_or, Result, Ok, Err}
 use Rattle.hk_script.specs.declared.beyond.Beyond.{Beyond}
 use Rattle.hk_script.specs.declared.blocks.Open.{Open}
 use Rattle.hk_script.specs.declared.error.Fault.{Fault}

@@ -1,5 +1,5 @@
 -- The canonical text: one statement per line, its words parted by one space, numbers without leading zeros.
-use Rattle.std.specs.Prelude.{ℕ, ◌+◌, List, [], ◌∷◌, ◌++◌}
+use Rattle.std.specs.Prelude.{ℕ, List, [], ◌∷◌, ◌++◌}
 use Rattle.std.specs.List.{flat_map}
 use Rattle.std.specs.Fmt.{decimal}
 use Rattle.hk_script.specs.declared.statement.Statement.{Statement}

@@ -1,7 +1,6 @@
 -- The grammar: which words spell a statement, and which texts spell a script.
-use Rattle.std.specs.Prelude.{◌≡◌, ℕ, ◌+◌, ◌^◌, ◌<◌, ◌≤◌, List, [], ◌∷◌, ◌++◌, length, map, filter, nat_lt, codes}
-use Rattle.std.specs.List.{AllZip, AllByRecursion, flat_map}
-use Rattle.std.specs.Fmt.{decimal}
+use Rattle.std.specs.Prelude.{◌≡◌, ℕ, ◌+◌, ◌^◌, ◌<◌, ◌≤◌, List, [], ◌∷◌, length, codes}
+use Rattle.std.specs.List.{AllZip}
 use Rattle.std.specs.Str.Parse.{IsNumeral, digits_value}
 use Rattle.hk_words.specs.declared.geometry.TheConstants.{REGISTERS}
 use Rattle.hk_words.specs.declared.shape.TheConstants.{MAX_FIELDS}
@@ -11,7 +10,6 @@ use Rattle.hk_script.specs.declared.statement.Statement.{Statement}
 use Rattle.hk_script.specs.declared.statement.Statement.TheVariants as statement
 use Rattle.hk_script.specs.declared.statement.Test.{Test}
 use Rattle.hk_script.specs.declared.statement.Test.TheVariants as test
-use Rattle.hk_script.specs.Lex.{words, lines}
 
 -- a word of a statement: one that stands so, or any numeral of a number
 pub data Piece : Type 0 where

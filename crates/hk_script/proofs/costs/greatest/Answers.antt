@@ -1,4 +1,4 @@
-use Rattle.std.proofs.Common.{◌≡◌, sym, subst, arith}
+use Rattle.std.proofs.Common.{sym, subst, arith}
 use Rattle.hk_script.specs.Blocks.{IsScript}
 use Rattle.hk_script.specs.Cost.{weight_of}
 use Rattle.hk_script.specs.Sums.{seen}

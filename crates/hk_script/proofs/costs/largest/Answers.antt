@@ -1,5 +1,5 @@
-use Rattle.std.proofs.Common.{◌≡◌, ◌∙◌, ap, sym, ℕ, max, get_or, arith}
-use Rattle.hk_script.specs.Cost.{words_of, largest_of}
+use Rattle.std.proofs.Common.{◌∙◌, ap, sym, ℕ, max, get_or, arith}
+use Rattle.hk_script.specs.Cost.{words_of}
 use Rattle.hk_script.proofs.Totals.{largest_more}
 use Rattle.hk_script.proofs.costs.largest.Goals as goal
 

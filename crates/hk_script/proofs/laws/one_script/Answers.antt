@@ -1,4 +1,4 @@
-use Rattle.std.proofs.Common.{◌≡◌, ◌∙◌, sym}
+use Rattle.std.proofs.Common.{◌∙◌, sym}
 use Rattle.hk_script.proofs.Texts.{text_again}
 use Rattle.hk_script.proofs.laws.one_script.Goals as goal
 

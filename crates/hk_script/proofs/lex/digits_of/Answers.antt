@@ -1,4 +1,4 @@
-use Rattle.std.proofs.Common.{◌≡◌, ◌+◌, ◌*◌, ◌^◌, ◌<◌, ℕ, ap, sym, ◌∙◌, get_or, arith}
+use Rattle.std.proofs.Common.{◌+◌, ◌*◌, ℕ, ap, sym, ◌∙◌, arith}
 use Rattle.hk_script.proofs.Digits.{small_so_far, one_more}
 use Rattle.hk_script.proofs.lex.digits_of.Goals as goal
 

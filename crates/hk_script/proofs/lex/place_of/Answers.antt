@@ -1,4 +1,4 @@
-use Rattle.std.proofs.Common.{sym, arith, ap, ◌∙◌}
+use Rattle.std.proofs.Common.{sym, arith}
 use Rattle.std.specs.Prelude.{◌==◌}
 use Rattle.std.proofs.lemmas.Bool.Decides.{nat_tests}
 use Rattle.std.proofs.lemmas.List.Sums.{position_or_len_is}

@@ -1,10 +1,7 @@
-use Rattle.std.proofs.Common.{◌≡◌, ◌++◌, ◌∷◌, [], ◌∙◌, ℕ, List, drop, Ok, refl, sym, ap, subst, arith, ◌+◌}
+use Rattle.std.proofs.Common.{◌≡◌, ◌++◌, ◌∷◌, [], ◌∙◌, List, drop, refl, sym, ap, arith, ◌+◌}
 use Rattle.std.proofs.lemmas.List.{drop_all, append-nil}
 use Rattle.std.proofs.lemmas.Result.{err_from_is_err_and}
-use Rattle.hk_script.specs.declared.blocks.Open.{Open}
-use Rattle.hk_script.specs.declared.linking.Around.{Around}
 use Rattle.hk_script.specs.declared.statement.Statement.{Statement}
-use Rattle.hk_script.specs.Blocks.{nested}
 use Rattle.hk_script.specs.Links.{around, arounds}
 use Rattle.hk_script.proofs.Linked.{nests_or_memory, one_more}
 use Rattle.hk_script.proofs.linking.around_each.Goals as goal

@@ -1,10 +1,9 @@
-use Rattle.std.proofs.Common.{◌≡◌, ◌-◌, ◌∙◌, ℕ, [], List, length, drop, get_or, set, refl, sym, ap, subst, arith}
+use Rattle.std.proofs.Common.{◌≡◌, ◌-◌, ◌∙◌, ℕ, [], List, length, drop, get_or, refl, ap, subst, arith}
 use Rattle.std.proofs.lemmas.List.{length-set}
 use Rattle.hk_script.specs.declared.linking.Around.{Around}
-use Rattle.hk_script.specs.declared.linking.Link.{Link}
-use Rattle.hk_script.specs.Links.{arounds, links_of}
+use Rattle.hk_script.specs.Links.{links_of}
 use Rattle.hk_script.specs.Steps.{seen_ways}
-use Rattle.hk_script.proofs.Linked.{all_around, links_at, ways_step, ways_room, links_step, ways_end, links_end, length-arounds}
+use Rattle.hk_script.proofs.Linked.{links_at, ways_step, ways_room, links_step, ways_end, links_end, length-arounds}
 use Rattle.hk_script.proofs.linking.links.Goals as goal
 
 pub loop-place-init : goal.loop-place-init

@@ -1,7 +1,6 @@
-use Rattle.std.proofs.Common.{◌≡◌, List, Result, Ok, Err, subst, sym, ap, ◌∙◌}
+use Rattle.std.proofs.Common.{Ok, subst, sym, ◌∙◌}
 use Rattle.std.proofs.lemmas.Result.{err_from_is_err_and}
-use Rattle.hk_script.specs.declared.statement.Statement.{Statement}
-use Rattle.hk_script.specs.Texts.{Refuses, Spells, script_of}
+use Rattle.hk_script.specs.Texts.{Refuses, script_of}
 use Rattle.hk_script.proofs.Texts.{text_takes, text_again, made_spelled, made_gives}
 use Rattle.hk_script.proofs.parsing.parse.Goals as goal
 

@@ -1,6 +1,6 @@
-use Rattle.std.proofs.Common.{◌≡◌, sym, ap, ◌∙◌, subst, arith}
+use Rattle.std.proofs.Common.{sym, ◌∙◌, subst, arith}
 use Rattle.std.proofs.lemmas.Result.{err_from_is_err_and}
-use Rattle.hk_script.specs.Texts.{Refuses, lines_read, nothing_read, next_line}
+use Rattle.hk_script.specs.Texts.{Refuses}
 use Rattle.hk_script.specs.Progress.{progress_of}
 use Rattle.hk_script.proofs.Texts.{goes_on, stops, last_line}
 use Rattle.hk_script.proofs.parsing.read_lines.Goals as goal

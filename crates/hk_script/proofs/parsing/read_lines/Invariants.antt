@@ -1,5 +1,5 @@
 -- What was read so far and the lines that are left give what all lines give.
-use Rattle.std.proofs.Common.{◌≡◌, ℕ, length, map}
+use Rattle.std.proofs.Common.{◌≡◌, length, map}
 use Rattle.std.specs.Prelude.{◌==◌}
 use Rattle.std.specs.List.{position_or_len}
 use Rattle.hk_script.specs.Lex.{words, lines}

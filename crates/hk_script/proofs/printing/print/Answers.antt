@@ -1,5 +1,4 @@
-use Rattle.std.proofs.Common.{◌≡◌, ◌∙◌, ℕ, List, sym, ap, subst, take, length, arith}
-use Rattle.hk_script.specs.declared.statement.Statement.{Statement}
+use Rattle.std.proofs.Common.{◌≡◌, ◌∙◌, ℕ, List, sym, ap, subst, arith}
 use Rattle.hk_script.specs.Printing.{text_of}
 use Rattle.hk_script.specs.Texts.{Spells}
 use Rattle.hk_script.proofs.Printed.{script_spelled, whole_text}

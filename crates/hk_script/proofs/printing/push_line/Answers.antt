@@ -1,7 +1,5 @@
-use Rattle.std.proofs.Common.{◌≡◌, ◌++◌, ◌∙◌, sym, ap, map, take, arith, append_assoc}
+use Rattle.std.proofs.Common.{arith, append_assoc}
 use Rattle.hk_script.specs.declared.printing.Argument.TheVariants as argument
-use Rattle.hk_script.specs.Arguments.{piece_of}
-use Rattle.hk_script.specs.Printing.{spaced}
 use Rattle.hk_script.proofs.Printed.{one_more}
 use Rattle.hk_script.proofs.printing.push_line.Goals as goal
 

@@ -1,8 +1,7 @@
-use Rattle.std.proofs.Common.{◌≡◌, ◌∙◌, sym, ap, length, get_or, List, ◌<◌, arith}
+use Rattle.std.proofs.Common.{◌∙◌, ap, length, get_or, List, ◌<◌, arith}
 use Rattle.std.proofs.lemmas.List.{get_or_read}
 use Rattle.hk_script.specs.declared.linking.Link.{Link}
 use Rattle.hk_script.specs.Links.{links_of}
-use Rattle.hk_script.specs.Walks.{link_at}
 use Rattle.hk_script.proofs.Linked.{length-links_of}
 use Rattle.hk_script.proofs.script.Script.link.Goals as goal
 

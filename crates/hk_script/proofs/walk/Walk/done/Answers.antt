@@ -1,6 +1,4 @@
-use Rattle.std.proofs.Common.{◌≡◌, ◌<◌, ap, length, subst, sym, arith}
-use Rattle.hk_script.specs.declared.walk.Need.{Need}
-use Rattle.hk_script.specs.declared.walk.Walk.{Walk}
+use Rattle.std.proofs.Common.{ap, length, subst, sym, arith}
 use Rattle.hk_script.specs.declared.linking.Link.{Link}
 use Rattle.hk_script.specs.Levels.{HasLevel}
 use Rattle.hk_script.specs.Walks.{Answers, Fits}

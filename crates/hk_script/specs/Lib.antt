@@ -1,0 +1,17 @@
+pub mod Lex
+pub mod Shapes
+pub mod Reading
+pub mod Spelling
+pub mod Blocks
+pub mod Texts
+pub mod Progress
+pub mod Printing
+pub mod Arguments
+pub mod Cost
+pub mod Sums
+pub mod Again
+pub mod Links
+pub mod Steps
+pub mod Levels
+pub mod Walks
+pub mod Runs

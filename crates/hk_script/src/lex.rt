@@ -1,0 +1,90 @@
+//! The lines of a text, the words of a line, and the numbers and names that words spell.
+
+ghost use Rattle.std.specs.Prelude.{◌≡◌, ℕ, ◌<◌, ◌≤◌, true, false, List, length, map, IfOk, IfSome, MatchOption, ◌==◌};
+ghost use Rattle.std.specs.List.{position_or_len, list_all};
+ghost use Rattle.std.specs.Char.{is_ascii_digit};
+ghost use Rattle.std.specs.Str.{bytes_eq};
+ghost use Rattle.std.specs.Str.Parse.{digits_value};
+ghost use Rattle.hk_script.specs.Lex.{words, before_comment, number_of, index_of};
+
+use std::alloc::{AllocError, Global};
+
+/// The most digits of a number.
+pub(crate) const MAX_DIGITS: usize = 20;
+
+/// The place of the first such byte, or the length where there is none.
+pub(crate) fn place_of(bytes: &[u8], byte: u8) -> usize
+    ensures place { result ≡ position_or_len (λ x. x == byte) bytes.now }
+    ensures within { result ≤ length bytes.now }
+{
+    for (place, other) in bytes.iter().enumerate() {
+        if *other == byte {
+            return place;
+        }
+    }
+    bytes.len()
+}
+
+/// The line up to its comment.
+fn before_comment(line: &[u8]) -> &[u8]
+    ensures { result.now ≡ before_comment line.now }
+{
+    &line[..place_of(line, b'#')]
+}
+
+/// The words of a line, in order.
+pub(crate) fn words(alloc: Global, line: &[u8]) -> Result<Vec<&[u8]>, AllocError>
+    ensures { IfOk result (λ v. map (λ word. word.now) v.items ≡ words line.now) }
+{
+    before_comment(line)
+        .split(|byte| *byte == b' ' || *byte == b'\t' || *byte == b'\r')
+        .filter(|word| !word.is_empty())
+        .collect(alloc)
+}
+
+/// Whether a word is this name.
+pub(crate) fn is(word: &[u8], name: &str) -> bool
+    ensures { result ≡ bytes_eq word.now name.now }
+{
+    word == name.as_bytes()
+}
+
+/// What the digits write, where each byte is one.
+fn digits_of(word: &[u8]) -> Option<u128>
+    requires { length word.now ≤ MAX_DIGITS }
+    ensures { MatchOption result (list_all is_ascii_digit word.now ≡ false) (λ value. (list_all is_ascii_digit word.now ≡ true) × (value ≡ digits_value 10 word.now)) }
+{
+    let mut value: u128 = 0;
+    for byte in word {
+        if !byte.is_ascii_digit() {
+            return None;
+        }
+        value = value * 10 + u128::from(*byte - b'0');
+    }
+    Some(value)
+}
+
+/// The number that a word of 1 to 20 decimal digits spells.
+pub(crate) fn number(word: &[u8]) -> Option<u64>
+    ensures { result ≡ number_of word.now }
+{
+    if word.is_empty() || word.len() > MAX_DIGITS {
+        return None;
+    }
+    let value = digits_of(word)?;
+    u64::try_from(value).ok()
+}
+
+/// The digit of a name: a letter, and one digit below the limit.
+pub(crate) fn index(word: &[u8], letter: u8, limit: u8) -> Option<u8>
+    requires { limit ≤ 10 }
+    ensures value { result ≡ index_of letter limit word.now }
+    ensures small { IfSome result (λ found. found < limit) }
+{
+    match word {
+        [first, digit] if *first == letter && *digit >= b'0' && *digit - b'0' < limit => {
+            Some(*digit - b'0')
+        }
+        _ => None,
+    }
+}

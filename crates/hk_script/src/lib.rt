@@ -1,0 +1,30 @@
+//! The script language: what a task's job does, tick by tick. A script is parsed from a text and printed again,
+//! its cost in ticks and in words is known before it runs, and a walk of it goes on statement by statement.
+#![tactic(auto)]
+
+mod beyond;
+mod blocks;
+mod costs;
+mod error;
+mod laws;
+mod lex;
+mod linking;
+mod parsing;
+mod printing;
+mod progress;
+mod reading;
+mod script;
+mod statement;
+mod walk;
+
+pub use costs::{MAX_COST, cost, largest, words};
+pub use error::ScriptError;
+pub use laws::{one_script, printed_again, walks_within_cost};
+pub use parsing::parse;
+pub use printing::print;
+pub use script::Script;
+pub use statement::{MAX_COUNT, MAX_DEPTH, MAX_STATEMENTS, Statement, Test, VARIABLES};
+pub use walk::{Need, Walk};
+
+#[cfg(test)]
+mod tests;

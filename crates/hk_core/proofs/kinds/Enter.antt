@@ -248,10 +248,10 @@ pub get_enters : (reg field : ℕ) → EntersObject (call.Get reg field) 1 2
 unfolding f.is_through f.in_object_at f.before_object_at f.register_stays_at f.is_load_at f.is_new_at f.in_frame_at f.before_frame_at f.has_cycle_inside_at f.has_claimed_at f.reserves_at f.links_at f.has_item_at f.holds_back_at
 get_enters reg field = record {
   through = refl; outside = refl; inside = refl; before = refl; after = refl;
-  goes = record { flying = refl; in_row = omega arith; in_step = λ full raised h. h; register_stays = refl; is_load = refl; has_cycle_in_frame = λ h. h; will_raise = refl;
+  goes = record { flying = refl; in_row = omega arith; in_step = λ full raised h. h; register_stays = refl; is_load = refl; will_raise = refl;
     raised_before = refl; raised = refl; making = refl; numbered_before = refl; numbered = refl };
   same_frame = record { inside = refl; before = refl };
-  same_claim = record { has_cycle = λ b h. h; has_claimed = λ h. h; reserves = refl; links = refl };
+  same_claim = record { has_cycle_in_frame = λ h. h; has_cycle = λ b h. h; has_claimed = λ h. h; reserves = refl; links = refl };
   same_item = record { has_item = refl; has_loaded = refl; has_loaded_inside = λ h. h; has_written = refl; holds_back = λ r. refl };
 }
 
@@ -259,10 +259,10 @@ pub put_enters : (reg field value : ℕ) → EntersObject (call.Put reg field va
 unfolding f.is_through f.in_object_at f.before_object_at f.register_stays_at f.is_load_at f.is_new_at f.in_frame_at f.before_frame_at f.has_cycle_inside_at f.has_claimed_at f.reserves_at f.links_at f.has_item_at f.holds_back_at
 put_enters reg field value = record {
   through = refl; outside = refl; inside = refl; before = refl; after = refl;
-  goes = record { flying = refl; in_row = omega arith; in_step = λ full raised h. h; register_stays = refl; is_load = refl; has_cycle_in_frame = λ h. h; will_raise = refl;
+  goes = record { flying = refl; in_row = omega arith; in_step = λ full raised h. h; register_stays = refl; is_load = refl; will_raise = refl;
     raised_before = refl; raised = refl; making = refl; numbered_before = refl; numbered = refl };
   same_frame = record { inside = refl; before = refl };
-  same_claim = record { has_cycle = λ b h. h; has_claimed = λ h. h; reserves = refl; links = refl };
+  same_claim = record { has_cycle_in_frame = λ h. h; has_cycle = λ b h. h; has_claimed = λ h. h; reserves = refl; links = refl };
   same_item = record { has_item = refl; has_loaded = refl; has_loaded_inside = λ h. h; has_written = refl; holds_back = λ r. refl };
 }
 
@@ -270,10 +270,10 @@ pub store_enters : (reg field from : ℕ) → EntersObject (call.Store reg field
 unfolding f.is_through f.in_object_at f.before_object_at f.register_stays_at f.is_load_at f.is_new_at f.in_frame_at f.before_frame_at f.has_cycle_inside_at f.has_claimed_at f.reserves_at f.links_at f.has_item_at f.holds_back_at
 store_enters reg field from = record {
   through = refl; outside = refl; inside = refl; before = refl; after = refl;
-  goes = record { flying = refl; in_row = omega arith; in_step = λ full raised h. h; register_stays = refl; is_load = refl; has_cycle_in_frame = λ h. h; will_raise = refl;
+  goes = record { flying = refl; in_row = omega arith; in_step = λ full raised h. h; register_stays = refl; is_load = refl; will_raise = refl;
     raised_before = refl; raised = refl; making = refl; numbered_before = refl; numbered = refl };
   same_frame = record { inside = refl; before = refl };
-  same_claim = record { has_cycle = λ b h. h; has_claimed = λ h. h; reserves = refl; links = refl };
+  same_claim = record { has_cycle_in_frame = λ h. h; has_cycle = λ b h. h; has_claimed = λ h. h; reserves = refl; links = refl };
   same_item = record { has_item = refl; has_loaded = refl; has_loaded_inside = λ h. h; has_written = refl; holds_back = λ r. refl };
 }
 
@@ -281,9 +281,9 @@ pub load_enters : (dest reg field : ℕ) → EntersObject (call.Load dest reg fi
 unfolding f.is_through f.in_object_at f.before_object_at f.register_stays_at f.is_load_at f.is_new_at f.in_frame_at f.before_frame_at f.has_cycle_inside_at f.has_claimed_at f.reserves_at f.links_at f.has_item_at f.holds_back_at
 load_enters dest reg field = record {
   through = refl; outside = refl; inside = refl; before = refl; after = refl;
-  goes = record { flying = refl; in_row = omega arith; in_step = λ full raised h. h; register_stays = refl; is_load = refl; has_cycle_in_frame = λ h. h; will_raise = refl;
+  goes = record { flying = refl; in_row = omega arith; in_step = λ full raised h. h; register_stays = refl; is_load = refl; will_raise = refl;
     raised_before = refl; raised = refl; making = refl; numbered_before = refl; numbered = refl };
   same_frame = record { inside = refl; before = refl };
-  same_claim = record { has_cycle = λ b h. h; has_claimed = λ h. h; reserves = refl; links = refl };
+  same_claim = record { has_cycle_in_frame = λ h. h; has_cycle = λ b h. h; has_claimed = λ h. h; reserves = refl; links = refl };
   same_item = record { has_item = refl; has_loaded = refl; has_loaded_inside = λ h. h; has_written = refl; holds_back = λ r. refl };
 }

@@ -272,10 +272,10 @@ pub move_enters : (dest from : ℕ) → EntersFrame (call.Move dest from) 1 2
 unfolding f.in_object_at f.before_object_at f.register_stays_at f.is_load_at f.is_new_at f.in_frame_at f.before_frame_at f.has_cycle_inside_at f.has_claimed_at f.reserves_at f.links_at f.has_item_at f.holds_back_at
 move_enters dest from = record {
   outside = refl; inside = refl; before = refl; after = refl;
-  goes = record { flying = refl; in_row = omega arith; in_step = λ full raised h. h; register_stays = refl; is_load = refl; has_cycle_in_frame = λ h. h; will_raise = refl;
+  goes = record { flying = refl; in_row = omega arith; in_step = λ full raised h. h; register_stays = refl; is_load = refl; will_raise = refl;
     raised_before = refl; raised = refl; making = refl; numbered_before = refl; numbered = refl };
   same_object = record { inside = refl; before = refl };
-  same_claim = record { has_cycle = λ b h. h; has_claimed = λ h. h; reserves = refl; links = refl };
+  same_claim = record { has_cycle_in_frame = λ h. h; has_cycle = λ b h. h; has_claimed = λ h. h; reserves = refl; links = refl };
   same_item = record { has_item = refl; has_loaded = refl; has_loaded_inside = λ h. h; has_written = refl; holds_back = λ r. refl };
 }
 
@@ -283,10 +283,10 @@ pub load_enters_frame : (dest reg field : ℕ) → EntersFrame (call.Load dest r
 unfolding f.in_object_at f.before_object_at f.register_stays_at f.is_load_at f.is_new_at f.in_frame_at f.before_frame_at f.has_cycle_inside_at f.has_claimed_at f.reserves_at f.links_at f.has_item_at f.holds_back_at
 load_enters_frame dest reg field = record {
   outside = refl; inside = refl; before = refl; after = refl;
-  goes = record { flying = refl; in_row = omega arith; in_step = λ full raised h. h; register_stays = refl; is_load = refl; has_cycle_in_frame = λ h. h; will_raise = refl;
+  goes = record { flying = refl; in_row = omega arith; in_step = λ full raised h. h; register_stays = refl; is_load = refl; will_raise = refl;
     raised_before = refl; raised = refl; making = refl; numbered_before = refl; numbered = refl };
   same_object = record { inside = refl; before = refl };
-  same_claim = record { has_cycle = λ b h. h; has_claimed = λ h. h; reserves = refl; links = refl };
+  same_claim = record { has_cycle_in_frame = λ h. h; has_cycle = λ b h. h; has_claimed = λ h. h; reserves = refl; links = refl };
   same_item = record { has_item = refl; has_loaded = refl; has_loaded_inside = λ h. h; has_written = refl; holds_back = λ r. refl };
 }
 
@@ -297,10 +297,10 @@ new_enters_frame dest shape = record {
   outside = refl; inside = refl; before = refl; after = refl;
   goes = record { flying = refl; in_row = omega arith;
     in_step = λ full raised h. record { not_full_yet = λ b. absurd (omega arith); not_raised_yet = λ b. h.not_raised_yet (omega arith); raised_by_then = λ b. absurd (omega arith) };
-    register_stays = refl; is_load = refl; has_cycle_in_frame = λ h. h; will_raise = refl;
+    register_stays = refl; is_load = refl; will_raise = refl;
     raised_before = refl; raised = refl; making = refl; numbered_before = refl; numbered = refl };
   same_object = record { inside = refl; before = refl };
-  same_claim = record { has_cycle = λ b h. h; has_claimed = λ h. h; reserves = refl; links = refl };
+  same_claim = record { has_cycle_in_frame = λ h. h; has_cycle = λ b h. h; has_claimed = λ h. h; reserves = refl; links = refl };
   same_item = record { has_item = refl; has_loaded = refl; has_loaded_inside = λ h. h; has_written = refl; holds_back = λ r. refl };
 }
 

@@ -245,9 +245,9 @@ pub load_leaves : (dest reg field : ℕ) → LeavesAndGoesOn (call.Load dest reg
 unfolding f.is_through f.in_object_at f.before_object_at f.register_stays_at f.is_load_at f.is_new_at f.in_frame_at f.before_frame_at f.has_cycle_inside_at f.has_claimed_at f.reserves_at f.links_at f.has_item_at f.holds_back_at
 load_leaves dest reg field = record {
   through = refl; inside = refl; outside = refl; before = refl;
-  goes = record { flying = refl; in_row = omega arith; in_step = λ full raised h. h; register_stays = refl; is_load = refl; has_cycle_in_frame = λ h. h; will_raise = refl;
+  goes = record { flying = refl; in_row = omega arith; in_step = λ full raised h. h; register_stays = refl; is_load = refl; will_raise = refl;
     raised_before = refl; raised = refl; making = refl; numbered_before = refl; numbered = refl };
   same_frame = record { inside = refl; before = refl };
-  same_claim = record { has_cycle = λ b h. absurd (cc); has_claimed = λ h. absurd (cc); reserves = refl; links = refl };
+  same_claim = record { has_cycle_in_frame = λ h. h; has_cycle = λ b h. absurd (cc); has_claimed = λ h. absurd (cc); reserves = refl; links = refl };
   same_item = record { has_item = refl; has_loaded = refl; has_loaded_inside = λ h. absurd (cc); has_written = refl; holds_back = λ r. refl };
 }

@@ -1,5 +1,5 @@
 -- The packed words of a row after a word was written at one slot: one column changes, at one index.
-use Rattle.std.proofs.Common.{◌≡◌, ℕ, ◌≢◌, ◌⊎◌, ◌+◌, ◌*◌, ◌<◌, ◌≤◌, Bool, true, false, List, length, inl, inr, refl, sym, ◌∙◌, ap, arith}
+use Rattle.std.proofs.Common.{◌≡◌, ℕ, ◌≢◌, ◌⊎◌, ◌*◌, ◌<◌, ◌≤◌, Bool, true, false, List, length, inl, inr, refl, ◌∙◌, ap}
 use Rattle.std.proofs.lemmas.Bool.{ltb-true, leb-true, lt-ltb, le-leb, and_parts, and_from}
 use Rattle.std.proofs.lemmas.List.{set-get_or}
 use Rattle.std.specs.Prelude.{nat_lt, nat_le, ◌&&◌, slice_index, slice_set, Some, None}
@@ -13,7 +13,7 @@ use Rattle.hk_model.proofs.Updates.{is_upd, is_upd2}
 use Rattle.hk_core.specs.declared.event.Event.{Event}
 use Rattle.hk_core.specs.Event as event
 use Rattle.hk_core.specs.Event.{fired, fired_if, old_of, word_after}
-use Rattle.hk_core.specs.View.{Raw, raw, word_if}
+use Rattle.hk_core.specs.View.{raw, word_if}
 
 -- A word where a test says that there is a slot.
 
@@ -116,9 +116,9 @@ unfolding raw
 raw-header g row n v fits whole =
     let a = Header n in
     let changed : (raw g (with_word g row (Header n) v)).header ≡ upd (raw g row).header n v =
-        is_upd {A = ℕ} (raw g (with_word g row (Header n) v)).header (raw g row).header n v
-            (word_if-same g row v (nat_lt n (numbers g)) (Header n) (lt-ltb n (numbers g) fits) fits whole)
-            (λ k d. word_if-other g row (Header n) v (nat_lt k (numbers g)) (Header k) fits (header_fits g k) (λ e. d (let x : k ≡ n = cc in x))) in
+    is_upd {A = ℕ} (raw g (with_word g row (Header n) v)).header (raw g row).header n v
+    (word_if-same g row v (nat_lt n (numbers g)) (Header n) (lt-ltb n (numbers g) fits) fits whole)
+    (λ k d. word_if-other g row (Header n) v (nat_lt k (numbers g)) (Header k) fits (header_fits g k) (λ e. d (let x : k ≡ n = cc in x))) in
     λ i. record {
       w0 = w0_kept g row a v fits (λ e. cc) i;
       w1 = w1_kept g row a v fits (λ e. cc) i;
@@ -136,9 +136,9 @@ unfolding raw
 raw-mark g row n v fits whole =
     let a = Mark n in
     let changed : (raw g (with_word g row (Mark n) v)).mark ≡ upd (raw g row).mark n v =
-        is_upd {A = ℕ} (raw g (with_word g row (Mark n) v)).mark (raw g row).mark n v
-            (word_if-same g row v (nat_lt n (numbers g)) (Mark n) (lt-ltb n (numbers g) fits) fits whole)
-            (λ k d. word_if-other g row (Mark n) v (nat_lt k (numbers g)) (Mark k) fits (mark_fits g k) (λ e. d (let x : k ≡ n = cc in x))) in
+    is_upd {A = ℕ} (raw g (with_word g row (Mark n) v)).mark (raw g row).mark n v
+    (word_if-same g row v (nat_lt n (numbers g)) (Mark n) (lt-ltb n (numbers g) fits) fits whole)
+    (λ k d. word_if-other g row (Mark n) v (nat_lt k (numbers g)) (Mark k) fits (mark_fits g k) (λ e. d (let x : k ≡ n = cc in x))) in
     λ i. record {
       w0 = w0_kept g row a v fits (λ e. cc) i;
       w1 = w1_kept g row a v fits (λ e. cc) i;
@@ -156,9 +156,9 @@ unfolding raw
 raw-frame g row n v fits whole =
     let a = Frame n in
     let changed : (raw g (with_word g row (Frame n) v)).frame ≡ upd (raw g row).frame n v =
-        is_upd {A = ℕ} (raw g (with_word g row (Frame n) v)).frame (raw g row).frame n v
-            (word_if-same g row v (nat_lt n (tasks g)) (Frame n) (lt-ltb n (tasks g) fits) fits whole)
-            (λ k d. word_if-other g row (Frame n) v (nat_lt k (tasks g)) (Frame k) fits (frame_fits g k) (λ e. d (let x : k ≡ n = cc in x))) in
+    is_upd {A = ℕ} (raw g (with_word g row (Frame n) v)).frame (raw g row).frame n v
+    (word_if-same g row v (nat_lt n (tasks g)) (Frame n) (lt-ltb n (tasks g) fits) fits whole)
+    (λ k d. word_if-other g row (Frame n) v (nat_lt k (tasks g)) (Frame k) fits (frame_fits g k) (λ e. d (let x : k ≡ n = cc in x))) in
     λ i. record {
       w0 = w0_kept g row a v fits (λ e. cc) i;
       w1 = w1_kept g row a v fits (λ e. cc) i;
@@ -186,9 +186,9 @@ raw-register g row m n v seat reg whole =
     let a = Register m n in
     let fits : InRow g (Register m n) = (seat, reg) in
     let changed : (raw g (with_word g row (Register m n) v)).register ≡ upd2 (raw g row).register m n v =
-        is_upd2 {A = ℕ} (raw g (with_word g row (Register m n) v)).register (raw g row).register m n v
-            (word_if-same g row v (nat_lt m (tasks g) && nat_lt n g.registers) (Register m n) (and_from _ _ (lt-ltb m (tasks g) seat) (lt-ltb n g.registers reg)) fits whole)
-            (λ k j d. word_if-other g row (Register m n) v (nat_lt k (tasks g) && nat_lt j g.registers) (Register k j) fits (register_fits g k j) (registers_differ m n k j d)) in
+    is_upd2 {A = ℕ} (raw g (with_word g row (Register m n) v)).register (raw g row).register m n v
+    (word_if-same g row v (nat_lt m (tasks g) && nat_lt n g.registers) (Register m n) (and_from _ _ (lt-ltb m (tasks g) seat) (lt-ltb n g.registers reg)) fits whole)
+    (λ k j d. word_if-other g row (Register m n) v (nat_lt k (tasks g) && nat_lt j g.registers) (Register k j) fits (register_fits g k j) (registers_differ m n k j d)) in
     λ i. record {
       w0 = w0_kept g row a v fits (λ e. cc) i;
       w1 = w1_kept g row a v fits (λ e. cc) i;
@@ -207,9 +207,9 @@ raw-entry g row m n v list index whole =
     let a = Entry m n in
     let fits : InRow g (Entry m n) = (list, index) in
     let changed : (raw g (with_word g row (Entry m n) v)).entry ≡ upd2 (raw g row).entry m n v =
-        is_upd2 {A = ℕ} (raw g (with_word g row (Entry m n) v)).entry (raw g row).entry m n v
-            (word_if-same g row v (nat_lt m 2 && nat_lt n (list_length g)) (Entry m n) (and_from _ _ (lt-ltb m 2 list) (lt-ltb n (list_length g) index)) fits whole)
-            (λ k j d. word_if-other g row (Entry m n) v (nat_lt k 2 && nat_lt j (list_length g)) (Entry k j) fits (entry_fits g k j) (entries_differ m n k j d)) in
+    is_upd2 {A = ℕ} (raw g (with_word g row (Entry m n) v)).entry (raw g row).entry m n v
+    (word_if-same g row v (nat_lt m 2 && nat_lt n (list_length g)) (Entry m n) (and_from _ _ (lt-ltb m 2 list) (lt-ltb n (list_length g) index)) fits whole)
+    (λ k j d. word_if-other g row (Entry m n) v (nat_lt k 2 && nat_lt j (list_length g)) (Entry k j) fits (entry_fits g k j) (entries_differ m n k j d)) in
     λ i. record {
       w0 = w0_kept g row a v fits (λ e. cc) i;
       w1 = w1_kept g row a v fits (λ e. cc) i;
@@ -228,9 +228,9 @@ raw-space g row n v some within whole =
     let a = Space n in
     let fits : InRow g (Space n) = (some, within) in
     let changed : (raw g (with_word g row (Space n) v)).cell ≡ upd (raw g row).cell n v =
-        is_upd {A = ℕ} (raw g (with_word g row (Space n) v)).cell (raw g row).cell n v
-            (word_if-same g row v (nat_lt 0 n && nat_le n (2 * space_words g)) (Space n) (and_from _ _ (lt-ltb 0 n some) (le-leb n (2 * space_words g) within)) fits whole)
-            (λ k d. word_if-other g row (Space n) v (nat_lt 0 k && nat_le k (2 * space_words g)) (Space k) fits (space_fits g k) (λ e. d (let x : k ≡ n = cc in x))) in
+    is_upd {A = ℕ} (raw g (with_word g row (Space n) v)).cell (raw g row).cell n v
+    (word_if-same g row v (nat_lt 0 n && nat_le n (2 * space_words g)) (Space n) (and_from _ _ (lt-ltb 0 n some) (le-leb n (2 * space_words g) within)) fits whole)
+    (λ k d. word_if-other g row (Space n) v (nat_lt 0 k && nat_le k (2 * space_words g)) (Space k) fits (space_fits g k) (λ e. d (let x : k ≡ n = cc in x))) in
     λ i. record {
       w0 = w0_kept g row a v fits (λ e. cc) i;
       w1 = w1_kept g row a v fits (λ e. cc) i;

@@ -1,7 +1,6 @@
 -- Counts and sums over the seats after a change of one seat.
-use Rattle.std.proofs.Common.{◌≡◌, ℕ, zero, suc, ◌≢◌, ◌⊎◌, ◌+◌, ◌-◌, ◌<◌, ◌≤◌, Bool, true, false, inl, inr, refl, sym, ◌∙◌, ap, arith}
-use Rattle.std.proofs.lemmas.Bool.{cases_eq, cases_lt}
-use Rattle.std.proofs.lemmas.Bool.Decides.{nat_tests}
+use Rattle.std.proofs.Common.{◌≡◌, ℕ, zero, suc, ◌+◌, ◌<◌, ◌≤◌, Bool, true, false, inl, inr, refl, sym, ◌∙◌, ap, arith}
+use Rattle.std.proofs.lemmas.Bool.{cases_eq}
 use Rattle.std.specs.Prelude.{if◌then◌else◌}
 use Rattle.hk_model.specs.View.{upd}
 use Rattle.hk_model.proofs.Updates.{upd_same, upd_other}
@@ -33,11 +32,12 @@ unfolding sum_below
 sum-upd_in h f s v zero below = absurd (omega arith)
 sum-upd_in h f s v (suc n) below =
     elim (cases_eq s n) [
-      inl e ↦ sum_last h f s v n e
-    | inr d ↦
-        let i : sum_below n (λ k. h (upd f s v k)) + h (f s) ≡ sum_below n (λ k. h (f k)) + h v = sum-upd_in h f s v n (omega arith) in
-        let o : h (upd f s v n) ≡ h (f n) = ap h (upd_other f s v n (omega arith)) in
-        omega arith ]
+      | inl e ↦ sum_last h f s v n e
+      | inr d ↦
+          let i : sum_below n (λ k. h (upd f s v k)) + h (f s) ≡ sum_below n (λ k. h (f k)) + h v = sum-upd_in h f s v n (omega arith) in
+          let o : h (upd f s v n) ≡ h (f n) = ap h (upd_other f s v n (omega arith)) in
+          omega arith
+    ]
   where
     sum_last : {A : Type 0} (h : A → ℕ) (f : ℕ → A) (s : ℕ) (v : A) (n : ℕ) → s ≡ n
         → sum_below n (λ k. h (upd f s v k)) + h (upd f s v n) + h (f s) ≡ sum_below n (λ k. h (f k)) + h (f n) + h v
@@ -82,7 +82,7 @@ pub count_kept : {A : Type 0} (p : A → Bool) (f : ℕ → A) (s : ℕ) (v : A)
     → count_below n (λ k. p (upd f s v k)) ≡ count_below n (λ k. p (f k))
 count_kept p f s v n same =
     count_same (λ k. p (upd f s v k)) (λ k. p (f k)) n
-        (λ k below. elim (upd_cases f s v k) [ inl (e, u) ↦ ap p u ∙ same ∙ ap (λ j. p (f j)) (sym e) | inr (d, u) ↦ ap p u ])
+    (λ k below. elim (upd_cases f s v k) [ inl (e, u) ↦ ap p u ∙ same ∙ ap (λ j. p (f j)) (sym e) | inr (d, u) ↦ ap p u ])
 
 -- at most as many do, where the new value passes only if the old one did
 pub count_at_most : {A : Type 0} (p : A → Bool) (f : ℕ → A) (s : ℕ) (v : A) (n : ℕ) → s < n → (p v ≡ true → p (f s) ≡ true)
@@ -99,8 +99,9 @@ unfolding count_below
 count_some p s zero below h = absurd (omega arith)
 count_some p s (suc n) below h =
     elim (cases_eq s n) [
-      inl e ↦ let x : one_if (p n) ≡ 1 = ap one_if (ap p (sym e) ∙ h) in omega arith
-    | inr d ↦ let i : 0 < count_below n p = count_some p s n (omega arith) h in omega arith ]
+      | inl e ↦ let x : one_if (p n) ≡ 1 = ap one_if (ap p (sym e) ∙ h) in omega arith
+      | inr d ↦ let i : 0 < count_below n p = count_some p s n (omega arith) h in omega arith
+    ]
 
 -- where two seats at least pass, or one, the count is at most the number of seats
 pub count_bounded : (p : ℕ → Bool) (n : ℕ) → count_below n p ≤ n
@@ -118,8 +119,9 @@ unfolding count_below
 count_room p s zero below h = absurd (omega arith)
 count_room p s (suc n) below h =
     elim (cases_eq s n) [
-      inl e ↦ let x : one_if (p n) ≡ 0 = ap one_if (ap p (sym e) ∙ h) in let i : count_below n p ≤ n = count_bounded p n in omega arith
-    | inr d ↦ let i : count_below n p < n = count_room p s n (omega arith) h in let x : one_if (p n) ≤ 1 = one_at_most (p n) in omega arith ]
+      | inl e ↦ let x : one_if (p n) ≡ 0 = ap one_if (ap p (sym e) ∙ h) in let i : count_below n p ≤ n = count_bounded p n in omega arith
+      | inr d ↦ let i : count_below n p < n = count_room p s n (omega arith) h in let x : one_if (p n) ≤ 1 = one_at_most (p n) in omega arith
+    ]
   where
     one_at_most : (b : Bool) → one_if b ≤ 1
     one_at_most true = omega arith

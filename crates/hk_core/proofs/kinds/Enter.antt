@@ -1,21 +1,19 @@
 -- A call enters its object: the header has one more accessor and a greater version, and the call knows the place.
-use Rattle.std.proofs.Common.{◌≡◌, ◌≢◌, ◌⊎◌, ℕ, ◌+◌, ◌-◌, ◌*◌, ◌/◌, ◌%◌, ◌<◌, ◌≤◌, Bool, true, false, inl, inr, refl, sym, ◌∙◌, ap, arith, Option, Some, None}
-use Rattle.std.proofs.lemmas.Bool.{cases_eq, both_ways, and_parts, and_from, ltb-true, lt-ltb, cases_Bool, eq-eqb, ne_eqb}
-use Rattle.std.specs.Prelude.{nat_eq, nat_lt, nat_le, ◌&&◌}
+use Rattle.std.proofs.Common.{◌≡◌, ◌≢◌, ℕ, ◌+◌, ◌<◌, ◌≤◌, true, false, inl, inr, refl, sym, ◌∙◌, ap, arith, Option, Some}
+use Rattle.std.proofs.lemmas.Bool.{eq-eqb, ne_eqb}
+use Rattle.std.specs.Prelude.{nat_eq}
 use Rattle.hk_words.specs.declared.geometry.Geometry.{Geometry}
 use Rattle.hk_words.specs.declared.call.Call.{Call}
 use Rattle.hk_words.specs.declared.call.Call.TheVariants as call
-use Rattle.hk_words.specs.Geometry.{tasks, numbers, list_length}
+use Rattle.hk_words.specs.Geometry.{tasks}
 use Rattle.hk_words.specs.Layout as layout
 use Rattle.hk_model.specs.View.{upd}
-use Rattle.hk_model.proofs.Updates.{upd_same, upd_other}
+use Rattle.hk_model.proofs.Updates.{upd_other}
 use Rattle.hk_core.specs.declared.flight.Flight.{Flight}
 use Rattle.hk_core.specs.declared.spot.Spot.{Spot}
 use Rattle.hk_core.specs.declared.spot.Line.{Line}
 use Rattle.hk_core.specs.declared.spot.Line.TheVariants as line
-use Rattle.hk_core.specs.declared.spot.Stage.{Stage}
 use Rattle.hk_core.specs.declared.spot.Stage.TheVariants as stage
-use Rattle.hk_core.specs.Step.{places_of}
 use Rattle.hk_core.specs.Collect.{current_space, next_list}
 use Rattle.hk_core.specs.Counts.{count_below, sum_below}
 use Rattle.hk_core.specs.View.{Words, Names, Contents}
@@ -62,15 +60,16 @@ pub counted_enter : (g : Geometry) (accessors : ℕ → ℕ) (flight : ℕ → F
 counted_enter g accessors flight s y n below was now h m fits =
     let before : accessors m ≡ count_below (tasks g) (λ t. f.is_inside (flight t) m) = h m fits in
     elim (upd_cases accessors n (accessors n + 1) m) [
-      inl (e, u) ↦
-        let more : count_below (tasks g) (λ t. f.is_inside (upd flight s y t) m) ≡ count_below (tasks g) (λ t. f.is_inside (flight t) m) + 1 =
-            count_more (λ x. f.is_inside x m) flight s y (tasks g) below (was m) (now m ∙ eq-eqb n m (sym e)) in
-        let same : accessors m ≡ accessors n = ap accessors e in
-        omega arith
-    | inr (d, u) ↦
-        let as_many : count_below (tasks g) (λ t. f.is_inside (upd flight s y t) m) ≡ count_below (tasks g) (λ t. f.is_inside (flight t) m) =
-            count_kept (λ x. f.is_inside x m) flight s y (tasks g) (now m ∙ ne_eqb n m (λ e. d (sym e)) ∙ sym (was m)) in
-        omega arith ]
+      | inl (e, u) ↦
+          let more : count_below (tasks g) (λ t. f.is_inside (upd flight s y t) m) ≡ count_below (tasks g) (λ t. f.is_inside (flight t) m) + 1 =
+          count_more (λ x. f.is_inside x m) flight s y (tasks g) below (was m) (now m ∙ eq-eqb n m (sym e)) in
+          let same : accessors m ≡ accessors n = ap accessors e in
+          omega arith
+      | inr (d, u) ↦
+          let as_many : count_below (tasks g) (λ t. f.is_inside (upd flight s y t) m) ≡ count_below (tasks g) (λ t. f.is_inside (flight t) m) =
+          count_kept (λ x. f.is_inside x m) flight s y (tasks g) (now m ∙ ne_eqb n m (λ e. d (sym e)) ∙ sym (was m)) in
+          omega arith
+    ]
 
 -- a call that had still to enter an object has entered it
 pub versions_enter : (g : Geometry) (version : ℕ → ℕ) (flight : ℕ → Flight) (begun : ℕ → ℕ) (s : ℕ) (y : Flight) (n : ℕ) → s < tasks g
@@ -79,10 +78,11 @@ pub versions_enter : (g : Geometry) (version : ℕ → ℕ) (flight : ℕ → Fl
 versions_enter g version flight begun s y n below was now h m fits =
     let before : version m + count_below (tasks g) (λ t. f.before_object (flight t)) ≤ sum_below (tasks g) begun = h m fits in
     let less : count_below (tasks g) (λ t. f.before_object (upd flight s y t)) + 1 ≡ count_below (tasks g) (λ t. f.before_object (flight t)) =
-        count_less f.before_object flight s y (tasks g) below was now in
+    count_less f.before_object flight s y (tasks g) below was now in
     elim (upd_cases version n (version n + 1) m) [
-      inl (e, u) ↦ let same : version m ≡ version n = ap version e in omega arith
-    | inr (d, u) ↦ omega arith ]
+      | inl (e, u) ↦ let same : version m ≡ version n = ap version e in omega arith
+      | inr (d, u) ↦ omega arith
+    ]
 
 -- THE HEADER
 
@@ -111,18 +111,20 @@ behind_enter : (first : ℕ) (accessors place version : ℕ → ℕ) (n m : ℕ)
 behind_enter first accessors place version n m o =
     let behind : layout.header_version first ≤ version m = o.behind in
     elim (upd_cases version n (version n + 1) m) [
-      inl (e, u) ↦
-        let same : version m ≡ version n = ap version e in
-        record { nobody = o.nobody; placed = o.placed; behind = omega arith; same_accessors = λ v. absurd (omega arith) }
-    | inr (d, u) ↦
-        record { nobody = o.nobody; placed = o.placed; behind = omega arith; same_accessors = λ v. upd_other accessors n (accessors n + 1) m d ∙ o.same_accessors (sym u ∙ v) } ]
+      | inl (e, u) ↦
+          let same : version m ≡ version n = ap version e in
+          record { nobody = o.nobody; placed = o.placed; behind = omega arith; same_accessors = λ v. absurd (omega arith) }
+      | inr (d, u) ↦
+          record { nobody = o.nobody; placed = o.placed; behind = omega arith; same_accessors = λ v. upd_other accessors n (accessors n + 1) m d ∙ o.same_accessors (sym u ∙ v) }
+    ]
 
 -- so a header that is the loaded one is that of another number
 pub version_before : (loaded : ℕ) (version : ℕ → ℕ) (n m : ℕ) → loaded ≤ version m → upd version n (version n + 1) m ≡ loaded → version m ≡ loaded
 version_before loaded version n m behind same =
     elim (upd_cases version n (version n + 1) m) [
-      inl (e, u) ↦ let p : version m ≡ version n = ap version e in absurd (omega arith)
-    | inr (d, u) ↦ sym u ∙ same ]
+      | inl (e, u) ↦ let p : version m ≡ version n = ap version e in absurd (omega arith)
+      | inr (d, u) ↦ sym u ∙ same
+    ]
 
 -- a cell that was loaded is one of an attempt
 loaded_in_attempt : (t : Spot) (ln : Line) (i : ℕ) → l.cell_loaded ln ≡ Some i → l.object_attempt t ln ≡ Some i
@@ -179,7 +181,6 @@ module _ (x : Flight) (q at : ℕ) (t : EntersObject x.call x.place q) where
 
 module _ (g : Geometry) (w : Words) (z : Spaces) (sh : Shades) (flight : ℕ → Flight) (begun : ℕ → ℕ) (hand : ℕ → Hand) (t : Spot)
     (names : Names) (contents : Contents) (range : ℕ → Option ℕ) (s q : ℕ) where
-
   pub enter_object_facts : s < tasks g → EntersObject (flight s).call (flight s).place q → KeptMeans g w (held_by g flight) t.line names sh
       → Facts g w z sh flight begun hand t names contents range
       → Facts g (entering_words w (object_of (flight s))) z sh (upd flight s (moved_on (flight s) q (w.place (object_of (flight s))))) begun hand t names contents range
@@ -189,38 +190,41 @@ module _ (g : Geometry) (w : Words) (z : Spaces) (sh : Shades) (flight : ℕ →
       let y = moved_on x q (w.place n) in
       let good : IsGood sh.kept names x.entered = h.entered_good s below e.through e.goes.flying in
       let counted : fact.AccessorsCounted g (upd w.accessors n (w.accessors n + 1)) (upd flight s y) =
-          counted_enter g w.accessors flight s y n below (enters_from_outside x q (w.place n) e) (enters_to_inside x q (w.place n) e) h.accessors_counted in
+      counted_enter g w.accessors flight s y n below (enters_from_outside x q (w.place n) e) (enters_to_inside x q (w.place n) e) h.accessors_counted in
       let versions : fact.VersionsBounded g (upd w.version n (w.version n + 1)) (upd flight s y) begun =
-          versions_enter g w.version flight begun s y n below (enters_from_before x q (w.place n) e) (enters_past_before x q (w.place n) e) h.versions_bounded in
+      versions_enter g w.version flight begun s y n below (enters_from_before x q (w.place n) e) (enters_past_before x q (w.place n) e) h.versions_bounded in
       let frames : fact.FrameAccessorsCounted g w.frame_accessors (upd flight s y) =
-          frames_counted_kept g flight s y w.frame_accessors below (enters_same_frame x q (w.place n) e) h.frame_accessors_counted in
+      frames_counted_kept g flight s y w.frame_accessors below (enters_same_frame x q (w.place n) e) h.frame_accessors_counted in
       let frame_versions : fact.FrameVersionsBounded g w.frame_version (upd flight s y) begun =
-          frame_versions_kept g flight s y w.frame_version begun (enters_before_frame x q (w.place n) e) h.frame_versions_bounded in
+      frame_versions_kept g flight s y w.frame_version begun (enters_before_frame x q (w.place n) e) h.frame_versions_bounded in
       let news : NewsFacts g w sh flight = assumption in
       let own : fact.OwnEntries g (upd w.accessors n (w.accessors n + 1)) w.place (upd w.version n (w.version n + 1)) w.mark w.entry flight =
-          λ u b making. own_enter g w.accessors w.place w.version w.mark (flight u) n (fact.own_entry w.entry (flight u))
-              (own_not_kept g w sh names t.line flight means news u n b making good.is_kept) (h.own_entries u b making) in
+      λ u b making. own_enter g w.accessors w.place w.version w.mark (flight u) n (fact.own_entry w.entry (flight u))
+      (own_not_kept g w sh names t.line flight means news u n b making good.is_kept) (h.own_entries u b making) in
       let between : CallsFacts g (entering_words w n) sh t.line names contents flight = assumption in
       let calls : CallsFacts g (entering_words w n) sh t.line names contents (upd flight s y) =
-          calls_upd g (entering_words w n) sh t.line names contents flight s y
-              (goes_so x q (w.place n) e.goes g (entering_words w n) sh t.line names contents flight s below refl e.same_claim e.same_item (λ _. refl) between) between in
+      calls_upd g (entering_words w n) sh t.line names contents flight s y
+      (goes_so x q (w.place n) e.goes g (entering_words w n) sh t.line names contents flight s below refl e.same_claim e.same_item (λ _. refl) between) between in
       let unread : fact.UnreadFree g w.cycle w.objects (upd w.accessors n (w.accessors n + 1)) w.place (upd w.version n (w.version n + 1)) w.mark (w.entry (current_space w.cycle)) = λ j a b.
-          let o = h.unread_free j a b in
-          record { within = o.within; is_marked = o.is_marked;
-            no_header = headless_enter w.accessors w.place w.version n (w.entry (current_space w.cycle) j)
-                (headless_not_kept g w sh names t.line flight means n (w.entry (current_space w.cycle) j) good.is_kept o.no_header.no_place) o.no_header } in
+      let o = h.unread_free j a b in
+      record {
+        within = o.within;
+        is_marked = o.is_marked;
+        no_header = headless_enter w.accessors w.place w.version n (w.entry (current_space w.cycle) j)
+            (headless_not_kept g w sh names t.line flight means n (w.entry (current_space w.cycle) j) good.is_kept o.no_header.no_place) o.no_header;
+      } in
       let written : fact.WrittenEmpty (l.emptied g t t.line) (upd w.accessors n (w.accessors n + 1)) w.place (upd w.version n (w.version n + 1)) (w.entry (next_list w.cycle)) = λ j b.
-          let o = h.written_empty j b in
-          headless_enter w.accessors w.place w.version n (w.entry (next_list w.cycle) j)
-              (headless_not_kept g w sh names t.line flight means n (w.entry (next_list w.cycle) j) good.is_kept o.no_place) o in
+      let o = h.written_empty j b in
+      headless_enter w.accessors w.place w.version n (w.entry (next_list w.cycle) j)
+      (headless_not_kept g w sh names t.line flight means n (w.entry (next_list w.cycle) j) good.is_kept o.no_place) o in
       let attempt : fact.ObjectAttemptBehind t t.line t.first t.item (upd w.accessors n (w.accessors n + 1)) w.place (upd w.version n (w.version n + 1)) = λ passed a.
-          behind_enter t.first w.accessors w.place w.version n (layout.reference_number t.item) (h.object_attempt_behind passed a) in
+      behind_enter t.first w.accessors w.place w.version n (layout.reference_number t.item) (h.object_attempt_behind passed a) in
       let passed_cells : fact.CellsPassed t t.line w.cycle t.first t.item (upd w.version n (w.version n + 1)) w.mark w.cell = λ passed i a v.
-          h.cells_passed passed i a (version_before _ w.version n (layout.reference_number t.item) (h.object_attempt_behind passed a).behind v) in
+      h.cells_passed passed i a (version_before _ w.version n (layout.reference_number t.item) (h.object_attempt_behind passed a).behind v) in
       let copied_cells : fact.CellsCopied z t t.line t.scan t.first t.item (upd w.version n (w.version n + 1)) w.cell = λ passed i a v.
-          h.cells_copied passed i a (version_before _ w.version n (layout.reference_number t.item) (h.object_attempt_behind passed a).behind v) in
+      h.cells_copied passed i a (version_before _ w.version n (layout.reference_number t.item) (h.object_attempt_behind passed a).behind v) in
       let loaded : fact.CellLoaded t.line t.first t.item t.cell (upd w.version n (w.version n + 1)) w.cell = λ i a v.
-          h.cell_loaded i a (version_before _ w.version n (layout.reference_number t.item) (h.object_attempt_behind i (loaded_in_attempt t t.line i a)).behind v) in
+      h.cell_loaded i a (version_before _ w.version n (layout.reference_number t.item) (h.object_attempt_behind i (loaded_in_attempt t t.line i a)).behind v) in
       assumption
 
 -- what many facts read of the words is the same after the entering
@@ -238,18 +242,33 @@ enter_object g w flight begun t names contents range s q below e h =
     let y = moved_on x q (w.place n) in
     let hands : hands_of g (upd flight s y) t ≡ hands_of g flight t = hands_upd g t flight s y (goes_hand x q (w.place n) e.goes g e.same_claim) in
     let shades : shades_of g (entering_words w n) (upd flight s y) t.line names ≡ shades_of g (entering_words w n) flight t.line names =
-        shades_upd g (entering_words w n) t.line names flight s y (goes_without_number x q (w.place n) e.goes) ((goes_making_nothing x q (w.place n) e.goes).no_number) in
+    shades_upd g (entering_words w n) t.line names flight s y (goes_without_number x q (w.place n) e.goes) ((goes_making_nothing x q (w.place n) e.goes).no_number) in
     rw (hands, shades, shades_enter g w n flight t.line names)
-        (enter_object_facts g w (spaces_of g w.cycle) (shades_of g w flight t.line names) flight begun (hands_of g flight t) t names contents range s q below e
-            (kept_means g w flight t.line names) h)
+    (enter_object_facts g w (spaces_of g w.cycle) (shades_of g w flight t.line names) flight begun (hands_of g flight t) t names contents range s q below e
+    (kept_means g w flight t.line names) h)
 
 -- the calls that enter an object
 pub get_enters : (reg field : ℕ) → EntersObject (call.Get reg field) 1 2
 unfolding f.is_through f.in_object_at f.before_object_at f.register_stays_at f.is_load_at f.is_new_at f.in_frame_at f.before_frame_at f.has_cycle_inside_at f.has_claimed_at f.reserves_at f.links_at f.has_item_at f.holds_back_at
 get_enters reg field = record {
-  through = refl; outside = refl; inside = refl; before = refl; after = refl;
-  goes = record { flying = refl; in_row = omega arith; in_step = λ full raised h. h; register_stays = refl; is_load = refl; will_raise = refl;
-    raised_before = refl; raised = refl; making = refl; numbered_before = refl; numbered = refl };
+  through = refl;
+  outside = refl;
+  inside = refl;
+  before = refl;
+  after = refl;
+  goes = record {
+    flying = refl;
+    in_row = omega arith;
+    in_step = λ full raised h. h;
+    register_stays = refl;
+    is_load = refl;
+    will_raise = refl;
+    raised_before = refl;
+    raised = refl;
+    making = refl;
+    numbered_before = refl;
+    numbered = refl;
+  };
   same_frame = record { inside = refl; before = refl };
   same_claim = record { has_cycle_in_frame = λ h. h; has_cycle = λ b h. h; has_claimed = λ h. h; reserves = refl; links = refl };
   same_item = record { has_item = refl; has_loaded = refl; has_loaded_inside = λ h. h; has_written = refl; holds_back = λ r. refl };
@@ -258,9 +277,24 @@ get_enters reg field = record {
 pub put_enters : (reg field value : ℕ) → EntersObject (call.Put reg field value) 1 2
 unfolding f.is_through f.in_object_at f.before_object_at f.register_stays_at f.is_load_at f.is_new_at f.in_frame_at f.before_frame_at f.has_cycle_inside_at f.has_claimed_at f.reserves_at f.links_at f.has_item_at f.holds_back_at
 put_enters reg field value = record {
-  through = refl; outside = refl; inside = refl; before = refl; after = refl;
-  goes = record { flying = refl; in_row = omega arith; in_step = λ full raised h. h; register_stays = refl; is_load = refl; will_raise = refl;
-    raised_before = refl; raised = refl; making = refl; numbered_before = refl; numbered = refl };
+  through = refl;
+  outside = refl;
+  inside = refl;
+  before = refl;
+  after = refl;
+  goes = record {
+    flying = refl;
+    in_row = omega arith;
+    in_step = λ full raised h. h;
+    register_stays = refl;
+    is_load = refl;
+    will_raise = refl;
+    raised_before = refl;
+    raised = refl;
+    making = refl;
+    numbered_before = refl;
+    numbered = refl;
+  };
   same_frame = record { inside = refl; before = refl };
   same_claim = record { has_cycle_in_frame = λ h. h; has_cycle = λ b h. h; has_claimed = λ h. h; reserves = refl; links = refl };
   same_item = record { has_item = refl; has_loaded = refl; has_loaded_inside = λ h. h; has_written = refl; holds_back = λ r. refl };
@@ -269,9 +303,24 @@ put_enters reg field value = record {
 pub store_enters : (reg field from : ℕ) → EntersObject (call.Store reg field from) 1 2
 unfolding f.is_through f.in_object_at f.before_object_at f.register_stays_at f.is_load_at f.is_new_at f.in_frame_at f.before_frame_at f.has_cycle_inside_at f.has_claimed_at f.reserves_at f.links_at f.has_item_at f.holds_back_at
 store_enters reg field from = record {
-  through = refl; outside = refl; inside = refl; before = refl; after = refl;
-  goes = record { flying = refl; in_row = omega arith; in_step = λ full raised h. h; register_stays = refl; is_load = refl; will_raise = refl;
-    raised_before = refl; raised = refl; making = refl; numbered_before = refl; numbered = refl };
+  through = refl;
+  outside = refl;
+  inside = refl;
+  before = refl;
+  after = refl;
+  goes = record {
+    flying = refl;
+    in_row = omega arith;
+    in_step = λ full raised h. h;
+    register_stays = refl;
+    is_load = refl;
+    will_raise = refl;
+    raised_before = refl;
+    raised = refl;
+    making = refl;
+    numbered_before = refl;
+    numbered = refl;
+  };
   same_frame = record { inside = refl; before = refl };
   same_claim = record { has_cycle_in_frame = λ h. h; has_cycle = λ b h. h; has_claimed = λ h. h; reserves = refl; links = refl };
   same_item = record { has_item = refl; has_loaded = refl; has_loaded_inside = λ h. h; has_written = refl; holds_back = λ r. refl };
@@ -280,9 +329,24 @@ store_enters reg field from = record {
 pub load_enters : (dest reg field : ℕ) → EntersObject (call.Load dest reg field) 2 3
 unfolding f.is_through f.in_object_at f.before_object_at f.register_stays_at f.is_load_at f.is_new_at f.in_frame_at f.before_frame_at f.has_cycle_inside_at f.has_claimed_at f.reserves_at f.links_at f.has_item_at f.holds_back_at
 load_enters dest reg field = record {
-  through = refl; outside = refl; inside = refl; before = refl; after = refl;
-  goes = record { flying = refl; in_row = omega arith; in_step = λ full raised h. h; register_stays = refl; is_load = refl; will_raise = refl;
-    raised_before = refl; raised = refl; making = refl; numbered_before = refl; numbered = refl };
+  through = refl;
+  outside = refl;
+  inside = refl;
+  before = refl;
+  after = refl;
+  goes = record {
+    flying = refl;
+    in_row = omega arith;
+    in_step = λ full raised h. h;
+    register_stays = refl;
+    is_load = refl;
+    will_raise = refl;
+    raised_before = refl;
+    raised = refl;
+    making = refl;
+    numbered_before = refl;
+    numbered = refl;
+  };
   same_frame = record { inside = refl; before = refl };
   same_claim = record { has_cycle_in_frame = λ h. h; has_cycle = λ b h. h; has_claimed = λ h. h; reserves = refl; links = refl };
   same_item = record { has_item = refl; has_loaded = refl; has_loaded_inside = λ h. h; has_written = refl; holds_back = λ r. refl };

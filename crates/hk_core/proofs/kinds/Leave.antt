@@ -1,19 +1,18 @@
 -- A call leaves its object: the header has one accessor less.
-use Rattle.std.proofs.Common.{◌≡◌, ◌≢◌, ◌⊎◌, ℕ, ◌+◌, ◌-◌, ◌*◌, ◌/◌, ◌%◌, ◌<◌, ◌≤◌, Bool, true, false, inl, inr, refl, sym, ◌∙◌, ap, arith, Option, Some, None}
+use Rattle.std.proofs.Common.{◌≡◌, ◌≢◌, ℕ, ◌+◌, ◌-◌, ◌<◌, true, false, inl, inr, refl, sym, ◌∙◌, ap, arith, Option}
 use Rattle.std.proofs.lemmas.Bool.{both_ways, eq-eqb, ne_eqb}
-use Rattle.std.specs.Prelude.{nat_eq, nat_lt, nat_le, ◌&&◌}
+use Rattle.std.specs.Prelude.{nat_eq, nat_le}
 use Rattle.hk_words.specs.declared.geometry.Geometry.{Geometry}
 use Rattle.hk_words.specs.declared.call.Call.{Call}
 use Rattle.hk_words.specs.declared.call.Call.TheVariants as call
-use Rattle.hk_words.specs.Geometry.{tasks, numbers, list_length}
+use Rattle.hk_words.specs.Geometry.{tasks}
 use Rattle.hk_words.specs.Layout as layout
 use Rattle.hk_model.specs.View.{upd}
-use Rattle.hk_model.proofs.Updates.{upd_same, upd_other}
+use Rattle.hk_model.proofs.Updates.{upd_other}
 use Rattle.hk_core.specs.declared.flight.Flight.{Flight}
 use Rattle.hk_core.specs.declared.spot.Spot.{Spot}
 use Rattle.hk_core.specs.declared.spot.Line.{Line}
 use Rattle.hk_core.specs.State.{idle}
-use Rattle.hk_core.specs.Step.{places_of}
 use Rattle.hk_core.specs.Collect.{current_space, next_list}
 use Rattle.hk_core.specs.Counts.{count_below}
 use Rattle.hk_core.specs.View.{Words, Names, Contents}
@@ -41,15 +40,16 @@ pub counted_leave : (g : Geometry) (accessors : ℕ → ℕ) (flight : ℕ → F
 counted_leave g accessors flight s y n below was now h m fits =
     let before : accessors m ≡ count_below (tasks g) (λ t. f.is_inside (flight t) m) = h m fits in
     elim (upd_cases accessors n (accessors n - 1) m) [
-      inl (e, u) ↦
-        let less : count_below (tasks g) (λ t. f.is_inside (upd flight s y t) m) + 1 ≡ count_below (tasks g) (λ t. f.is_inside (flight t) m) =
-            count_less (λ x. f.is_inside x m) flight s y (tasks g) below (was m ∙ eq-eqb n m (sym e)) (now m) in
-        let same : accessors m ≡ accessors n = ap accessors e in
-        omega arith
-    | inr (d, u) ↦
-        let as_many : count_below (tasks g) (λ t. f.is_inside (upd flight s y t) m) ≡ count_below (tasks g) (λ t. f.is_inside (flight t) m) =
-            count_kept (λ x. f.is_inside x m) flight s y (tasks g) (now m ∙ sym (was m ∙ ne_eqb n m (λ e. d (sym e)))) in
-        omega arith ]
+      | inl (e, u) ↦
+          let less : count_below (tasks g) (λ t. f.is_inside (upd flight s y t) m) + 1 ≡ count_below (tasks g) (λ t. f.is_inside (flight t) m) =
+          count_less (λ x. f.is_inside x m) flight s y (tasks g) below (was m ∙ eq-eqb n m (sym e)) (now m) in
+          let same : accessors m ≡ accessors n = ap accessors e in
+          omega arith
+      | inr (d, u) ↦
+          let as_many : count_below (tasks g) (λ t. f.is_inside (upd flight s y t) m) ≡ count_below (tasks g) (λ t. f.is_inside (flight t) m) =
+          count_kept (λ x. f.is_inside x m) flight s y (tasks g) (now m ∙ sym (was m ∙ ne_eqb n m (λ e. d (sym e)))) in
+          omega arith
+    ]
 
 headless_leave : (accessors place version : ℕ → ℕ) (n m : ℕ) → m ≢ n → HasNoHeader accessors place version m → HasNoHeader (upd accessors n (accessors n - 1)) place version m
 headless_leave accessors place version n m d o = record {
@@ -77,13 +77,13 @@ behind_leave first accessors place version n m o = record {
   same_accessors = λ v.
       let none : accessors m ≡ 0 = o.same_accessors v in
       elim (upd_cases accessors n (accessors n - 1) m) [
-        inl (e, u) ↦ let same : accessors m ≡ accessors n = ap accessors e in omega arith
-      | inr (d, u) ↦ u ∙ none ];
+        | inl (e, u) ↦ let same : accessors m ≡ accessors n = ap accessors e in omega arith
+        | inr (d, u) ↦ u ∙ none
+      ];
 }
 
 module _ (g : Geometry) (w : Words) (z : Spaces) (sh : Shades) (flight : ℕ → Flight) (begun : ℕ → ℕ) (hand : ℕ → Hand) (t : Spot)
     (names : Names) (contents : Contents) (range : ℕ → Option ℕ) (s : ℕ) (y : Flight) where
-
   -- what a flight shows that leaves the object
   pub record LeavesObject : Type 0 where
     pub through : f.is_through (flight s).call ≡ true
@@ -102,28 +102,31 @@ module _ (g : Geometry) (w : Words) (z : Spaces) (sh : Shades) (flight : ℕ →
       let n = object_of (flight s) in
       let good : IsGood sh.kept names (flight s).entered = h.entered_good s below e.through e.flying in
       let counted : fact.AccessorsCounted g (upd w.accessors n (w.accessors n - 1)) (upd flight s y) =
-          counted_leave g w.accessors flight s y n below e.was_inside e.now_outside h.accessors_counted in
+      counted_leave g w.accessors flight s y n below e.was_inside e.now_outside h.accessors_counted in
       let versions : fact.VersionsBounded g w.version (upd flight s y) begun = versions_kept g flight s y w.version begun e.before_object h.versions_bounded in
       let frames : fact.FrameAccessorsCounted g w.frame_accessors (upd flight s y) = frames_counted_kept g flight s y w.frame_accessors below e.in_frame h.frame_accessors_counted in
       let frame_versions : fact.FrameVersionsBounded g w.frame_version (upd flight s y) begun = frame_versions_kept g flight s y w.frame_version begun e.before_frame h.frame_versions_bounded in
       let news : NewsFacts g w sh flight = assumption in
       let own : fact.OwnEntries g (upd w.accessors n (w.accessors n - 1)) w.place w.version w.mark w.entry flight =
-          λ u b making. own_leave g w.accessors w.place w.version w.mark (flight u) n (fact.own_entry w.entry (flight u))
-              (own_not_kept g w sh names t.line flight means news u n b making good.is_kept) (h.own_entries u b making) in
+      λ u b making. own_leave g w.accessors w.place w.version w.mark (flight u) n (fact.own_entry w.entry (flight u))
+      (own_not_kept g w sh names t.line flight means news u n b making good.is_kept) (h.own_entries u b making) in
       let between : CallsFacts g (leaving_words w n) sh t.line names contents flight = assumption in
       let calls : CallsFacts g (leaving_words w n) sh t.line names contents (upd flight s y) =
-          calls_upd g (leaving_words w n) sh t.line names contents flight s y (change between) between in
+      calls_upd g (leaving_words w n) sh t.line names contents flight s y (change between) between in
       let unread : fact.UnreadFree g w.cycle w.objects (upd w.accessors n (w.accessors n - 1)) w.place w.version w.mark (w.entry (current_space w.cycle)) = λ j a b.
-          let o = h.unread_free j a b in
-          record { within = o.within; is_marked = o.is_marked;
-            no_header = headless_leave w.accessors w.place w.version n (w.entry (current_space w.cycle) j)
-                (headless_not_kept g w sh names t.line flight means n (w.entry (current_space w.cycle) j) good.is_kept o.no_header.no_place) o.no_header } in
+      let o = h.unread_free j a b in
+      record {
+        within = o.within;
+        is_marked = o.is_marked;
+        no_header = headless_leave w.accessors w.place w.version n (w.entry (current_space w.cycle) j)
+            (headless_not_kept g w sh names t.line flight means n (w.entry (current_space w.cycle) j) good.is_kept o.no_header.no_place) o.no_header;
+      } in
       let written : fact.WrittenEmpty (l.emptied g t t.line) (upd w.accessors n (w.accessors n - 1)) w.place w.version (w.entry (next_list w.cycle)) = λ j b.
-          let o = h.written_empty j b in
-          headless_leave w.accessors w.place w.version n (w.entry (next_list w.cycle) j)
-              (headless_not_kept g w sh names t.line flight means n (w.entry (next_list w.cycle) j) good.is_kept o.no_place) o in
+      let o = h.written_empty j b in
+      headless_leave w.accessors w.place w.version n (w.entry (next_list w.cycle) j)
+      (headless_not_kept g w sh names t.line flight means n (w.entry (next_list w.cycle) j) good.is_kept o.no_place) o in
       let attempt : fact.ObjectAttemptBehind t t.line t.first t.item (upd w.accessors n (w.accessors n - 1)) w.place w.version = λ passed a.
-          behind_leave t.first w.accessors w.place w.version n (layout.reference_number t.item) (h.object_attempt_behind passed a) in
+      behind_leave t.first w.accessors w.place w.version n (layout.reference_number t.item) (h.object_attempt_behind passed a) in
       assumption
 
 -- what many facts read of the words is the same after the leaving
@@ -167,12 +170,12 @@ leave_object_last g w flight begun t names contents range s below e h =
     let sh = shades_of g w flight t.line names in
     let hands : hands_of g (upd flight s y) t ≡ hands_of g flight t = hands_upd g t flight s y (ends_hand x e.ends g) in
     let shades : shades_of g (leaving_words w n) (upd flight s y) t.line names ≡ shades_of g (leaving_words w n) flight t.line names =
-        shades_upd g (leaving_words w n) t.line names flight s y (ends_without_number x e.ends) ((idle_makes_nothing x.seat).no_number) in
+    shades_upd g (leaving_words w n) t.line names flight s y (ends_without_number x e.ends) ((idle_makes_nothing x.seat).no_number) in
     rw (hands, shades, shades_leave g w n flight t.line names)
-        (leave_object_facts g w z sh flight begun (hands_of g flight t) t names contents range s y below
-            (ends_in_object flight s g w z sh begun (hands_of g flight t) t names contents range e)
-            (kept_means g w flight t.line names)
-            (λ b. ends_so x e.ends g (leaving_words w n) sh t.line names contents flight s below refl b) h)
+    (leave_object_facts g w z sh flight begun (hands_of g flight t) t names contents range s y below
+    (ends_in_object flight s g w z sh begun (hands_of g flight t) t names contents range e)
+    (kept_means g w flight t.line names)
+    (λ b. ends_so x e.ends g (leaving_words w n) sh t.line names contents flight s below refl b) h)
 
 -- A LOAD, WHICH GOES ON
 
@@ -217,36 +220,65 @@ leave_object g w flight begun t names contents range s q below e h =
     let sh = shades_of g w flight t.line names in
     let hands : hands_of g (upd flight s y) t ≡ hands_of g flight t = hands_upd g t flight s y (goes_hand x q x.at e.goes g e.same_claim) in
     let shades : shades_of g (leaving_words w n) (upd flight s y) t.line names ≡ shades_of g (leaving_words w n) flight t.line names =
-        shades_upd g (leaving_words w n) t.line names flight s y (goes_without_number x q x.at e.goes) ((goes_making_nothing x q x.at e.goes).no_number) in
+    shades_upd g (leaving_words w n) t.line names flight s y (goes_without_number x q x.at e.goes) ((goes_making_nothing x q x.at e.goes).no_number) in
     rw (hands, shades, shades_leave g w n flight t.line names)
-        (leave_object_facts g w z sh flight begun (hands_of g flight t) t names contents range s y below
-            (leaves_and_goes_on flight s q x.at g w z sh begun (hands_of g flight t) t names contents range e)
-            (kept_means g w flight t.line names)
-            (λ b. goes_so x q x.at e.goes g (leaving_words w n) sh t.line names contents flight s below refl e.same_claim e.same_item
-                (outside_knows_nothing x q x.at e.outside) b) h)
+    (leave_object_facts g w z sh flight begun (hands_of g flight t) t names contents range s y below
+    (leaves_and_goes_on flight s q x.at g w z sh begun (hands_of g flight t) t names contents range e)
+    (kept_means g w flight t.line names)
+    (λ b. goes_so x q x.at e.goes g (leaving_words w n) sh t.line names contents flight s below refl e.same_claim e.same_item
+    (outside_knows_nothing x q x.at e.outside) b) h)
 
 -- the calls that leave an object
 pub get_leaves : (reg field : ℕ) → EndsInObject (call.Get reg field) 3
 unfolding f.is_through f.in_object_at f.in_frame_at f.before_object_at f.before_frame_at f.reserves_at f.links_at f.holds_back_at f.is_new_at
-get_leaves reg field = record { through = refl; flying = refl; inside = refl; no_frame = refl;
-  ends = record { before_object = refl; before_frame = refl; reserves = refl; links = refl; holds_back = λ r. refl; will_raise = refl; numbered = refl } }
+get_leaves reg field = record {
+  through = refl;
+  flying = refl;
+  inside = refl;
+  no_frame = refl;
+  ends = record { before_object = refl; before_frame = refl; reserves = refl; links = refl; holds_back = λ r. refl; will_raise = refl; numbered = refl };
+}
 
 pub put_leaves : (reg field value : ℕ) → EndsInObject (call.Put reg field value) 3
 unfolding f.is_through f.in_object_at f.in_frame_at f.before_object_at f.before_frame_at f.reserves_at f.links_at f.holds_back_at f.is_new_at
-put_leaves reg field value = record { through = refl; flying = refl; inside = refl; no_frame = refl;
-  ends = record { before_object = refl; before_frame = refl; reserves = refl; links = refl; holds_back = λ r. refl; will_raise = refl; numbered = refl } }
+put_leaves reg field value = record {
+  through = refl;
+  flying = refl;
+  inside = refl;
+  no_frame = refl;
+  ends = record { before_object = refl; before_frame = refl; reserves = refl; links = refl; holds_back = λ r. refl; will_raise = refl; numbered = refl };
+}
 
 pub store_leaves : (reg field from : ℕ) → EndsInObject (call.Store reg field from) 7
 unfolding f.is_through f.in_object_at f.in_frame_at f.before_object_at f.before_frame_at f.reserves_at f.links_at f.holds_back_at f.is_new_at
-store_leaves reg field from = record { through = refl; flying = refl; inside = refl; no_frame = refl;
-  ends = record { before_object = refl; before_frame = refl; reserves = refl; links = refl; holds_back = λ r. refl; will_raise = refl; numbered = refl } }
+store_leaves reg field from = record {
+  through = refl;
+  flying = refl;
+  inside = refl;
+  no_frame = refl;
+  ends = record { before_object = refl; before_frame = refl; reserves = refl; links = refl; holds_back = λ r. refl; will_raise = refl; numbered = refl };
+}
 
 pub load_leaves : (dest reg field : ℕ) → LeavesAndGoesOn (call.Load dest reg field) 9 10
 unfolding f.is_through f.in_object_at f.before_object_at f.register_stays_at f.is_load_at f.is_new_at f.in_frame_at f.before_frame_at f.has_cycle_inside_at f.has_claimed_at f.reserves_at f.links_at f.has_item_at f.holds_back_at
 load_leaves dest reg field = record {
-  through = refl; inside = refl; outside = refl; before = refl;
-  goes = record { flying = refl; in_row = omega arith; in_step = λ full raised h. h; register_stays = refl; is_load = refl; will_raise = refl;
-    raised_before = refl; raised = refl; making = refl; numbered_before = refl; numbered = refl };
+  through = refl;
+  inside = refl;
+  outside = refl;
+  before = refl;
+  goes = record {
+    flying = refl;
+    in_row = omega arith;
+    in_step = λ full raised h. h;
+    register_stays = refl;
+    is_load = refl;
+    will_raise = refl;
+    raised_before = refl;
+    raised = refl;
+    making = refl;
+    numbered_before = refl;
+    numbered = refl;
+  };
   same_frame = record { inside = refl; before = refl };
   same_claim = record { has_cycle_in_frame = λ h. h; has_cycle = λ b h. absurd (cc); has_claimed = λ h. absurd (cc); reserves = refl; links = refl };
   same_item = record { has_item = refl; has_loaded = refl; has_loaded_inside = λ h. absurd (cc); has_written = refl; holds_back = λ r. refl };

@@ -1,7 +1,6 @@
 -- A Load or a Store, inside its object, loads W0: it knows the cycle then. No word changes.
-use Rattle.std.proofs.Common.{◌≡◌, ◌≢◌, ◌⊎◌, ℕ, ◌+◌, ◌-◌, ◌*◌, ◌/◌, ◌%◌, ◌<◌, ◌≤◌, Bool, true, false, inl, inr, refl, sym, ◌∙◌, ap, arith, Option, Some, None}
+use Rattle.std.proofs.Common.{◌≡◌, ℕ, ◌<◌, false, inl, refl, sym, ◌∙◌, arith, Option}
 use Rattle.std.proofs.lemmas.Bool.{and_right}
-use Rattle.std.specs.Prelude.{nat_eq, nat_le, ◌&&◌}
 use Rattle.hk_words.specs.declared.geometry.Geometry.{Geometry}
 use Rattle.hk_words.specs.declared.call.Call.{Call}
 use Rattle.hk_words.specs.declared.call.Call.TheVariants as call
@@ -11,7 +10,6 @@ use Rattle.hk_model.specs.View.{upd}
 use Rattle.hk_core.specs.declared.flight.Flight.{Flight}
 use Rattle.hk_core.specs.declared.spot.Spot.{Spot}
 use Rattle.hk_core.specs.declared.spot.Line.{Line}
-use Rattle.hk_core.specs.Step.{places_of}
 use Rattle.hk_core.specs.View.{Words, Names, Contents}
 use Rattle.hk_core.specs.Flights as f
 use Rattle.hk_core.specs.Flights.{Hand, hand_of_flight}
@@ -110,7 +108,6 @@ module _ (x : Flight) (q word : ℕ) (t : LoadsCycle x.call x.place q) where
 
 module _ (g : Geometry) (w : Words) (z : Spaces) (sh : Shades) (flight : ℕ → Flight) (begun : ℕ → ℕ) (hand : ℕ → Hand) (t : Spot)
     (names : Names) (contents : Contents) (range : ℕ → Option ℕ) (s q word : ℕ) where
-
   pub load_cycle_facts : s < tasks g → LoadsCycle (flight s).call (flight s).place q → layout.w0_cycle word ≡ w.cycle
       → Facts g w z sh flight begun hand t names contents range
       → Facts g w z sh (upd flight s (loaded_on (flight s) q word)) begun hand t names contents range
@@ -123,7 +120,7 @@ module _ (g : Geometry) (w : Words) (z : Spaces) (sh : Shades) (flight : ℕ →
       let frame_versions : fact.FrameVersionsBounded g w.frame_version (upd flight s y) begun = frame_versions_kept g flight s y w.frame_version begun (loads_before_frame x q word e) h.frame_versions_bounded in
       let between : CallsFacts g w sh t.line names contents flight = assumption in
       let calls : CallsFacts g w sh t.line names contents (upd flight s y) =
-          calls_upd g w sh t.line names contents flight s y (loads_so x q word e g w sh t.line names contents flight s below refl cycle between) between in
+      calls_upd g w sh t.line names contents flight s y (loads_so x q word e g w sh t.line names contents flight s below refl cycle between) between in
       assumption
 
 -- all facts hold after a call inside its object has loaded W0
@@ -135,29 +132,59 @@ load_cycle g w flight begun t names contents range s q word below e cycle h =
     let y = loaded_on x q word in
     let hands : hands_of g (upd flight s y) t ≡ hands_of g flight t = hands_upd g t flight s y (loads_hand x q word e g) in
     let shades : shades_of g w (upd flight s y) t.line names ≡ shades_of g w flight t.line names =
-        shades_upd g w t.line names flight s y (goes_without_number x q x.at e.goes) ((loads_nothing_made x q word e).no_number) in
+    shades_upd g w t.line names flight s y (goes_without_number x q x.at e.goes) ((loads_nothing_made x q word e).no_number) in
     rw (hands, shades)
-        (load_cycle_facts g w (spaces_of g w.cycle) (shades_of g w flight t.line names) flight begun (hands_of g flight t) t names contents range s q word below e cycle h)
+    (load_cycle_facts g w (spaces_of g w.cycle) (shades_of g w flight t.line names) flight begun (hands_of g flight t) t names contents range s q word below e cycle h)
 
 -- the calls that load W0 inside their object
 pub load_loads_cycle : (dest reg field : ℕ) → LoadsCycle (call.Load dest reg field) 3 4
 unfolding f.in_object_at f.before_object_at f.register_stays_at f.is_load_at f.is_new_at f.in_frame_at f.before_frame_at f.has_claimed_at f.reserves_at f.links_at f.has_item_at f.holds_back_at
 load_loads_cycle dest reg field = record {
-  goes = record { flying = refl; in_row = omega arith; in_step = λ full raised h. h; register_stays = refl; is_load = refl; will_raise = refl;
-    raised_before = refl; raised = refl; making = refl; numbered_before = refl; numbered = refl };
+  goes = record {
+    flying = refl;
+    in_row = omega arith;
+    in_step = λ full raised h. h;
+    register_stays = refl;
+    is_load = refl;
+    will_raise = refl;
+    raised_before = refl;
+    raised = refl;
+    making = refl;
+    numbered_before = refl;
+    numbered = refl;
+  };
   same_object = record { inside = refl; before = refl };
   same_frame = record { inside = refl; before = refl };
   same_item = record { has_item = refl; has_loaded = refl; has_loaded_inside = λ h. h; has_written = refl; holds_back = λ r. refl };
-  has_claimed = refl; reserves_before = refl; reserves = refl; links_before = refl; links = refl;
+  has_claimed = refl;
+  reserves_before = refl;
+  reserves = refl;
+  links_before = refl;
+  links = refl;
 }
 
 pub store_loads_cycle : (reg field from : ℕ) → LoadsCycle (call.Store reg field from) 2 3
 unfolding f.in_object_at f.before_object_at f.register_stays_at f.is_load_at f.is_new_at f.in_frame_at f.before_frame_at f.has_claimed_at f.reserves_at f.links_at f.has_item_at f.holds_back_at
 store_loads_cycle reg field from = record {
-  goes = record { flying = refl; in_row = omega arith; in_step = λ full raised h. h; register_stays = refl; is_load = refl; will_raise = refl;
-    raised_before = refl; raised = refl; making = refl; numbered_before = refl; numbered = refl };
+  goes = record {
+    flying = refl;
+    in_row = omega arith;
+    in_step = λ full raised h. h;
+    register_stays = refl;
+    is_load = refl;
+    will_raise = refl;
+    raised_before = refl;
+    raised = refl;
+    making = refl;
+    numbered_before = refl;
+    numbered = refl;
+  };
   same_object = record { inside = refl; before = refl };
   same_frame = record { inside = refl; before = refl };
   same_item = record { has_item = refl; has_loaded = refl; has_loaded_inside = λ h. h; has_written = refl; holds_back = λ r. refl };
-  has_claimed = refl; reserves_before = refl; reserves = refl; links_before = refl; links = refl;
+  has_claimed = refl;
+  reserves_before = refl;
+  reserves = refl;
+  links_before = refl;
+  links = refl;
 }

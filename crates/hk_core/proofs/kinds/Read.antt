@@ -1,7 +1,7 @@
 -- A Get reads the cell of its field. No word changes; the reply is what the plain heap answers.
-use Rattle.std.proofs.Common.{◌≡◌, ◌≢◌, ◌⊎◌, ℕ, ◌+◌, ◌-◌, ◌*◌, ◌/◌, ◌%◌, ◌^◌, ◌<◌, ◌≤◌, Bool, true, false, List, [], ◌∷◌, ◌++◌, inl, inr, refl, sym, ◌∙◌, ap, arith, Option, Some, None}
+use Rattle.std.proofs.Common.{◌≡◌, ◌≢◌, ℕ, ◌+◌, ◌^◌, ◌<◌, Bool, true, false, [], ◌∷◌, ◌++◌, inl, inr, refl, sym, ◌∙◌, ap, arith, Option, Some, None}
 use Rattle.std.proofs.lemmas.Bool.{both_ways, and_right}
-use Rattle.std.specs.Prelude.{nat_eq, nat_lt, nat_le, not, ◌&&◌, unwrap_or, option_map}
+use Rattle.std.specs.Prelude.{nat_eq, ◌&&◌}
 use Rattle.hk_words.specs.declared.geometry.Geometry.{Geometry}
 use Rattle.hk_words.specs.declared.call.Call.{Call}
 use Rattle.hk_words.specs.declared.call.Call.TheVariants as call
@@ -11,22 +11,22 @@ use Rattle.hk_words.specs.Calls.{entered}
 use Rattle.hk_words.specs.Layout as layout
 use Rattle.hk_model.specs.View.{upd}
 use Rattle.hk_model.specs.Heap as heap
-use Rattle.hk_model.specs.History.{Entry, History, Legal, EntryLegal, after, after_entry}
+use Rattle.hk_model.specs.History.{Entry, History, Legal, after, after_entry}
 use Rattle.hk_model.proofs.Histories.{after-push, Legal-push, number_of-push_other, bearer-push_other}
 use Rattle.hk_model.proofs.Replies.{reply_of-get, heap_after-get}
 use Rattle.hk_core.specs.declared.flight.Flight.{Flight}
 use Rattle.hk_core.specs.declared.spot.Spot.{Spot}
 use Rattle.hk_core.specs.declared.spot.Line.{Line}
-use Rattle.hk_core.specs.Begin.{copied, has_field}
-use Rattle.hk_core.specs.Step.{places_of, number_cell}
-use Rattle.hk_core.specs.View.{Words, Names, Contents, shown, names_of, contents_of, reference_at, refs_at, nums_at}
+use Rattle.hk_core.specs.Begin.{copied}
+use Rattle.hk_core.specs.Step.{number_cell}
+use Rattle.hk_core.specs.View.{Words, Names, Contents, shown, names_of, contents_of}
 use Rattle.hk_core.specs.Flights as f
 use Rattle.hk_core.specs.Flights.{Hand, no_claim, hand_of_flight}
-use Rattle.hk_core.specs.Colours.{Spaces, spaces_of, Shades, shades_of, held_by, IsGood, IsNullOrKept, IsKeptBirth}
+use Rattle.hk_core.specs.Colours.{Spaces, spaces_of, Shades, shades_of, IsNullOrKept, IsKeptBirth}
 use Rattle.hk_core.specs.Facts as fact
 use Rattle.hk_core.specs.Lawful.{Facts, FactsOf, hands_of}
-use Rattle.hk_core.proofs.kinds.Seats.{CallsFacts, FlightFacts, Changes, KeptMeans, GoesOn, SameObject, SameFrame, SameClaim, MakesNothing, moved_on, calls_upd, facts_of_flight, counted_kept, versions_kept, frames_counted_kept, frame_versions_kept}
-use Rattle.hk_core.proofs.kinds.Seats.{hands_upd, shades_upd, goes_making_nothing, goes_raising, goes_without_number, kept_means}
+use Rattle.hk_core.proofs.kinds.Seats.{CallsFacts, FlightFacts, Changes, KeptMeans, GoesOn, SameObject, SameFrame, MakesNothing, calls_upd, facts_of_flight, counted_kept, versions_kept, frames_counted_kept, frame_versions_kept}
+use Rattle.hk_core.proofs.kinds.Seats.{hands_upd, shades_upd, goes_without_number}
 use Rattle.hk_core.proofs.kinds.Enter.{object_of}
 
 -- THE FLIGHT
@@ -136,7 +136,6 @@ module _ (x : Flight) (q item : ℕ) (t : ReadsNumber x.call x.place q) where
 
 module _ (g : Geometry) (w : Words) (z : Spaces) (sh : Shades) (flight : ℕ → Flight) (begun : ℕ → ℕ) (hand : ℕ → Hand) (t : Spot)
     (names : Names) (contents : Contents) (range : ℕ → Option ℕ) (s q item : ℕ) where
-
   pub read_number_facts : s < tasks g → ReadsNumber (flight s).call (flight s).place q
       → Facts g w z sh flight begun hand t names contents range
       → Facts g w z sh (upd flight s (read_on (flight s) q item)) begun hand t names contents range
@@ -149,7 +148,7 @@ module _ (g : Geometry) (w : Words) (z : Spaces) (sh : Shades) (flight : ℕ →
       let frame_versions : fact.FrameVersionsBounded g w.frame_version (upd flight s y) begun = frame_versions_kept g flight s y w.frame_version begun (reads_before_frame x q item e) h.frame_versions_bounded in
       let between : CallsFacts g w sh t.line names contents flight = assumption in
       let calls : CallsFacts g w sh t.line names contents (upd flight s y) =
-          calls_upd g w sh t.line names contents flight s y (reads_so x q item e g w sh t.line names contents flight s below refl between) between in
+      calls_upd g w sh t.line names contents flight s y (reads_so x q item e g w sh t.line names contents flight s below refl between) between in
       assumption
 
 -- all facts hold after a call has read a number, for the plain heap as it was
@@ -161,20 +160,43 @@ read_number g w flight begun t names contents range s q item below e h =
     let y = read_on x q item in
     let hands : hands_of g (upd flight s y) t ≡ hands_of g flight t = hands_upd g t flight s y (reads_hand x q item e g) in
     let shades : shades_of g w (upd flight s y) t.line names ≡ shades_of g w flight t.line names =
-        shades_upd g w t.line names flight s y (goes_without_number x q x.at e.goes) ((reads_nothing_made x q item e).no_number) in
+    shades_upd g w t.line names flight s y (goes_without_number x q x.at e.goes) ((reads_nothing_made x q item e).no_number) in
     rw (hands, shades)
-        (read_number_facts g w (spaces_of g w.cycle) (shades_of g w flight t.line names) flight begun (hands_of g flight t) t names contents range s q item below e h)
+    (read_number_facts g w (spaces_of g w.cycle) (shades_of g w flight t.line names) flight begun (hands_of g flight t) t names contents range s q item below e h)
 
 -- a Get reads a number at its second place
 pub get_reads : (reg field : ℕ) → ReadsNumber (call.Get reg field) 2 3
 unfolding f.in_object_at f.before_object_at f.register_stays_at f.is_load_at f.is_new_at f.in_frame_at f.before_frame_at f.has_cycle_inside_at f.has_claimed_at f.reserves_at f.links_at f.has_item_at f.holds_back_at
 get_reads reg field = record {
-  goes = record { flying = refl; in_row = omega arith; in_step = λ full raised h. h; register_stays = refl; is_load = refl; will_raise = refl;
-    raised_before = refl; raised = refl; making = refl; numbered_before = refl; numbered = refl };
+  goes = record {
+    flying = refl;
+    in_row = omega arith;
+    in_step = λ full raised h. h;
+    register_stays = refl;
+    is_load = refl;
+    will_raise = refl;
+    raised_before = refl;
+    raised = refl;
+    making = refl;
+    numbered_before = refl;
+    numbered = refl;
+  };
   same_object = record { inside = refl; before = refl };
   same_frame = record { inside = refl; before = refl };
-  has_cycle = λ b. refl; has_cycle_in_frame = refl; has_claimed = refl; reserves_before = refl; reserves = refl; links_before = refl; links = refl;
-  has_item = refl; has_loaded = refl; has_loaded_inside = refl; has_written = refl; held_back = λ r. refl; holds_back = λ r. refl; copies = refl;
+  has_cycle = λ b. refl;
+  has_cycle_in_frame = refl;
+  has_claimed = refl;
+  reserves_before = refl;
+  reserves = refl;
+  links_before = refl;
+  links = refl;
+  has_item = refl;
+  has_loaded = refl;
+  has_loaded_inside = refl;
+  has_written = refl;
+  held_back = λ r. refl;
+  holds_back = λ r. refl;
+  copies = refl;
 }
 
 -- WHAT A CALL INSIDE AN OBJECT KNOWS

@@ -1,7 +1,7 @@
 -- The facts of the flights, after the flight of one seat has changed. A kind of step shows the facts of the seat's new
 -- flight, and the lemmas here carry those of the other seats over.
-use Rattle.std.proofs.Common.{◌≡◌, ◌≢◌, ◌⊎◌, ℕ, ◌+◌, ◌*◌, ◌<◌, ◌≤◌, Bool, true, false, inl, inr, refl, sym, ◌∙◌, ap, arith, Option, Some, None}
-use Rattle.std.proofs.lemmas.Bool.{cases_eq, both_ways, and_parts, and_from, ltb-true, lt-ltb, cases_Bool, or_cases}
+use Rattle.std.proofs.Common.{◌≡◌, ◌≢◌, ℕ, ◌+◌, ◌<◌, ◌≤◌, Bool, true, false, inl, inr, refl, sym, ◌∙◌, ap, arith, Option, Some}
+use Rattle.std.proofs.lemmas.Bool.{both_ways, and_parts, and_from, ltb-true, lt-ltb, cases_Bool, or_cases}
 use Rattle.std.proofs.lemmas.Bool.Decides.{nat_tests}
 use Rattle.std.specs.Prelude.{nat_eq, nat_lt, nat_le, is_some, not, ◌&&◌, ◌||◌, if◌then◌else◌}
 use Rattle.hk_words.specs.declared.geometry.Geometry.{Geometry}
@@ -18,15 +18,15 @@ use Rattle.hk_core.specs.Begin.{has_field, copied}
 use Rattle.hk_core.specs.Collect.{current_space}
 use Rattle.hk_core.specs.Step.{new_place, places_of, reserved_fits}
 use Rattle.hk_core.specs.State.{idle}
-use Rattle.hk_core.specs.Counts.{count_below, any_below}
+use Rattle.hk_core.specs.Counts.{any_below}
 use Rattle.hk_core.specs.View.{Words, Names, Contents, shown}
 use Rattle.hk_core.specs.Flights as f
 use Rattle.hk_core.specs.Flights.{Hand, no_claim, to_reserve, to_link, hand_of_flight}
 use Rattle.hk_core.specs.Lines.{is_marking, hand_of_spot}
-use Rattle.hk_core.specs.Colours.{Spaces, Shades, shades_of, held_by, kept_by, is_fresh, Apart, IsGood, IsNullOrGood, NamesNoWhite}
+use Rattle.hk_core.specs.Colours.{Shades, shades_of, held_by, kept_by, is_fresh, Apart, IsGood, IsNullOrGood, NamesNoWhite}
 use Rattle.hk_core.specs.Facts as fact
 use Rattle.hk_core.specs.Facts.{IsFormed, IsRecent, IsSettled, IsOwn, FoundRoom}
-use Rattle.hk_core.specs.Lawful.{Facts, hands_of}
+use Rattle.hk_core.specs.Lawful.{hands_of}
 use Rattle.hk_core.proofs.Update.{upd_cases, each_upd, pairs_upd}
 use Rattle.hk_core.proofs.Counts.{count_kept, count_some, any_kept}
 
@@ -118,7 +118,7 @@ pub flights_upd : (g : Geometry) (w : Words) (sh : Shades) (names : Names) (plai
     → FlightsFacts g w sh names plain flight → FlightFacts g w sh names plain s x → FlightsFacts g w sh names plain (upd flight s x)
 flights_upd g w sh names plain flight s x h mine =
     facts_of_flights g w sh names plain (upd flight s x)
-        (each_upd (λ t y. FlightFacts g w sh names plain t y) flight s x (tasks g) (facts_of_flight g w sh names plain flight h) mine)
+    (each_upd (λ t y. FlightFacts g w sh names plain t y) flight s x (tasks g) (facts_of_flight g w sh names plain flight h) mine)
 
 -- THE FACTS OF NEWS
 
@@ -226,7 +226,7 @@ pub calls_upd : (g : Geometry) (w : Words) (sh : Shades) (ln : Line) (names : Na
     → Changes g w sh names contents flight s x → CallsFacts g w sh ln names contents flight → CallsFacts g w sh ln names contents (upd flight s x)
 calls_upd g w sh ln names contents flight s x c h =
     let settles : IsSettled g w.cycle sh.white sh.grey w.register flight → IsSettled g w.cycle sh.white sh.grey w.register (upd flight s x) = λ o.
-        settled_upd g w sh flight s x c.nothing (c.entered o) (c.item o) o in
+    settled_upd g w sh flight s x c.nothing (c.entered o) (c.item o) o in
     record {
       news = news_upd g w sh flight s x c.nothing c.raising h.news;
       flights = flights_upd g w sh names contents.register flight s x h.flights c.facts;
@@ -244,8 +244,9 @@ hands_upd g t flight s x same = λ i k. hand_at k i
   where
     hand_at : (k : ℕ) → (if nat_lt k (tasks g) then hand_of_flight g (upd flight s x k) else hand_of_spot t) ≡ (if nat_lt k (tasks g) then hand_of_flight g (flight k) else hand_of_spot t)
     hand_at k = elim (upd_cases flight s x k) [
-        inl (e, u) ↦ rw (u, same, e) refl
-      | inr (d, u) ↦ rw u refl ]
+      | inl (e, u) ↦ rw (u, same, e) refl
+      | inr (d, u) ↦ rw u refl
+    ]
 
 -- the held numbers stay, where the flight held none and holds none
 pub held_upd : (g : Geometry) (flight : ℕ → Flight) (s : ℕ) (x : Flight) → f.has_number (flight s) ≡ false → f.has_number x ≡ false
@@ -258,13 +259,13 @@ pub shades_upd : (g : Geometry) (w : Words) (line : Line) (names : Names) (fligh
     → shades_of g w (upd flight s x) line names ≡ shades_of g w flight line names
 unfolding shades_of
 shades_upd g w line names flight s x was now = ap (λ (held : ℕ → Bool). record {
-    white = (shades_of g w flight line names).white;
-    grey = (shades_of g w flight line names).grey;
-    black = (shades_of g w flight line names).black;
-    black_frame = (shades_of g w flight line names).black_frame;
-    kept = kept_by g w.cycle (is_marking line) held names.bearer w.place w.mark;
-    size = (shades_of g w flight line names).size;
-  }) (held_upd g flight s x was now)
+  white = (shades_of g w flight line names).white;
+  grey = (shades_of g w flight line names).grey;
+  black = (shades_of g w flight line names).black;
+  black_frame = (shades_of g w flight line names).black_frame;
+  kept = kept_by g w.cycle (is_marking line) held names.bearer w.place w.mark;
+  size = (shades_of g w flight line names).size;
+}) (held_upd g flight s x was now)
 
 -- what it means that a number is kept
 pub record IsKept (g : Geometry) (cycle : ℕ) (marking : Bool) (held : ℕ → Bool) (bearer : ℕ → Option ℕ) (place mark : ℕ → ℕ) (n : ℕ) : Type 0 where
@@ -341,12 +342,13 @@ module _ (g : Geometry) (w : Words) (sh : Shades) (names : Names) (line : Line) 
       let own : IsOwn g w.accessors w.place w.version w.mark (flight s) (fact.own_entry w.entry (flight s)) = h.own_entries s b making in
       let k = means n kept in
       elim (cases_Bool (f.has_header (flight s))) [
-        inl headed ↦
-          let numbered = header_numbered (flight s) headed in
-          let number : (flight s).number ≡ n = h.number_is_own s b numbered ∙ same in
-          let held : held_by g flight n ≡ true = ap (held_by g flight) (sym number) ∙ held_there g flight s b numbered in
-          absurd (both_ways _ k.not_held held)
-      | inr bare ↦ k.placed (ap w.place (sym same) ∙ own.placed ∙ rw bare refl) ]
+        | inl headed ↦
+            let numbered = header_numbered (flight s) headed in
+            let number : (flight s).number ≡ n = h.number_is_own s b numbered ∙ same in
+            let held : held_by g flight n ≡ true = ap (held_by g flight) (sym number) ∙ held_there g flight s b numbered in
+            absurd (both_ways _ k.not_held held)
+        | inr bare ↦ k.placed (ap w.place (sym same) ∙ own.placed ∙ rw bare refl)
+      ]
 
   -- nor is it a number without a header
   pub headless_not_kept : (n m : ℕ) → sh.kept n ≡ true → w.place m ≡ 0 → m ≢ n
@@ -400,8 +402,9 @@ in_frame_before : (x : Flight) (q : ℕ) → GoesOn x.call x.place q → SameCla
     → (f.is_load_at 4 10 x.call x.place || (f.is_new_at 4 7 x.call x.place && x.raised)) ≡ true
 in_frame_before x q t c h =
     elim (or_cases (f.is_load_at 4 10 x.call q) (f.is_new_at 4 7 x.call q && x.raised) h) [
-      inl e ↦ rw (c.has_cycle_in_frame e) refl
-    | inr e ↦ absurd (both_ways (f.is_new_at 4 7 x.call q) t.raised (and_parts _ _ e).0) ]
+      | inl e ↦ rw (c.has_cycle_in_frame e) refl
+      | inr e ↦ absurd (both_ways (f.is_new_at 4 7 x.call q) t.raised (and_parts _ _ e).0)
+    ]
 
 -- a flight that goes on to another place with what it knew, but the place of its object
 abbrev pub moved_on : Flight → (q at : ℕ) → Flight

@@ -1,10 +1,10 @@
 -- What the words of a row say after the event of each kind, and that the event fits.
-use Rattle.std.proofs.Common.{◌≡◌, ◌≢◌, ◌⊎◌, ℕ, zero, suc, ◌+◌, ◌-◌, ◌*◌, ◌/◌, ◌%◌, ◌^◌, ◌<◌, ◌≤◌, Bool, true, false, List, length, inl, inr, refl, sym, ◌∙◌, ap, arith}
+use Rattle.std.proofs.Common.{◌≡◌, ℕ, zero, suc, ◌+◌, ◌-◌, ◌*◌, ◌^◌, ◌<◌, ◌≤◌, true, false, List, length, refl, ◌∙◌, ap, arith}
 use Rattle.hk_words.specs.declared.geometry.Geometry.{Geometry}
-use Rattle.hk_words.specs.Geometry.{tasks, numbers, list_length, space_words, row_length}
+use Rattle.hk_words.specs.Geometry.{tasks, numbers, space_words, row_length}
 use Rattle.hk_words.specs.Layout.{entering, leaving, accessors_bits}
-use Rattle.hk_words.specs.Row.{word_of, header_at, mark_at, frame_at, register_at, space_at}
-use Rattle.hk_words.specs.Row.Slot.{Header, Mark, Frame, Register, Space}
+use Rattle.hk_words.specs.Row.{word_of, header_at, frame_at, register_at, space_at}
+use Rattle.hk_words.specs.Row.Slot.{Header, Frame, Register, Space}
 use Rattle.hk_model.specs.View.{upd, upd2}
 use Rattle.hk_core.specs.declared.flight.Flight.{Flight}
 use Rattle.hk_core.specs.declared.event.Event.TheVariants as event
@@ -12,10 +12,10 @@ use Rattle.hk_core.specs.Event.{fired}
 use Rattle.hk_core.specs.Counts.{count_below, sum_below}
 use Rattle.hk_core.specs.Flights as f
 use Rattle.hk_core.specs.Facts as fact
-use Rattle.hk_core.specs.View.{Words, words_of, raw, decoded}
+use Rattle.hk_core.specs.View.{words_of, raw, decoded}
 use Rattle.hk_core.proofs.Counts.{count_room, count_some}
-use Rattle.hk_core.proofs.Columns.{fired_at, fired_kept, raw-header, raw-mark, raw-frame, raw-register, raw-space, raw_header, raw_mark, raw_frame}
-use Rattle.hk_core.proofs.Encode.{decoded-enter_object, decoded-leave_object, decoded-enter_frame, decoded-leave_frame, decoded-mark, decoded-register, decoded-cell}
+use Rattle.hk_core.proofs.Columns.{fired_at, fired_kept, raw-header, raw-frame, raw-register, raw-space, raw_header, raw_frame}
+use Rattle.hk_core.proofs.Encode.{decoded-enter_object, decoded-leave_object, decoded-enter_frame, decoded-leave_frame, decoded-register, decoded-cell}
 use Rattle.hk_core.proofs.kinds.Enter.{entering_words}
 use Rattle.hk_core.proofs.kinds.Leave.{leaving_words}
 use Rattle.hk_core.proofs.kinds.Frame.{entering_frame_words, leaving_frame_words}

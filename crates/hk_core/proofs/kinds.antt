@@ -5,3 +5,4 @@ pub mod Frame
 pub mod Read
 pub mod LoadCycle
 pub mod Words
+pub mod WriteRegister

@@ -103,7 +103,7 @@ behind_enter_frame first accessors cycle version n m o =
     ]
 
 -- a register in work is one of an attempt
-work_in_attempt : (g : Geometry) (ln : Line) (s r : ℕ) → l.register_in_work ln ≡ Some (s, r) → l.frame_attempt g ln ≡ Some (s, r)
+pub work_in_attempt : (g : Geometry) (ln : Line) (s r : ℕ) → l.register_in_work ln ≡ Some (s, r) → l.frame_attempt g ln ≡ Some (s, r)
 unfolding l.register_in_work l.frame_attempt l.is_in_work
 work_in_attempt g line.Rest s r e = absurd (cc)
 work_in_attempt g (line.Frame u) s r e = absurd (cc)

@@ -11,6 +11,7 @@ use Rattle.hk_core.specs.declared.flight.Flight.{Flight}
 use Rattle.hk_core.specs.declared.spot.Spot.{Spot}
 use Rattle.hk_core.specs.declared.spot.Line.{Line}
 use Rattle.hk_core.specs.Begin.{copied}
+use Rattle.hk_core.specs.State.{idle}
 use Rattle.hk_core.specs.Step.{places_of}
 use Rattle.std.specs.Prelude.{nat_le}
 use Rattle.hk_core.specs.View.{Words, Names, Contents, shown}
@@ -23,7 +24,7 @@ use Rattle.hk_core.specs.Facts.{IsSettled, FrameBehind}
 use Rattle.hk_core.specs.Lawful.{Facts, FactsOf, hands_of}
 use Rattle.hk_core.proofs.Update.{upd_cases, upd2_cases}
 use Rattle.hk_core.proofs.kinds.Seats.{FlightFacts, FlightsFacts, NewsFacts, CallsFacts, Changes, facts_of_flight, facts_of_flights, news_upd, settled_upd, pass_upd, counted_kept, versions_kept, frames_counted_kept, frame_versions_kept}
-use Rattle.hk_core.proofs.kinds.Seats.{GoesOn, SameObject, SameFrame, SameClaim, SameItem, moved_on, hands_upd, shades_upd, goes_making_nothing, goes_without_number, goes_hand, goes_so, goes_is_inside, goes_before_object, goes_in_frame, goes_before_frame}
+use Rattle.hk_core.proofs.kinds.Seats.{Ends, ends_so, ends_hand, ends_without_number, idle_makes_nothing, GoesOn, SameObject, SameFrame, SameClaim, SameItem, moved_on, hands_upd, shades_upd, goes_making_nothing, goes_without_number, goes_hand, goes_so, goes_is_inside, goes_before_object, goes_in_frame, goes_before_frame}
 use Rattle.hk_core.proofs.kinds.Frame.{work_in_attempt}
 use Rattle.hk_core.proofs.kinds.Read.{refuted}
 
@@ -269,3 +270,64 @@ move_writes g w flight begun t names contents range s dest from below reg is_mov
         (write_register_facts g w z sh flight begun (hands_of g flight t) t names contents range s dest x.item (contents.register s from) y below writes
             (λ b. goes_so x 3 x.at goes g w sh t.line names contents flight s below refl (move_claim x dest from is_move at_2) (move_item x dest from is_move at_2)
                 (λ i. refuted _ (move_in_no_object x dest from is_move at_2) i) b) h)
+
+-- CLEAR
+
+-- the tables of a Clear at its one place
+module _ (x : Flight) (dest : ℕ) (is_clear : x.call ≡ call.Clear dest) where
+  clear_ends : Ends x.call x.place
+  unfolding f.before_object_at f.before_frame_at f.reserves_at f.links_at f.holds_back_at f.is_new_at
+  clear_ends = rw is_clear (record { before_object = refl; before_frame = refl; reserves = refl; links = refl; holds_back = λ r. refl; will_raise = refl; numbered = refl })
+
+  clear_inside : (m : ℕ) → f.is_inside (idle x.seat) m ≡ f.is_inside x m
+  unfolding f.is_inside f.in_object f.in_object_at idle
+  clear_inside m = rw is_clear refl
+
+  clear_before_object : f.before_object (idle x.seat) ≡ f.before_object x
+  unfolding f.before_object f.before_object_at idle
+  clear_before_object = rw is_clear refl
+
+  clear_in_frame : f.in_frame (idle x.seat) ≡ f.in_frame x
+  unfolding f.in_frame f.in_frame_at idle
+  clear_in_frame = rw is_clear refl
+
+  clear_before_frame : f.before_frame (idle x.seat) ≡ f.before_frame x
+  unfolding f.before_frame f.before_frame_at idle
+  clear_before_frame = rw is_clear refl
+
+idle_has_written : (seat v : ℕ) → HasWritten (idle seat) v
+unfolding f.register_stays f.register_stays_at f.has_written f.is_load_at f.holds_back f.holds_back_at idle
+idle_has_written seat v = record { stays = refl; written = refl; free = λ k. refl; copies = λ flying. absurd (cc) }
+
+null_shown : (names : Names) → 0 ≡ shown names None
+unfolding shown
+null_shown names = refl
+
+-- all facts hold after a Clear has written its register and has ended, for the plain heap after the Clear
+pub clear_writes : (g : Geometry) (w : Words) (flight : ℕ → Flight) (begun : ℕ → ℕ) (t : Spot) (names : Names) (contents : Contents) (range : ℕ → Option ℕ) (s dest : ℕ)
+    → s < tasks g → (flight s).call ≡ call.Clear dest → FactsOf g w flight begun t names contents range
+    → FactsOf g (writing_words w s dest 0) (upd flight s (idle (flight s).seat)) begun t names (writing_contents contents s dest None) range
+clear_writes g w flight begun t names contents range s dest below is_clear h =
+    let x = flight s in
+    let y = idle x.seat in
+    let z = spaces_of g w.cycle in
+    let sh = shades_of g w flight t.line names in
+    let ends = clear_ends x dest is_clear in
+    let writes : WritesRegister g w z sh flight begun (hands_of g flight t) t names contents range s dest 0 None y = record {
+      inside = clear_inside x dest is_clear;
+      before_object = clear_before_object x dest is_clear;
+      in_frame = clear_in_frame x dest is_clear;
+      before_frame = clear_before_frame x dest is_clear;
+      has_written = idle_has_written x.seat 0;
+      shows = null_shown names;
+      good = inl refl;
+      dark = λ black. inl refl;
+      dark_when_settled = λ o. inl refl;
+      in_attempt = inl refl;
+    } in
+    let hands : hands_of g (upd flight s y) t ≡ hands_of g flight t = hands_upd g t flight s y (ends_hand x ends g) in
+    let shades : shades_of g (writing_words w s dest 0) (upd flight s y) t.line names ≡ shades_of g (writing_words w s dest 0) flight t.line names =
+        shades_upd g (writing_words w s dest 0) t.line names flight s y (ends_without_number x ends) ((idle_makes_nothing x.seat).no_number) in
+    rw (hands, shades, shades_write g w s dest 0 flight t.line names)
+        (write_register_facts g w z sh flight begun (hands_of g flight t) t names contents range s dest 0 None y below writes
+            (λ b. ends_so x ends g w sh t.line names contents flight s below refl b) h)

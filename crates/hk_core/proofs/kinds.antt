@@ -6,3 +6,4 @@ pub mod Read
 pub mod LoadCycle
 pub mod Words
 pub mod WriteRegister
+pub mod Effects

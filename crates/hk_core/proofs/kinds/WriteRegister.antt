@@ -1,8 +1,6 @@
 -- A call writes a register as its effect: the register word and the register of the plain heap change together.
-use Rattle.std.proofs.Common.{◌≡◌, ◌≢◌, ◌⊎◌, ℕ, ◌+◌, ◌<◌, ◌≤◌, Bool, true, false, inl, inr, refl, sym, ◌∙◌, ap, arith, Option, Some, None}
-use Rattle.std.proofs.lemmas.Bool.{both_ways}
+use Rattle.std.proofs.Common.{◌≡◌, ◌≢◌, ◌⊎◌, ℕ, ◌<◌, Bool, true, false, inl, inr, refl, sym, ◌∙◌, ap, arith, Option, Some, None}
 use Rattle.hk_words.specs.declared.geometry.Geometry.{Geometry}
-use Rattle.hk_words.specs.declared.call.Call.{Call}
 use Rattle.hk_words.specs.declared.call.Call.TheVariants as call
 use Rattle.hk_words.specs.Geometry.{tasks}
 use Rattle.hk_model.specs.View.{upd, upd2}
@@ -12,12 +10,9 @@ use Rattle.hk_core.specs.declared.spot.Spot.{Spot}
 use Rattle.hk_core.specs.declared.spot.Line.{Line}
 use Rattle.hk_core.specs.Begin.{copied}
 use Rattle.hk_core.specs.State.{idle}
-use Rattle.hk_core.specs.Step.{places_of}
-use Rattle.std.specs.Prelude.{nat_le}
 use Rattle.hk_core.specs.View.{Words, Names, Contents, shown}
 use Rattle.hk_core.specs.Flights as f
 use Rattle.hk_core.specs.Flights.{Hand}
-use Rattle.hk_core.specs.Lines as l
 use Rattle.hk_core.specs.Colours.{Spaces, spaces_of, Shades, shades_of, IsNullOrGood, NamesNoWhite, IsNullOrMarked}
 use Rattle.hk_core.specs.Facts as fact
 use Rattle.hk_core.specs.Facts.{IsSettled, FrameBehind}
@@ -85,8 +80,9 @@ flight_here g w sh names plain s r v p y t shows o = record {
   loaded_recent = o.loaded_recent;
   loaded_stays = λ k a e. refuted (f.has_written y) t.written a;
   copied_stays = λ k a e. elim (upd2_cases w.register s r v s k) [
-      inl (i, j, u) ↦ t.copies a k e ∙ sym u
-    | inr (d, u) ↦ o.copied_stays k a e ∙ sym u ];
+    | inl (i, j, u) ↦ t.copies a k e ∙ sym u
+    | inr (d, u) ↦ o.copied_stays k a e ∙ sym u
+  ];
   claims_last = o.claims_last;
   late_in_no_black_object = o.late_in_no_black_object;
   late_in_no_black_frame = o.late_in_no_black_frame;
@@ -96,21 +92,25 @@ flight_here g w sh names plain s r v p y t shows o = record {
   where
     here : (k : ℕ) → w.register s k ≡ shown names (plain s k) → upd2 w.register s r v s k ≡ shown names (upd2 plain s r p s k)
     here k before = elim (upd2_cases w.register s r v s k) [
-        inl (i, j, u) ↦ elim (upd2_cases plain s r p s k) [
-            inl (_, _, z) ↦ u ∙ shows ∙ ap (shown names) (sym z)
-          | inr (d, z) ↦ differ s s k r d i j ]
+      | inl (i, j, u) ↦ elim (upd2_cases plain s r p s k) [
+        | inl (_, _, z) ↦ u ∙ shows ∙ ap (shown names) (sym z)
+        | inr (d, z) ↦ differ s s k r d i j
+      ]
       | inr (d, u) ↦ elim (upd2_cases plain s r p s k) [
-            inl (i, j, z) ↦ differ s s k r d i j
-          | inr (_, z) ↦ u ∙ before ∙ ap (shown names) (sym z) ] ]
+        | inl (i, j, z) ↦ differ s s k r d i j
+        | inr (_, z) ↦ u ∙ before ∙ ap (shown names) (sym z)
+      ]
+    ]
 
 flights_write : (g : Geometry) (w : Words) (sh : Shades) (names : Names) (plain : ℕ → ℕ → Option ℕ) (flight : ℕ → Flight) (s r v : ℕ) (p : Option ℕ) (y : Flight)
     → FlightsFacts g w sh names plain flight → FlightFacts g (writing_words w s r v) sh names (upd2 plain s r p) s y
     → FlightsFacts g (writing_words w s r v) sh names (upd2 plain s r p) (upd flight s y)
 flights_write g w sh names plain flight s r v p y h mine =
     facts_of_flights g (writing_words w s r v) sh names (upd2 plain s r p) (upd flight s y) (λ t b.
-        elim (upd_cases flight s y t) [
-          inl (e, u) ↦ rw (u, e) mine
-        | inr (d, u) ↦ rw u (flight_elsewhere g w sh names plain s r v p t (flight t) d (facts_of_flight g w sh names plain flight h t b)) ])
+    elim (upd_cases flight s y t) [
+      | inl (e, u) ↦ rw (u, e) mine
+      | inr (d, u) ↦ rw u (flight_elsewhere g w sh names plain s r v p t (flight t) d (facts_of_flight g w sh names plain flight h t b))
+    ])
 
 settled_write : (g : Geometry) (cycle : ℕ) (white grey : ℕ → Bool) (register : ℕ → ℕ → ℕ) (flight : ℕ → Flight) (s r v : ℕ) → NamesNoWhite white v
     → IsSettled g cycle white grey register flight → IsSettled g cycle white grey (upd2 register s r v) flight
@@ -126,7 +126,6 @@ settled_write g cycle white grey register flight s r v dark h = record {
 
 module _ (g : Geometry) (w : Words) (z : Spaces) (sh : Shades) (flight : ℕ → Flight) (begun : ℕ → ℕ) (hand : ℕ → Hand) (t : Spot)
     (names : Names) (contents : Contents) (range : ℕ → Option ℕ) (s r v : ℕ) (p : Option ℕ) (y : Flight) where
-
   -- what a write of a register by a call shows: the word is what the plain heap's register gets, it is null or good, and
   -- names no white number where the frame is black, or the state settled; it is null, or the call is inside its frame
   pub record WritesRegister : Type 0 where
@@ -154,28 +153,31 @@ module _ (g : Geometry) (w : Words) (z : Spaces) (sh : Shades) (flight : ℕ →
       let frame_versions : fact.FrameVersionsBounded g w.frame_version (upd flight s y) begun = frame_versions_kept g flight s y w.frame_version begun e.before_frame h.frame_versions_bounded in
       let news : NewsFacts g w sh (upd flight s y) = news_upd g w sh flight s y c.nothing c.raising calls.news in
       let flights : FlightsFacts g (writing_words w s r v) sh names (upd2 contents.register s r p) (upd flight s y) =
-          flights_write g w sh names contents.register flight s r v p y calls.flights
-              (flight_here g w sh names contents.register s r v p y e.has_written e.shows c.facts) in
+      flights_write g w sh names contents.register flight s r v p y calls.flights
+      (flight_here g w sh names contents.register s r v p y e.has_written e.shows c.facts) in
       let settles : IsSettled g w.cycle sh.white sh.grey w.register flight → IsSettled g w.cycle sh.white sh.grey (upd2 w.register s r v) (upd flight s y) = λ o.
-          settled_write g w.cycle sh.white sh.grey w.register (upd flight s y) s r v (e.dark_when_settled o)
-              (settled_upd g w sh flight s y c.nothing (c.entered o) (c.item o) o) in
+      settled_write g w.cycle sh.white sh.grey w.register (upd flight s y) s r v (e.dark_when_settled o)
+      (settled_upd g w sh flight s y c.nothing (c.entered o) (c.item o) o) in
       let passes : fact.PassMeetsGrey g t.line sh.grey (IsSettled g w.cycle sh.white sh.grey (upd2 w.register s r v) (upd flight s y)) =
-          pass_upd g t.line sh.grey _ _ settles h.pass_meets_grey in
+      pass_upd g t.line sh.grey _ _ settles h.pass_meets_grey in
       let sweeps : fact.SettledFromSweep t.line (IsSettled g w.cycle sh.white sh.grey (upd2 w.register s r v) (upd flight s y)) = λ m. settles (h.settled_from_sweep m) in
       let good : fact.RegistersGood g sh.kept names (upd2 w.register s r v) = λ u k a b.
-          elim (upd2_cases w.register s r v u k) [ inl (i, j, q) ↦ rw q e.good | inr (d, q) ↦ rw q (h.registers_good u k a b) ] in
+      elim (upd2_cases w.register s r v u k) [ inl (i, j, q) ↦ rw q e.good | inr (d, q) ↦ rw q (h.registers_good u k a b) ] in
       let dark : fact.BlackFrameHasNoWhite g sh.white sh.black_frame (upd2 w.register s r v) = λ u k a b black.
-          elim (upd2_cases w.register s r v u k) [
-            inl (i, j, q) ↦ rw q (e.dark (ap sh.black_frame (sym i) ∙ black))
-          | inr (d, q) ↦ rw q (h.black_frame_has_no_white u k a b black) ] in
+      elim (upd2_cases w.register s r v u k) [
+        | inl (i, j, q) ↦ rw q (e.dark (ap sh.black_frame (sym i) ∙ black))
+        | inr (d, q) ↦ rw q (h.black_frame_has_no_white u k a b black)
+      ] in
       let passed_registers : fact.RegistersPassed g t.line w.cycle t.first w.frame_version (upd2 w.register s r v) w.mark = λ u passed k a same b.
-          elim (upd2_cases w.register s r v u k) [
-            inl (i, j, q) ↦ rw q (attempted (IsNullOrMarked w.cycle w.mark v) (λ null. inl null) u i ((h.frame_attempt_behind u passed a).same_accessors same) e.in_attempt)
-          | inr (d, q) ↦ rw q (h.registers_passed u passed k a same b) ] in
+      elim (upd2_cases w.register s r v u k) [
+        | inl (i, j, q) ↦ rw q (attempted (IsNullOrMarked w.cycle w.mark v) (λ null. inl null) u i ((h.frame_attempt_behind u passed a).same_accessors same) e.in_attempt)
+        | inr (d, q) ↦ rw q (h.registers_passed u passed k a same b)
+      ] in
       let work : fact.RegisterInWork t.line t.first t.cell w.frame_version (upd2 w.register s r v) = λ u k a same.
-          elim (upd2_cases w.register s r v u k) [
-            inl (i, j, q) ↦ rw q (attempted ((v ≡ 0) ⊎ (v ≡ t.cell)) (λ null. inl null) u i ((h.frame_attempt_behind u k (work_in_attempt g t.line u k a)).same_accessors same) e.in_attempt)
-          | inr (d, q) ↦ rw q (h.register_in_work u k a same) ] in
+      elim (upd2_cases w.register s r v u k) [
+        | inl (i, j, q) ↦ rw q (attempted ((v ≡ 0) ⊎ (v ≡ t.cell)) (λ null. inl null) u i ((h.frame_attempt_behind u k (work_in_attempt g t.line u k a)).same_accessors same) e.in_attempt)
+        | inr (d, q) ↦ rw q (h.register_in_work u k a same)
+      ] in
       assumption
     where
       attempted : (P : Type 0) → (v ≡ 0 → P) → (u : ℕ) → u ≡ s → w.frame_accessors u ≡ 0 → (v ≡ 0) ⊎ (0 < w.frame_accessors s) → P
@@ -193,8 +195,19 @@ module _ (x : Flight) (dest from : ℕ) (is_move : x.call ≡ call.Move dest fro
   -- a Move goes on from its second place to its third
   move_goes : GoesOn x.call x.place 3
   unfolding f.register_stays_at f.is_load_at f.is_new_at
-  move_goes = rw (is_move, at_2) (record { flying = refl; in_row = omega arith; in_step = λ full raised h. h; register_stays = refl; is_load = refl; will_raise = refl;
-    raised_before = refl; raised = refl; making = refl; numbered_before = refl; numbered = refl })
+  move_goes = rw (is_move, at_2) (record {
+    flying = refl;
+    in_row = omega arith;
+    in_step = λ full raised h. h;
+    register_stays = refl;
+    is_load = refl;
+    will_raise = refl;
+    raised_before = refl;
+    raised = refl;
+    making = refl;
+    numbered_before = refl;
+    numbered = refl;
+  })
 
   move_object : SameObject x.call x.place 3
   unfolding f.in_object_at f.before_object_at
@@ -240,7 +253,7 @@ pub move_writes : (g : Geometry) (w : Words) (flight : ℕ → Flight) (begun : 
     → s < tasks g → from < g.registers → (flight s).call ≡ call.Move dest from → (flight s).place ≡ 2 → f.is_resting (flight s) ≡ false
     → FactsOf g w flight begun t names contents range
     → FactsOf g (writing_words w s dest (flight s).item) (upd flight s (moved_on (flight s) 3 (flight s).at)) begun t names
-        (writing_contents contents s dest (contents.register s from)) range
+    (writing_contents contents s dest (contents.register s from)) range
 move_writes g w flight begun t names contents range s dest from below reg is_move at_2 busy h =
     let x = flight s in
     let y = moved_on x 3 x.at in
@@ -265,11 +278,11 @@ move_writes g w flight begun t names contents range s dest from below reg is_mov
     } in
     let hands : hands_of g (upd flight s y) t ≡ hands_of g flight t = hands_upd g t flight s y (goes_hand x 3 x.at goes g (move_claim x dest from is_move at_2)) in
     let shades : shades_of g (writing_words w s dest x.item) (upd flight s y) t.line names ≡ shades_of g (writing_words w s dest x.item) flight t.line names =
-        shades_upd g (writing_words w s dest x.item) t.line names flight s y (goes_without_number x 3 x.at goes) ((goes_making_nothing x 3 x.at goes).no_number) in
+    shades_upd g (writing_words w s dest x.item) t.line names flight s y (goes_without_number x 3 x.at goes) ((goes_making_nothing x 3 x.at goes).no_number) in
     rw (hands, shades, shades_write g w s dest x.item flight t.line names)
-        (write_register_facts g w z sh flight begun (hands_of g flight t) t names contents range s dest x.item (contents.register s from) y below writes
-            (λ b. goes_so x 3 x.at goes g w sh t.line names contents flight s below refl (move_claim x dest from is_move at_2) (move_item x dest from is_move at_2)
-                (λ i. refuted _ (move_in_no_object x dest from is_move at_2) i) b) h)
+    (write_register_facts g w z sh flight begun (hands_of g flight t) t names contents range s dest x.item (contents.register s from) y below writes
+    (λ b. goes_so x 3 x.at goes g w sh t.line names contents flight s below refl (move_claim x dest from is_move at_2) (move_item x dest from is_move at_2)
+    (λ i. refuted _ (move_in_no_object x dest from is_move at_2) i) b) h)
 
 -- CLEAR
 
@@ -327,7 +340,7 @@ clear_writes g w flight begun t names contents range s dest below is_clear h =
     } in
     let hands : hands_of g (upd flight s y) t ≡ hands_of g flight t = hands_upd g t flight s y (ends_hand x ends g) in
     let shades : shades_of g (writing_words w s dest 0) (upd flight s y) t.line names ≡ shades_of g (writing_words w s dest 0) flight t.line names =
-        shades_upd g (writing_words w s dest 0) t.line names flight s y (ends_without_number x ends) ((idle_makes_nothing x.seat).no_number) in
+    shades_upd g (writing_words w s dest 0) t.line names flight s y (ends_without_number x ends) ((idle_makes_nothing x.seat).no_number) in
     rw (hands, shades, shades_write g w s dest 0 flight t.line names)
-        (write_register_facts g w z sh flight begun (hands_of g flight t) t names contents range s dest 0 None y below writes
-            (λ b. ends_so x ends g w sh t.line names contents flight s below refl b) h)
+    (write_register_facts g w z sh flight begun (hands_of g flight t) t names contents range s dest 0 None y below writes
+    (λ b. ends_so x ends g w sh t.line names contents flight s below refl b) h)

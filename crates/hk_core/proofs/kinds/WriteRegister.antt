@@ -13,7 +13,7 @@ use Rattle.hk_core.specs.State.{idle}
 use Rattle.hk_core.specs.View.{Words, Names, Contents, shown}
 use Rattle.hk_core.specs.Flights as f
 use Rattle.hk_core.specs.Flights.{Hand}
-use Rattle.hk_core.specs.Colours.{Spaces, spaces_of, Shades, shades_of, IsNullOrGood, NamesNoWhite, IsNullOrMarked}
+use Rattle.hk_core.specs.Colours.{Spaces, spaces_of, Shades, shades_of, IsNullOrGood, IsNullOrKept, NamesNoWhite, IsNullOrMarked}
 use Rattle.hk_core.specs.Facts as fact
 use Rattle.hk_core.specs.Facts.{IsSettled, FrameBehind}
 use Rattle.hk_core.specs.Lawful.{Facts, FactsOf, hands_of}
@@ -136,6 +136,7 @@ module _ (g : Geometry) (w : Words) (z : Spaces) (sh : Shades) (flight : ℕ →
     pub has_written : HasWritten y v
     pub shows : v ≡ shown names p
     pub good : IsNullOrGood sh.kept names v
+    pub bears : IsNullOrKept sh.kept names p
     pub dark : sh.black_frame s ≡ true → NamesNoWhite sh.white v
     pub dark_when_settled : IsSettled g w.cycle sh.white sh.grey w.register flight → NamesNoWhite sh.white v
     pub in_attempt : (v ≡ 0) ⊎ (0 < w.frame_accessors s)
@@ -163,6 +164,8 @@ module _ (g : Geometry) (w : Words) (z : Spaces) (sh : Shades) (flight : ℕ →
       let sweeps : fact.SettledFromSweep t.line (IsSettled g w.cycle sh.white sh.grey (upd2 w.register s r v) (upd flight s y)) = λ m. settles (h.settled_from_sweep m) in
       let good : fact.RegistersGood g sh.kept names (upd2 w.register s r v) = λ u k a b.
       elim (upd2_cases w.register s r v u k) [ inl (i, j, q) ↦ rw q e.good | inr (d, q) ↦ rw q (h.registers_good u k a b) ] in
+      let bears : fact.RegistersKept g sh.kept names (upd2 contents.register s r p) = λ u k a b.
+      elim (upd2_cases contents.register s r p u k) [ inl (i, j, q) ↦ rw q e.bears | inr (d, q) ↦ rw q (h.registers_kept u k a b) ] in
       let dark : fact.BlackFrameHasNoWhite g sh.white sh.black_frame (upd2 w.register s r v) = λ u k a b black.
       elim (upd2_cases w.register s r v u k) [
         | inl (i, j, q) ↦ rw q (e.dark (ap sh.black_frame (sym i) ∙ black))
@@ -272,6 +275,7 @@ move_writes g w flight begun t names contents range s dest from below reg is_mov
       has_written = move_has_written x dest from is_move at_2;
       shows = stays ∙ plain;
       good = rw stays (h.registers_good s from below reg);
+      bears = h.registers_kept s from below reg;
       dark = λ black. rw stays (h.black_frame_has_no_white s from below reg black);
       dark_when_settled = λ o. rw stays (o.registers s from below reg);
       in_attempt = inr (omega arith);
@@ -334,6 +338,7 @@ clear_writes g w flight begun t names contents range s dest below is_clear h =
       has_written = idle_has_written x.seat 0;
       shows = null_shown names;
       good = inl refl;
+      bears = inl refl;
       dark = λ black. inl refl;
       dark_when_settled = λ o. inl refl;
       in_attempt = inl refl;

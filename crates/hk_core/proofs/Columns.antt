@@ -1,5 +1,5 @@
 -- The packed words of a row after a word was written at one slot: one column changes, at one index.
-use Rattle.std.proofs.Common.{◌≡◌, ℕ, ◌≢◌, ◌⊎◌, ◌+◌, ◌*◌, ◌<◌, ◌≤◌, Bool, true, false, List, length, inl, inr, refl, sym, ◌∙◌, ap, arith}
+use Rattle.std.proofs.Common.{◌≡◌, ℕ, ◌≢◌, ◌⊎◌, ◌*◌, ◌<◌, ◌≤◌, Bool, true, false, List, length, inl, inr, refl, ◌∙◌, ap}
 use Rattle.std.proofs.lemmas.Bool.{ltb-true, leb-true, lt-ltb, le-leb, and_parts, and_from}
 use Rattle.std.proofs.lemmas.List.{set-get_or}
 use Rattle.std.specs.Prelude.{nat_lt, nat_le, ◌&&◌, slice_index, slice_set, Some, None}
@@ -13,7 +13,7 @@ use Rattle.hk_model.proofs.Updates.{is_upd, is_upd2}
 use Rattle.hk_core.specs.declared.event.Event.{Event}
 use Rattle.hk_core.specs.Event as event
 use Rattle.hk_core.specs.Event.{fired, fired_if, old_of, word_after}
-use Rattle.hk_core.specs.View.{Raw, raw, word_if}
+use Rattle.hk_core.specs.View.{raw, word_if}
 
 -- A word where a test says that there is a slot.
 

@@ -1,7 +1,6 @@
 -- Counts and sums over the seats after a change of one seat.
-use Rattle.std.proofs.Common.{◌≡◌, ℕ, zero, suc, ◌≢◌, ◌⊎◌, ◌+◌, ◌-◌, ◌<◌, ◌≤◌, Bool, true, false, inl, inr, refl, sym, ◌∙◌, ap, arith}
-use Rattle.std.proofs.lemmas.Bool.{cases_eq, cases_lt}
-use Rattle.std.proofs.lemmas.Bool.Decides.{nat_tests}
+use Rattle.std.proofs.Common.{◌≡◌, ℕ, zero, suc, ◌+◌, ◌<◌, ◌≤◌, Bool, true, false, inl, inr, refl, sym, ◌∙◌, ap, arith}
+use Rattle.std.proofs.lemmas.Bool.{cases_eq}
 use Rattle.std.specs.Prelude.{if◌then◌else◌}
 use Rattle.hk_model.specs.View.{upd}
 use Rattle.hk_model.proofs.Updates.{upd_same, upd_other}
@@ -104,7 +103,7 @@ count_some p s (suc n) below h =
       | inr d ↦ let i : 0 < count_below n p = count_some p s n (omega arith) h in omega arith
     ]
 
--- where two seats at least pass, or one, the count is at most the number of seats
+-- at most all seats pass the test
 pub count_bounded : (p : ℕ → Bool) (n : ℕ) → count_below n p ≤ n
 unfolding count_below
 count_bounded p zero = omega arith
@@ -114,7 +113,7 @@ count_bounded p (suc n) = let i : count_below n p ≤ n = count_bounded p n in l
     one_at_most true = omega arith
     one_at_most false = omega arith
 
--- a seat that doesn't pass makes the count less than the number of seats
+-- where a seat fails the test, fewer than all seats pass it
 pub count_room : (p : ℕ → Bool) (s n : ℕ) → s < n → p s ≡ false → count_below n p < n
 unfolding count_below
 count_room p s zero below h = absurd (omega arith)

@@ -1,17 +1,17 @@
 -- What the words of a row say after each change of a packed word, and what the flights and the begun calls are after a
 -- change of a seat.
-use Rattle.std.proofs.Common.{◌≡◌, ℕ, ◌≢◌, ◌⊎◌, ◌+◌, ◌-◌, ◌*◌, ◌^◌, ◌<◌, ◌≤◌, Bool, true, false, List, length, inl, inr, refl, sym, ◌∙◌, ap, arith, get_or-set_same, get_or-set_other}
+use Rattle.std.proofs.Common.{◌≡◌, ℕ, ◌+◌, ◌-◌, ◌^◌, ◌<◌, length, refl, arith, get_or-set_same, get_or-set_other}
 use Rattle.std.specs.Prelude.{slice_set}
 use Rattle.hk_words.specs.Layout.{accessors_bits, place_bits, blackened_bits, words_bits, objects_bits, entering, leaving, raise_by}
 use Rattle.hk_words.specs.Layout.{IsHeader, pack_header, header_accessors, header_place, header_version, header_moved}
-use Rattle.hk_words.specs.Layout.{IsFrame, frame_accessors, frame_cycle, frame_version, frame_blackened}
-use Rattle.hk_words.specs.Layout.{IsW0, pack_w0, w0_words, w0_objects, w0_cycle}
+use Rattle.hk_words.specs.Layout.{frame_accessors, frame_cycle, frame_version, frame_blackened}
+use Rattle.hk_words.specs.Layout.{pack_w0, w0_words, w0_objects}
 use Rattle.hk_words.proofs.PackingLaws.{header_unpacks, header_enters, header_leaves, header_moves, frame_enters, frame_leaves, frame_blackens, w0_unpacks, w0_raises}
 use Rattle.hk_model.specs.View.{upd, upd2}
 use Rattle.hk_model.proofs.Updates.{is_upd}
 use Rattle.hk_core.specs.declared.flight.Flight.{Flight}
 use Rattle.hk_core.specs.State.{State, idle, flight_of}
-use Rattle.hk_core.specs.View.{Raw, Words, decoded, flight_at, begun_at}
+use Rattle.hk_core.specs.View.{Raw, decoded, flight_at, begun_at}
 use Rattle.hk_core.proofs.Update.{map_upd, map_upd_kept}
 
 -- Headers.

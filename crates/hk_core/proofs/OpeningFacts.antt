@@ -11,7 +11,7 @@ use Rattle.hk_core.specs.Counts.{count_below}
 use Rattle.hk_core.specs.View.{Words, Names, Contents, shown, refs_at, nums_at, size_at, reference_at}
 use Rattle.hk_core.specs.Flights as f
 use Rattle.hk_core.specs.Lines as l
-use Rattle.hk_core.specs.Colours.{spaces_of, shades_of, kept_by, held_by, white_by, grey_by, black_frame_by, IsGood, InCurrent}
+use Rattle.hk_core.specs.Colours.{spaces_of, shades_of, kept_by, held_by, white_by, grey_by, black_frame_by, IsGood, IsKeptBirth, InCurrent}
 use Rattle.hk_core.specs.Facts as fact
 use Rattle.hk_core.specs.Lawful.{FactsOf, hands_of}
 use Rattle.hk_core.proofs.OpeningTables as table
@@ -140,6 +140,15 @@ module _ (g : Geometry) (place mark accessors version frame_accessors frame_cycl
     | inr d ↦ inl (o.no_register s r d)
   ]
 
+  board_birth : IsKeptBirth kept names 0
+  board_birth = record { is_kept = rw (b.number 0) board_kept; bears = rw (b.number 0) b.bearer }
+
+  registers_kept : fact.RegistersKept g kept names contents.register
+  registers_kept s r a c = elim (cases_eq r 0) [
+    | inl e ↦ inr (0, rw e (b.board s a), board_birth)
+    | inr d ↦ inl (b.no_register s r d)
+  ]
+
   links_kept : fact.LinksKept kept names contents.link
   links_kept n birth h e i l = inl (b.no_link birth i)
 
@@ -264,6 +273,7 @@ module _ (g : Geometry) (place mark accessors version frame_accessors frame_cycl
     frame_accessors_counted = nobody_in_frames;
     registers_shown = registers_shown;
     registers_good = registers_good;
+    registers_kept = registers_kept;
     entered_good = λ s a h e. absurd (both_ways _ (table.is_flying-idle s) e);
     loaded_good = λ s a e. absurd (both_ways _ (table.has_loaded-idle s) e);
     cell_good = λ e. never e;

@@ -1,6 +1,6 @@
 -- Columns with one value changed: what a function of a column's values is then, and what holds of each seat and of each
 -- two seats.
-use Rattle.std.proofs.Common.{◌≡◌, ℕ, ◌≢◌, ◌⊎◌, ◌<◌, ◌≤◌, inl, inr, refl, sym, ◌∙◌, ap, arith}
+use Rattle.std.proofs.Common.{◌≡◌, ℕ, ◌≢◌, ◌⊎◌, ◌<◌, inl, inr, refl, sym, ◌∙◌, ap}
 use Rattle.std.proofs.lemmas.Bool.{cases_eq}
 use Rattle.hk_model.specs.View.{upd, upd2}
 use Rattle.hk_model.proofs.Updates.{upd_same, upd_other, is_upd, upd2_same, upd2_other}

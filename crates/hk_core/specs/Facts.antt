@@ -94,6 +94,11 @@ RegistersShown g names register plain flight = (s r : ℕ) → s < tasks g → r
 abbrev pub RegistersGood : Geometry → (kept : ℕ → Bool) → Names → (register : ℕ → ℕ → ℕ) → Type 0
 RegistersGood g kept names register = (s r : ℕ) → s < tasks g → r < g.registers → IsNullOrGood kept names (register s r)
 
+-- The birth in a register of the plain heap is a kept one: it is the last that bears its number. Without it a number that
+-- was given again would show an older birth of the same shape, and a read would answer the cell of another object.
+abbrev pub RegistersKept : Geometry → (kept : ℕ → Bool) → Names → (plain : ℕ → ℕ → Option ℕ) → Type 0
+RegistersKept g kept names plain = (s r : ℕ) → s < tasks g → r < g.registers → IsNullOrKept kept names (plain s r)
+
 -- The reference that a call in flight goes through is good, all the way. Without it the sweep would empty the header of
 -- an object that a call is inside and no register names any more.
 abbrev pub EnteredGood : Geometry → (kept : ℕ → Bool) → Names → (flight : ℕ → Flight) → Type 0

@@ -39,6 +39,7 @@ pub record Facts (g : Geometry) (w : Words) (z : Spaces) (sh : Shades) (flight :
   -- kept births
   pub registers_shown : fact.RegistersShown g names w.register contents.register flight
   pub registers_good : fact.RegistersGood g sh.kept names w.register
+  pub registers_kept : fact.RegistersKept g sh.kept names contents.register
   pub entered_good : fact.EnteredGood g sh.kept names flight
   pub loaded_good : fact.LoadedGood g sh.kept names flight
   pub cell_good : fact.CellGood sh.kept names t.line t.cell

@@ -1,21 +1,19 @@
 -- A call enters its object: the header has one more accessor and a greater version, and the call knows the place.
-use Rattle.std.proofs.Common.{◌≡◌, ◌≢◌, ◌⊎◌, ℕ, ◌+◌, ◌-◌, ◌*◌, ◌/◌, ◌%◌, ◌<◌, ◌≤◌, Bool, true, false, inl, inr, refl, sym, ◌∙◌, ap, arith, Option, Some, None}
-use Rattle.std.proofs.lemmas.Bool.{cases_eq, both_ways, and_parts, and_from, ltb-true, lt-ltb, cases_Bool, eq-eqb, ne_eqb}
-use Rattle.std.specs.Prelude.{nat_eq, nat_lt, nat_le, ◌&&◌}
+use Rattle.std.proofs.Common.{◌≡◌, ◌≢◌, ℕ, ◌+◌, ◌<◌, ◌≤◌, true, false, inl, inr, refl, sym, ◌∙◌, ap, arith, Option, Some}
+use Rattle.std.proofs.lemmas.Bool.{eq-eqb, ne_eqb}
+use Rattle.std.specs.Prelude.{nat_eq}
 use Rattle.hk_words.specs.declared.geometry.Geometry.{Geometry}
 use Rattle.hk_words.specs.declared.call.Call.{Call}
 use Rattle.hk_words.specs.declared.call.Call.TheVariants as call
-use Rattle.hk_words.specs.Geometry.{tasks, numbers, list_length}
+use Rattle.hk_words.specs.Geometry.{tasks}
 use Rattle.hk_words.specs.Layout as layout
 use Rattle.hk_model.specs.View.{upd}
-use Rattle.hk_model.proofs.Updates.{upd_same, upd_other}
+use Rattle.hk_model.proofs.Updates.{upd_other}
 use Rattle.hk_core.specs.declared.flight.Flight.{Flight}
 use Rattle.hk_core.specs.declared.spot.Spot.{Spot}
 use Rattle.hk_core.specs.declared.spot.Line.{Line}
 use Rattle.hk_core.specs.declared.spot.Line.TheVariants as line
-use Rattle.hk_core.specs.declared.spot.Stage.{Stage}
 use Rattle.hk_core.specs.declared.spot.Stage.TheVariants as stage
-use Rattle.hk_core.specs.Step.{places_of}
 use Rattle.hk_core.specs.Collect.{current_space, next_list}
 use Rattle.hk_core.specs.Counts.{count_below, sum_below}
 use Rattle.hk_core.specs.View.{Words, Names, Contents}
@@ -264,7 +262,6 @@ get_enters reg field = record {
     in_step = λ full raised h. h;
     register_stays = refl;
     is_load = refl;
-    has_cycle_in_frame = λ h. h;
     will_raise = refl;
     raised_before = refl;
     raised = refl;
@@ -273,7 +270,7 @@ get_enters reg field = record {
     numbered = refl;
   };
   same_frame = record { inside = refl; before = refl };
-  same_claim = record { has_cycle = λ b h. h; has_claimed = λ h. h; reserves = refl; links = refl };
+  same_claim = record { has_cycle_in_frame = λ h. h; has_cycle = λ b h. h; has_claimed = λ h. h; reserves = refl; links = refl };
   same_item = record { has_item = refl; has_loaded = refl; has_loaded_inside = λ h. h; has_written = refl; holds_back = λ r. refl };
 }
 
@@ -291,7 +288,6 @@ put_enters reg field value = record {
     in_step = λ full raised h. h;
     register_stays = refl;
     is_load = refl;
-    has_cycle_in_frame = λ h. h;
     will_raise = refl;
     raised_before = refl;
     raised = refl;
@@ -300,7 +296,7 @@ put_enters reg field value = record {
     numbered = refl;
   };
   same_frame = record { inside = refl; before = refl };
-  same_claim = record { has_cycle = λ b h. h; has_claimed = λ h. h; reserves = refl; links = refl };
+  same_claim = record { has_cycle_in_frame = λ h. h; has_cycle = λ b h. h; has_claimed = λ h. h; reserves = refl; links = refl };
   same_item = record { has_item = refl; has_loaded = refl; has_loaded_inside = λ h. h; has_written = refl; holds_back = λ r. refl };
 }
 
@@ -318,7 +314,6 @@ store_enters reg field from = record {
     in_step = λ full raised h. h;
     register_stays = refl;
     is_load = refl;
-    has_cycle_in_frame = λ h. h;
     will_raise = refl;
     raised_before = refl;
     raised = refl;
@@ -327,7 +322,7 @@ store_enters reg field from = record {
     numbered = refl;
   };
   same_frame = record { inside = refl; before = refl };
-  same_claim = record { has_cycle = λ b h. h; has_claimed = λ h. h; reserves = refl; links = refl };
+  same_claim = record { has_cycle_in_frame = λ h. h; has_cycle = λ b h. h; has_claimed = λ h. h; reserves = refl; links = refl };
   same_item = record { has_item = refl; has_loaded = refl; has_loaded_inside = λ h. h; has_written = refl; holds_back = λ r. refl };
 }
 
@@ -345,7 +340,6 @@ load_enters dest reg field = record {
     in_step = λ full raised h. h;
     register_stays = refl;
     is_load = refl;
-    has_cycle_in_frame = λ h. h;
     will_raise = refl;
     raised_before = refl;
     raised = refl;
@@ -354,6 +348,6 @@ load_enters dest reg field = record {
     numbered = refl;
   };
   same_frame = record { inside = refl; before = refl };
-  same_claim = record { has_cycle = λ b h. h; has_claimed = λ h. h; reserves = refl; links = refl };
+  same_claim = record { has_cycle_in_frame = λ h. h; has_cycle = λ b h. h; has_claimed = λ h. h; reserves = refl; links = refl };
   same_item = record { has_item = refl; has_loaded = refl; has_loaded_inside = λ h. h; has_written = refl; holds_back = λ r. refl };
 }

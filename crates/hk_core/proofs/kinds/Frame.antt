@@ -1,12 +1,12 @@
 -- A call enters the frame of its seat: the frame word has one accessor more and a greater version. And it leaves it: the
 -- frame word has one accessor less, and the call has ended.
-use Rattle.std.proofs.Common.{◌≡◌, ◌≢◌, ◌⊎◌, ℕ, ◌+◌, ◌-◌, ◌*◌, ◌/◌, ◌%◌, ◌<◌, ◌≤◌, Bool, true, false, inl, inr, refl, sym, ◌∙◌, ap, arith, Option, Some, None}
-use Rattle.std.specs.Prelude.{nat_eq, nat_lt, nat_le, not, ◌&&◌, if◌then◌else◌}
+use Rattle.std.proofs.Common.{◌≡◌, ℕ, ◌+◌, ◌-◌, ◌<◌, ◌≤◌, true, false, inl, inr, refl, sym, ◌∙◌, ap, arith, Option, Some}
+use Rattle.std.specs.Prelude.{if◌then◌else◌}
 use Rattle.hk_words.specs.declared.geometry.Geometry.{Geometry}
 use Rattle.hk_words.specs.declared.shape.Shape.{Shape}
 use Rattle.hk_words.specs.declared.call.Call.{Call}
 use Rattle.hk_words.specs.declared.call.Call.TheVariants as call
-use Rattle.hk_words.specs.Geometry.{tasks, numbers, list_length}
+use Rattle.hk_words.specs.Geometry.{tasks}
 use Rattle.hk_words.specs.Layout as layout
 use Rattle.hk_model.specs.View.{upd}
 use Rattle.hk_model.proofs.Updates.{upd_same, upd_other}
@@ -14,22 +14,20 @@ use Rattle.hk_core.specs.declared.flight.Flight.{Flight}
 use Rattle.hk_core.specs.declared.spot.Spot.{Spot}
 use Rattle.hk_core.specs.declared.spot.Line.{Line}
 use Rattle.hk_core.specs.declared.spot.Line.TheVariants as line
-use Rattle.hk_core.specs.declared.spot.Stage.{Stage}
 use Rattle.hk_core.specs.declared.spot.Stage.TheVariants as stage
 use Rattle.hk_core.specs.State.{idle}
-use Rattle.hk_core.specs.Step.{places_of}
 use Rattle.hk_core.specs.Counts.{count_below, sum_below}
 use Rattle.hk_core.specs.View.{Words, Names, Contents}
 use Rattle.hk_core.specs.Flights as f
 use Rattle.hk_core.specs.Flights.{Hand}
 use Rattle.hk_core.specs.Lines as l
-use Rattle.hk_core.specs.Colours.{Spaces, spaces_of, Shades, shades_of, held_by}
+use Rattle.hk_core.specs.Colours.{Spaces, spaces_of, Shades, shades_of}
 use Rattle.hk_core.specs.Facts as fact
 use Rattle.hk_core.specs.Facts.{FrameBehind}
 use Rattle.hk_core.specs.Lawful.{Facts, FactsOf, hands_of}
 use Rattle.hk_core.proofs.Update.{upd_cases}
 use Rattle.hk_core.proofs.Counts.{count_less}
-use Rattle.hk_core.proofs.kinds.Seats.{CallsFacts, Changes, GoesOn, SameObject, SameClaim, SameItem, Ends, moved_on, calls_upd, counted_kept, versions_kept, frame_versions_kept}
+use Rattle.hk_core.proofs.kinds.Seats.{CallsFacts, GoesOn, SameObject, SameClaim, SameItem, Ends, moved_on, calls_upd, counted_kept, versions_kept, frame_versions_kept}
 use Rattle.hk_core.proofs.kinds.Seats.{hands_upd, shades_upd, goes_making_nothing, goes_without_number, goes_hand, goes_so, goes_in_object, goes_is_inside, goes_before_object, ends_so, ends_hand, ends_without_number, idle_makes_nothing}
 use Rattle.hk_core.proofs.kinds.Enter.{version_before}
 
@@ -105,7 +103,7 @@ behind_enter_frame first accessors cycle version n m o =
     ]
 
 -- a register in work is one of an attempt
-work_in_attempt : (g : Geometry) (ln : Line) (s r : ℕ) → l.register_in_work ln ≡ Some (s, r) → l.frame_attempt g ln ≡ Some (s, r)
+pub work_in_attempt : (g : Geometry) (ln : Line) (s r : ℕ) → l.register_in_work ln ≡ Some (s, r) → l.frame_attempt g ln ≡ Some (s, r)
 unfolding l.register_in_work l.frame_attempt l.is_in_work
 work_in_attempt g line.Rest s r e = absurd (cc)
 work_in_attempt g (line.Frame u) s r e = absurd (cc)
@@ -284,7 +282,6 @@ move_enters dest from = record {
     in_step = λ full raised h. h;
     register_stays = refl;
     is_load = refl;
-    has_cycle_in_frame = λ h. h;
     will_raise = refl;
     raised_before = refl;
     raised = refl;
@@ -293,7 +290,7 @@ move_enters dest from = record {
     numbered = refl;
   };
   same_object = record { inside = refl; before = refl };
-  same_claim = record { has_cycle = λ b h. h; has_claimed = λ h. h; reserves = refl; links = refl };
+  same_claim = record { has_cycle_in_frame = λ h. h; has_cycle = λ b h. h; has_claimed = λ h. h; reserves = refl; links = refl };
   same_item = record { has_item = refl; has_loaded = refl; has_loaded_inside = λ h. h; has_written = refl; holds_back = λ r. refl };
 }
 
@@ -310,7 +307,6 @@ load_enters_frame dest reg field = record {
     in_step = λ full raised h. h;
     register_stays = refl;
     is_load = refl;
-    has_cycle_in_frame = λ h. h;
     will_raise = refl;
     raised_before = refl;
     raised = refl;
@@ -319,7 +315,7 @@ load_enters_frame dest reg field = record {
     numbered = refl;
   };
   same_object = record { inside = refl; before = refl };
-  same_claim = record { has_cycle = λ b h. h; has_claimed = λ h. h; reserves = refl; links = refl };
+  same_claim = record { has_cycle_in_frame = λ h. h; has_cycle = λ b h. h; has_claimed = λ h. h; reserves = refl; links = refl };
   same_item = record { has_item = refl; has_loaded = refl; has_loaded_inside = λ h. h; has_written = refl; holds_back = λ r. refl };
 }
 
@@ -337,7 +333,6 @@ new_enters_frame dest shape = record {
     in_step = λ full raised h. record { not_full_yet = λ b. absurd (omega arith); not_raised_yet = λ b. h.not_raised_yet (omega arith); raised_by_then = λ b. absurd (omega arith) };
     register_stays = refl;
     is_load = refl;
-    has_cycle_in_frame = λ h. h;
     will_raise = refl;
     raised_before = refl;
     raised = refl;
@@ -346,7 +341,7 @@ new_enters_frame dest shape = record {
     numbered = refl;
   };
   same_object = record { inside = refl; before = refl };
-  same_claim = record { has_cycle = λ b h. h; has_claimed = λ h. h; reserves = refl; links = refl };
+  same_claim = record { has_cycle_in_frame = λ h. h; has_cycle = λ b h. h; has_claimed = λ h. h; reserves = refl; links = refl };
   same_item = record { has_item = refl; has_loaded = refl; has_loaded_inside = λ h. h; has_written = refl; holds_back = λ r. refl };
 }
 

@@ -1,19 +1,18 @@
 -- A call leaves its object: the header has one accessor less.
-use Rattle.std.proofs.Common.{◌≡◌, ◌≢◌, ◌⊎◌, ℕ, ◌+◌, ◌-◌, ◌*◌, ◌/◌, ◌%◌, ◌<◌, ◌≤◌, Bool, true, false, inl, inr, refl, sym, ◌∙◌, ap, arith, Option, Some, None}
+use Rattle.std.proofs.Common.{◌≡◌, ◌≢◌, ℕ, ◌+◌, ◌-◌, ◌<◌, true, false, inl, inr, refl, sym, ◌∙◌, ap, arith, Option}
 use Rattle.std.proofs.lemmas.Bool.{both_ways, eq-eqb, ne_eqb}
-use Rattle.std.specs.Prelude.{nat_eq, nat_lt, nat_le, ◌&&◌}
+use Rattle.std.specs.Prelude.{nat_eq, nat_le}
 use Rattle.hk_words.specs.declared.geometry.Geometry.{Geometry}
 use Rattle.hk_words.specs.declared.call.Call.{Call}
 use Rattle.hk_words.specs.declared.call.Call.TheVariants as call
-use Rattle.hk_words.specs.Geometry.{tasks, numbers, list_length}
+use Rattle.hk_words.specs.Geometry.{tasks}
 use Rattle.hk_words.specs.Layout as layout
 use Rattle.hk_model.specs.View.{upd}
-use Rattle.hk_model.proofs.Updates.{upd_same, upd_other}
+use Rattle.hk_model.proofs.Updates.{upd_other}
 use Rattle.hk_core.specs.declared.flight.Flight.{Flight}
 use Rattle.hk_core.specs.declared.spot.Spot.{Spot}
 use Rattle.hk_core.specs.declared.spot.Line.{Line}
 use Rattle.hk_core.specs.State.{idle}
-use Rattle.hk_core.specs.Step.{places_of}
 use Rattle.hk_core.specs.Collect.{current_space, next_list}
 use Rattle.hk_core.specs.Counts.{count_below}
 use Rattle.hk_core.specs.View.{Words, Names, Contents}
@@ -273,7 +272,6 @@ load_leaves dest reg field = record {
     in_step = λ full raised h. h;
     register_stays = refl;
     is_load = refl;
-    has_cycle_in_frame = λ h. h;
     will_raise = refl;
     raised_before = refl;
     raised = refl;
@@ -282,6 +280,6 @@ load_leaves dest reg field = record {
     numbered = refl;
   };
   same_frame = record { inside = refl; before = refl };
-  same_claim = record { has_cycle = λ b h. absurd (cc); has_claimed = λ h. absurd (cc); reserves = refl; links = refl };
+  same_claim = record { has_cycle_in_frame = λ h. h; has_cycle = λ b h. absurd (cc); has_claimed = λ h. absurd (cc); reserves = refl; links = refl };
   same_item = record { has_item = refl; has_loaded = refl; has_loaded_inside = λ h. absurd (cc); has_written = refl; holds_back = λ r. refl };
 }

@@ -1,7 +1,7 @@
 -- The facts of the flights, after the flight of one seat has changed. A kind of step shows the facts of the seat's new
 -- flight, and the lemmas here carry those of the other seats over.
-use Rattle.std.proofs.Common.{◌≡◌, ◌≢◌, ◌⊎◌, ℕ, ◌+◌, ◌*◌, ◌<◌, ◌≤◌, Bool, true, false, inl, inr, refl, sym, ◌∙◌, ap, arith, Option, Some, None}
-use Rattle.std.proofs.lemmas.Bool.{cases_eq, both_ways, and_parts, and_from, ltb-true, lt-ltb, cases_Bool, or_cases}
+use Rattle.std.proofs.Common.{◌≡◌, ◌≢◌, ℕ, ◌+◌, ◌<◌, ◌≤◌, Bool, true, false, inl, inr, refl, sym, ◌∙◌, ap, arith, Option, Some}
+use Rattle.std.proofs.lemmas.Bool.{both_ways, and_parts, and_from, ltb-true, lt-ltb, cases_Bool, or_cases}
 use Rattle.std.proofs.lemmas.Bool.Decides.{nat_tests}
 use Rattle.std.specs.Prelude.{nat_eq, nat_lt, nat_le, is_some, not, ◌&&◌, ◌||◌, if◌then◌else◌}
 use Rattle.hk_words.specs.declared.geometry.Geometry.{Geometry}
@@ -18,15 +18,15 @@ use Rattle.hk_core.specs.Begin.{has_field, copied}
 use Rattle.hk_core.specs.Collect.{current_space}
 use Rattle.hk_core.specs.Step.{new_place, places_of, reserved_fits}
 use Rattle.hk_core.specs.State.{idle}
-use Rattle.hk_core.specs.Counts.{count_below, any_below}
+use Rattle.hk_core.specs.Counts.{any_below}
 use Rattle.hk_core.specs.View.{Words, Names, Contents, shown}
 use Rattle.hk_core.specs.Flights as f
 use Rattle.hk_core.specs.Flights.{Hand, no_claim, to_reserve, to_link, hand_of_flight}
 use Rattle.hk_core.specs.Lines.{is_marking, hand_of_spot}
-use Rattle.hk_core.specs.Colours.{Spaces, Shades, shades_of, held_by, kept_by, is_fresh, Apart, IsGood, IsNullOrGood, NamesNoWhite}
+use Rattle.hk_core.specs.Colours.{Shades, shades_of, held_by, kept_by, is_fresh, Apart, IsGood, IsNullOrGood, NamesNoWhite}
 use Rattle.hk_core.specs.Facts as fact
 use Rattle.hk_core.specs.Facts.{IsFormed, IsRecent, IsSettled, IsOwn, FoundRoom}
-use Rattle.hk_core.specs.Lawful.{Facts, hands_of}
+use Rattle.hk_core.specs.Lawful.{hands_of}
 use Rattle.hk_core.proofs.Update.{upd_cases, each_upd, pairs_upd}
 use Rattle.hk_core.proofs.Counts.{count_kept, count_some, any_kept}
 
@@ -364,7 +364,6 @@ pub record GoesOn (call : Call) (p q : ℕ) : Type 0 where
   pub in_step : (full raised : Bool) → f.IsInStepAt call p full raised → f.IsInStepAt call q full raised
   pub register_stays : f.register_stays_at call q ≡ f.register_stays_at call p
   pub is_load : f.is_load_at 1 10 call q ≡ f.is_load_at 1 10 call p
-  pub has_cycle_in_frame : f.is_load_at 4 10 call q ≡ true → f.is_load_at 4 10 call p ≡ true
   pub will_raise : f.is_new_at 2 3 call q ≡ f.is_new_at 2 3 call p
   pub raised_before : f.is_new_at 4 7 call p ≡ false
   pub raised : f.is_new_at 4 7 call q ≡ false
@@ -384,6 +383,7 @@ pub record SameFrame (call : Call) (p q : ℕ) : Type 0 where
 
 -- it neither loads W0 nor claims, reserves or links
 pub record SameClaim (call : Call) (p q : ℕ) : Type 0 where
+  pub has_cycle_in_frame : f.is_load_at 4 10 call q ≡ true → f.is_load_at 4 10 call p ≡ true
   pub has_cycle : (is_null : Bool) → f.has_cycle_inside_at call q is_null ≡ true → f.has_cycle_inside_at call p is_null ≡ true
   pub has_claimed : f.has_claimed_at call q ≡ true → f.has_claimed_at call p ≡ true
   pub reserves : f.reserves_at call q ≡ f.reserves_at call p
@@ -398,11 +398,11 @@ pub record SameItem (call : Call) (p q : ℕ) : Type 0 where
   pub holds_back : (reg : ℕ) → f.holds_back_at call q reg ≡ f.holds_back_at call p reg
 
 -- a call that has loaded W0 in its frame had loaded it before
-in_frame_before : (x : Flight) (q : ℕ) → GoesOn x.call x.place q → (f.is_load_at 4 10 x.call q || (f.is_new_at 4 7 x.call q && x.raised)) ≡ true
+in_frame_before : (x : Flight) (q : ℕ) → GoesOn x.call x.place q → SameClaim x.call x.place q → (f.is_load_at 4 10 x.call q || (f.is_new_at 4 7 x.call q && x.raised)) ≡ true
     → (f.is_load_at 4 10 x.call x.place || (f.is_new_at 4 7 x.call x.place && x.raised)) ≡ true
-in_frame_before x q t h =
+in_frame_before x q t c h =
     elim (or_cases (f.is_load_at 4 10 x.call q) (f.is_new_at 4 7 x.call q && x.raised) h) [
-      | inl e ↦ rw (t.has_cycle_in_frame e) refl
+      | inl e ↦ rw (c.has_cycle_in_frame e) refl
       | inr e ↦ absurd (both_ways (f.is_new_at 4 7 x.call q) t.raised (and_parts _ _ e).0)
     ]
 
@@ -472,7 +472,7 @@ module _ (x : Flight) (q at : ℕ) (t : GoesOn x.call x.place q) where
     copied_stays = λ r h. o.copied_stays r t.flying;
     claims_last = λ h. let p = and_parts _ _ h in o.claims_last (and_from _ _ (claim.has_claimed p.0) p.1);
     late_in_no_black_object = λ h. o.late_in_no_black_object (claim.has_cycle (nat_eq x.item 0) h);
-    late_in_no_black_frame = λ h. o.late_in_no_black_frame (in_frame_before x q t h);
+    late_in_no_black_frame = λ h. o.late_in_no_black_frame (in_frame_before x q t claim h);
     loaded_white = λ h. o.loaded_white (item.has_loaded_inside h);
     entered_white = λ h. o.entered_white (sym t.is_load ∙ h);
   }

@@ -7,3 +7,5 @@ pub mod LoadCycle
 pub mod Words
 pub mod WriteRegister
 pub mod Effects
+pub mod Begin
+pub mod WriteCell

@@ -1,0 +1,447 @@
+-- A call inside an object writes one of its cells. The word is behind the link word of the object's words, so it is in no
+-- other object, no link word, and no word that is said to be 0.
+use Rattle.std.proofs.Common.{◌≡◌, ◌≢◌, ◌⊎◌, ℕ, ◌+◌, ◌-◌, ◌%◌, ◌^◌, ◌<◌, ◌≤◌, Bool, true, false, inl, inr, refl, sym, ◌∙◌, ap, arith, Option, Some, None}
+use Rattle.std.proofs.lemmas.Bool.{both_ways, cases_Bool, cases_eq, cases_lt, ltb-true, leb-true, lt-ltb, le-leb, eqb-true, eq-eqb, and_parts, and_from, or_cases}
+use Rattle.std.specs.Prelude.{unwrap_or, option_map, nat_eq}
+use Rattle.hk_words.specs.declared.geometry.Geometry.{Geometry}
+use Rattle.hk_words.specs.declared.call.Call.{Call}
+use Rattle.hk_words.specs.declared.call.Call.TheVariants as call
+use Rattle.hk_words.specs.Geometry.{tasks, numbers, space_words}
+use Rattle.hk_words.specs.Layout as layout
+use Rattle.hk_model.specs.View.{upd, upd2}
+use Rattle.hk_model.proofs.Updates.{upd_same, upd_other}
+use Rattle.hk_core.specs.declared.flight.Flight.{Flight}
+use Rattle.hk_core.specs.declared.spot.Spot.{Spot}
+use Rattle.hk_core.specs.declared.spot.Line.{Line}
+use Rattle.hk_core.specs.declared.spot.Line.TheVariants as line
+use Rattle.hk_core.specs.declared.spot.Stage.TheVariants as stage
+use Rattle.hk_core.specs.Collect.{current_space, old_space}
+use Rattle.hk_core.specs.Step.{number_cell, new_place, reference_size}
+use Rattle.hk_core.specs.View.{Words, Names, Contents, shown, refs_at, nums_at, size_at, reference_at}
+use Rattle.hk_core.specs.Flights as f
+use Rattle.hk_core.specs.Flights.{Hand}
+use Rattle.hk_core.specs.Lines as l
+use Rattle.hk_core.specs.Colours.{Spaces, spaces_of, Shades, shades_of, held_by, is_fresh, LiesIn, InCurrent, InOld, Apart, Covers, IsNullOrMarked}
+use Rattle.hk_core.specs.Facts as fact
+use Rattle.hk_core.specs.Facts.{HoldsRange, ObjectBehind, IsSettled}
+use Rattle.hk_core.specs.Lawful.{Facts, FactsOf, hands_of}
+use Rattle.hk_core.proofs.Update.{upd_cases, upd2_cases}
+use Rattle.hk_core.proofs.kinds.Seats.{NewsFacts, CallsFacts, KeptMeans, GoesOn, SameObject, SameFrame, SameClaim, SameItem, moved_on, kept_means, calls_upd, counted_kept, versions_kept, frames_counted_kept, frame_versions_kept}
+use Rattle.hk_core.proofs.kinds.Seats.{hands_upd, shades_upd, goes_making_nothing, goes_without_number, goes_hand, goes_so, goes_is_inside, goes_before_object, goes_in_frame, goes_before_frame}
+use Rattle.hk_core.proofs.kinds.Enter.{object_of}
+use Rattle.hk_core.proofs.kinds.Read.{Knows, ShapesFit}
+use Rattle.hk_core.proofs.kinds.Words.{some_in_object}
+
+-- WHAT THE SHADES AND THE SPACES MEAN
+
+-- a number that is marked for the cycle and has its place in the old space
+pub record IsGreyIn (z : Spaces) (cycle : ℕ) (place mark : ℕ → ℕ) (n : ℕ) : Type 0 where
+  pub of_cycle : mark n ≡ cycle
+  pub after : z.old ≤ place n
+  pub before : place n < z.old + (z.live + z.alloc)
+
+-- the two spaces don't overlap
+abbrev pub SpacesApart : Spaces → Type 0
+SpacesApart z = (z.old + (z.live + z.alloc) ≤ z.current) ⊎ (z.current + (z.live + z.alloc) ≤ z.old)
+
+pub record ShadesMean (g : Geometry) (w : Words) (z : Spaces) (sh : Shades) (flight : ℕ → Flight) (ln : Line) (names : Names) : Type 0 where
+  pub kept : KeptMeans g w (held_by g flight) ln names sh
+  pub grey : (n : ℕ) → sh.grey n ≡ true → IsGreyIn z w.cycle w.place w.mark n
+  pub is_grey : (n : ℕ) → IsGreyIn z w.cycle w.place w.mark n → sh.grey n ≡ true
+  pub size : (n : ℕ) → sh.size n ≡ size_at names n
+  pub spaces : SpacesApart z
+  pub whole : space_words g ≡ z.live + z.alloc
+
+spaces_apart : (g : Geometry) (cycle : ℕ) → SpacesApart (spaces_of g cycle)
+spaces_apart g cycle =
+    elim (cases_eq (cycle % 2) 0) [
+      | inl e ↦ let o : (cycle + 1) % 2 ≡ 1 = omega arith in inr (rw (e, o) (omega arith))
+      | inr d ↦ let c : cycle % 2 ≡ 1 = omega arith in let o : (cycle + 1) % 2 ≡ 0 = omega arith in inl (rw (c, o) (omega arith))
+    ]
+
+pub shades_mean : (g : Geometry) (w : Words) (flight : ℕ → Flight) (ln : Line) (names : Names) → ShadesMean g w (spaces_of g w.cycle) (shades_of g w flight ln names) flight ln names
+unfolding shades_of
+shades_mean g w flight ln names = record {
+  kept = kept_means g w flight ln names;
+  grey = λ n e. let p = and_parts _ _ e in let q = and_parts _ _ p.1 in record { of_cycle = eqb-true _ _ p.0; after = leb-true _ _ q.0; before = ltb-true _ _ q.1 };
+  is_grey = λ n o. and_from _ _ (eq-eqb _ _ o.of_cycle) (and_from _ _ (le-leb _ _ o.after) (lt-ltb _ _ o.before));
+  size = λ n. refl;
+  spaces = spaces_apart g w.cycle;
+  whole = refl;
+}
+
+-- the words of the object that a number bears
+size_borne : (names : Names) (n b : ℕ) → names.bearer n ≡ Some b → size_at names n ≡ 1 + names.refs b + names.nums b
+unfolding size_at refs_at nums_at
+size_borne names n b e = rw e refl
+
+size_some : (names : Names) (n : ℕ) → 0 < size_at names n
+unfolding size_at
+size_some names n = omega arith
+
+-- TABLES OF LINES
+
+-- a line with an item is at a range, and doesn't rest
+item_at_range : (ln : Line) → l.has_item ln ≡ true → (l.is_at_range ln ≡ true) × (l.is_resting ln ≡ false)
+unfolding l.has_item l.is_at_range l.is_resting
+item_at_range line.Rest e = absurd (cc)
+item_at_range (line.Frame s) e = absurd (cc)
+item_at_range (line.Register s r stage) e = absurd (cc)
+item_at_range (line.FrameTrade s) e = absurd (cc)
+item_at_range line.Scan e = absurd (cc)
+item_at_range line.Link e = absurd (cc)
+item_at_range line.Look e = (refl, refl)
+item_at_range (line.Cell j stage) e = (refl, refl)
+item_at_range line.ObjectTrade e = (refl, refl)
+item_at_range (line.Pass n) e = absurd (cc)
+item_at_range (line.PassHead n) e = absurd (cc)
+item_at_range (line.Sweep n stage) e = absurd (cc)
+item_at_range (line.Clear j) e = absurd (cc)
+item_at_range line.Reset e = absurd (cc)
+
+-- an attempt on an object has an item, and has gone past cells of that
+attempt_moves : (g : Geometry) (t : Spot) (ln : Line) (passed : ℕ) → l.LineFits g t ln → l.object_attempt t ln ≡ Some passed
+    → (l.has_item ln ≡ true) × (passed + 1 ≤ reference_size t.item)
+unfolding l.has_item l.object_attempt
+attempt_moves g t line.Rest passed fits e = absurd (cc)
+attempt_moves g t (line.Frame s) passed fits e = absurd (cc)
+attempt_moves g t (line.Register s r stage) passed fits e = absurd (cc)
+attempt_moves g t (line.FrameTrade s) passed fits e = absurd (cc)
+attempt_moves g t line.Scan passed fits e = absurd (cc)
+attempt_moves g t line.Link passed fits e = absurd (cc)
+attempt_moves g t line.Look passed fits e = absurd (cc)
+attempt_moves g t (line.Cell j stage) passed fits e = let same : j ≡ passed = cc in let few : j + 1 < reference_size t.item = fits.0 in (refl, omega arith)
+attempt_moves g t line.ObjectTrade passed fits e = let same : reference_size t.item - 1 ≡ passed = cc in (refl, omega arith)
+attempt_moves g t (line.Pass n) passed fits e = absurd (cc)
+attempt_moves g t (line.PassHead n) passed fits e = absurd (cc)
+attempt_moves g t (line.Sweep n stage) passed fits e = absurd (cc)
+attempt_moves g t (line.Clear j) passed fits e = absurd (cc)
+attempt_moves g t line.Reset passed fits e = absurd (cc)
+
+-- a cell that was loaded is one of an attempt, and of the item
+loaded_moves : (g : Geometry) (t : Spot) (ln : Line) (i : ℕ) → l.LineFits g t ln → l.cell_loaded ln ≡ Some i
+    → (l.object_attempt t ln ≡ Some i) × (i + 1 < reference_size t.item)
+unfolding l.cell_loaded l.object_attempt l.loaded_at
+loaded_moves g t line.Rest i fits e = absurd (cc)
+loaded_moves g t (line.Frame s) i fits e = absurd (cc)
+loaded_moves g t (line.Register s r stage) i fits e = absurd (cc)
+loaded_moves g t (line.FrameTrade s) i fits e = absurd (cc)
+loaded_moves g t line.Scan i fits e = absurd (cc)
+loaded_moves g t line.Link i fits e = absurd (cc)
+loaded_moves g t line.Look i fits e = absurd (cc)
+loaded_moves g t (line.Cell j stage.Read) i fits e = absurd (cc)
+loaded_moves g t (line.Cell j stage.Claim) i fits e = let same : j ≡ i = cc in let few : j + 1 < reference_size t.item = fits.0 in (e, omega arith)
+loaded_moves g t (line.Cell j stage.Reserve) i fits e = let same : j ≡ i = cc in let few : j + 1 < reference_size t.item = fits.0 in (e, omega arith)
+loaded_moves g t (line.Cell j stage.Tie) i fits e = let same : j ≡ i = cc in let few : j + 1 < reference_size t.item = fits.0 in (e, omega arith)
+loaded_moves g t (line.Cell j stage.Write) i fits e = let same : j ≡ i = cc in let few : j + 1 < reference_size t.item = fits.0 in (e, omega arith)
+loaded_moves g t (line.Cell j stage.Mark) i fits e = absurd (cc)
+loaded_moves g t (line.Cell j stage.Empty) i fits e = absurd (cc)
+loaded_moves g t line.ObjectTrade i fits e = absurd (cc)
+loaded_moves g t (line.Pass n) i fits e = absurd (cc)
+loaded_moves g t (line.PassHead n) i fits e = absurd (cc)
+loaded_moves g t (line.Sweep n stage) i fits e = absurd (cc)
+loaded_moves g t (line.Clear j) i fits e = absurd (cc)
+loaded_moves g t line.Reset i fits e = absurd (cc)
+
+-- where words were cleared, the collector looks for no objects any more
+cleared_marks : (g : Geometry) (t : Spot) (ln : Line) (i : ℕ) → l.LineFits g t ln → i < l.cleared g ln → (l.is_marking ln ≡ false) × (i < space_words g)
+unfolding l.cleared l.is_marking
+cleared_marks g t line.Rest i fits below = (refl, below)
+cleared_marks g t (line.Frame s) i fits below = absurd (omega arith)
+cleared_marks g t (line.Register s r stage) i fits below = absurd (omega arith)
+cleared_marks g t (line.FrameTrade s) i fits below = absurd (omega arith)
+cleared_marks g t line.Scan i fits below = absurd (omega arith)
+cleared_marks g t line.Link i fits below = absurd (omega arith)
+cleared_marks g t line.Look i fits below = absurd (omega arith)
+cleared_marks g t (line.Cell j stage) i fits below = absurd (omega arith)
+cleared_marks g t line.ObjectTrade i fits below = absurd (omega arith)
+cleared_marks g t (line.Pass n) i fits below = absurd (omega arith)
+cleared_marks g t (line.PassHead n) i fits below = absurd (omega arith)
+cleared_marks g t (line.Sweep n stage) i fits below = absurd (omega arith)
+cleared_marks g t (line.Clear j) i fits below = let few : j < space_words g = fits in (refl, omega arith)
+cleared_marks g t line.Reset i fits below = (refl, below)
+
+-- THE WRITTEN WORD IS NO OTHER
+
+-- a written word that lies in a kept object that a call is inside, behind the link word
+pub record WritesInside (w : Words) (sh : Shades) (n p : ℕ) : Type 0 where
+  pub is_kept : sh.kept n ≡ true
+  pub after : w.place n < p
+  pub before : p < w.place n + sh.size n
+  pub inside : 0 < w.accessors n
+
+-- an object of the current space that stands below the words for evacuation was moved to its range, which the scan has passed
+pub record WasMoved (z : Spaces) (scan : ℕ) (size : ℕ → ℕ) (range : ℕ → Option ℕ) (n y : ℕ) : Type 0 where
+  pub has_range : range y ≡ Some n
+  pub ends : y + size n ≤ scan
+  pub scanned : scan ≤ z.live
+
+-- the object that is moved
+pub record IsMoving (z : Spaces) (sh : Shades) (scan item : ℕ) (range : ℕ → Option ℕ) : Type 0 where
+  pub is_kept : sh.kept (layout.reference_number item) ≡ true
+  pub has_range : range scan ≡ Some (layout.reference_number item)
+  pub fits : scan + sh.size (layout.reference_number item) ≤ z.live
+  pub size : reference_size item ≡ sh.size (layout.reference_number item)
+
+no_range : {A : Type 0} (o : Option ℕ) (n : ℕ) → o ≡ None → o ≡ Some n → A
+no_range o n none some = absurd (cc)
+
+packed : (number refs nums word : ℕ) → number + 1 < 2 ^ 20 → refs < 2 ^ 8 → nums < 2 ^ 8 → word ≡ layout.pack_reference number refs nums
+    → (layout.reference_number word ≡ number) × (layout.reference_refs word ≡ refs) × (layout.reference_nums word ≡ nums)
+packed number refs nums word a b c e = rw e (omega arith, omega arith, omega arith)
+
+fits_byte : (names : Names) → ShapesFit names → (n : ℕ) → (refs_at names n < 2 ^ 8) × (nums_at names n < 2 ^ 8)
+unfolding refs_at nums_at
+fits_byte names fit n = by_bearer (names.bearer n)
+  where
+    by_bearer : (o : Option ℕ) → (unwrap_or (option_map names.refs o) 0 < 2 ^ 8) × (unwrap_or (option_map names.nums o) 0 < 2 ^ 8)
+    by_bearer None = (omega arith, omega arith)
+    by_bearer (Some b) = fit b
+
+few_numbers : (g : Geometry) (n : ℕ) → n < numbers g → n + 1 < 2 ^ 20
+few_numbers g n h = omega arith
+
+-- the reference of a kept number has its parts
+reference_parts : (g : Geometry) (names : Names) (n item : ℕ) → n < numbers g → ShapesFit names → item ≡ reference_at names n
+    → (layout.reference_number item ≡ n) × (layout.reference_refs item ≡ refs_at names n) × (layout.reference_nums item ≡ nums_at names n)
+unfolding reference_at
+reference_parts g names n item within fit e =
+    packed n (refs_at names n) (nums_at names n) item (few_numbers g n within) (fits_byte names fit n).0 (fits_byte names fit n).1 e
+
+size_of_reference : (names : Names) (n item : ℕ) → layout.reference_refs item ≡ refs_at names n → layout.reference_nums item ≡ nums_at names n → reference_size item ≡ size_at names n
+unfolding size_at
+size_of_reference names n item a b = rw (a, b) refl
+
+-- a kept number was claimed in this cycle, where the collector looks for no objects any more
+fresh_when_done : (cycle : ℕ) (marking : Bool) (mark : ℕ) → marking ≡ false → is_fresh cycle marking mark ≡ true → mark ≡ cycle
+fresh_when_done cycle true mark done fresh = absurd (cc)
+fresh_when_done cycle false mark done fresh = elim (or_cases (nat_eq mark cycle) false fresh) [ inl e ↦ eqb-true _ _ e | inr e ↦ absurd (cc) ]
+
+module _ (g : Geometry) (w : Words) (z : Spaces) (sh : Shades) (flight : ℕ → Flight) (begun : ℕ → ℕ) (hand : ℕ → Hand) (t : Spot)
+    (names : Names) (contents : Contents) (range : ℕ → Option ℕ) (h : Facts g w z sh flight begun hand t names contents range)
+    (m : ShadesMean g w z sh flight t.line names) where
+  some_words : (k : ℕ) → 0 < sh.size k
+  some_words k = let e = m.size k in let some = size_some names k in omega arith
+
+  -- a number whose place is in the current space isn't grey
+  not_grey : (k y : ℕ) → w.place k ≡ z.current + y → y < z.live → sh.grey k ≢ true
+  not_grey k y stands below e =
+      let o : IsGreyIn z w.cycle w.place w.mark k = m.grey k e in
+      let after : z.old ≤ w.place k = o.after in
+      let before : w.place k < z.old + (z.live + z.alloc) = o.before in
+      elim m.spaces [ inl a ↦ omega arith | inr a ↦ omega arith ]
+
+  was_moved : l.is_resting t.line ≡ false → (k y : ℕ) → sh.kept k ≡ true → w.place k ≡ z.current + y → y < z.live → WasMoved z t.scan sh.size range k y
+  was_moved busy k y kept stands below =
+      let there : range y ≡ Some k = h.moved_stands_in_range busy k y kept stands below in
+      elim (cases_lt y t.scan) [
+        | inl lower ↦ record { has_range = there; ends = (h.ranges_below_moved y k there lower).ends; scanned = (h.scan_bounded busy).1 }
+        | inr upper ↦ absurd (not_grey k y stands below (h.ranges_above_grey y k there (omega arith)).1)
+      ]
+
+  is_moving : ShapesFit names → l.has_item t.line ≡ true → IsMoving z sh t.scan t.item range
+  is_moving fit e =
+      let at = item_at_range t.line e in
+      let found = h.scan_at_range at.0 in
+      let k = found.0 in
+      let linked = h.item_is_linked e in
+      let kept : sh.kept k ≡ true = (h.ranges_above_grey t.scan k found.1 (omega arith)).0 in
+      let shows : t.item ≡ reference_at names k = elim (h.ranges_linked t.scan k found.1 found.2) [
+        | inl none ↦ absurd (linked.0 (sym linked.1 ∙ none))
+        | inr some ↦ sym linked.1 ∙ some
+      ] in
+      let parts = reference_parts g names k t.item (m.kept k kept).within fit shows in
+      record {
+        is_kept = ap sh.kept parts.0 ∙ kept;
+        has_range = rw parts.0 found.1;
+        fits = rw parts.0 found.2;
+        size = size_of_reference names k t.item parts.1 parts.2 ∙ sym (m.size k) ∙ ap sh.size (sym parts.0);
+      }
+
+  module _ (n p : ℕ) (o : WritesInside w sh n p) where
+    -- the written word is none of another object
+    in_no_other : (k j : ℕ) → sh.kept k ≡ true → k ≢ n → j < sh.size k → w.place k + j ≢ p
+    in_no_other k j kept differ below e =
+        let after : w.place n < p = o.after in
+        let before : p < w.place n + sh.size n = o.before in
+        elim (h.objects_apart k n kept o.is_kept differ) [ inl a ↦ omega arith | inr a ↦ omega arith ]
+
+    -- it is no link word of a range that fits
+    in_no_link : (x k : ℕ) → range x ≡ Some k → x + sh.size k ≤ z.live → z.current + x ≢ p
+    in_no_link x k there fits e =
+        let some : 0 < sh.size k = some_words k in
+        let after : w.place n < p = o.after in
+        let before : p < w.place n + sh.size n = o.before in
+        elim (h.objects_in_one_space n o.is_kept) [
+          | inl old ↦
+              let a : z.old ≤ w.place n = old.after in
+              let b : w.place n + sh.size n ≤ z.old + (z.live + z.alloc) = old.before in
+              elim m.spaces [ inl c ↦ omega arith | inr c ↦ omega arith ]
+          | inr new ↦
+              let a : z.current ≤ w.place n = new.after in
+              let y = w.place n - z.current in
+              let stands : w.place n ≡ z.current + y = omega arith in
+              elim (cases_Bool (l.is_resting t.line)) [
+                | inl rests ↦
+                    let none : w.reserved ≡ 0 = h.nothing_reserved_at_rest rests in
+                    let within : x + sh.size k ≤ w.reserved = h.ranges_within x k there in
+                    omega arith
+                | inr busy ↦
+                    let moved : WasMoved z t.scan sh.size range n y = was_moved busy n y o.is_kept stands (omega arith) in
+                    no_range (range x) k (h.ranges_apart y n x moved.has_range (omega arith) (omega arith)) there
+              ]
+        ]
+
+    -- it is no word of the range at the scan offset, or after that
+    in_no_copy : l.is_resting t.line ≡ false → (x : ℕ) → t.scan ≤ x → x < z.live → z.current + x ≢ p
+    in_no_copy busy x from below e =
+        let after : w.place n < p = o.after in
+        let before : p < w.place n + sh.size n = o.before in
+        elim (h.objects_in_one_space n o.is_kept) [
+          | inl old ↦
+              let a : z.old ≤ w.place n = old.after in
+              let b : w.place n + sh.size n ≤ z.old + (z.live + z.alloc) = old.before in
+              elim m.spaces [ inl c ↦ omega arith | inr c ↦ omega arith ]
+          | inr new ↦
+              let a : z.current ≤ w.place n = new.after in
+              let y = w.place n - z.current in
+              let stands : w.place n ≡ z.current + y = omega arith in
+              let moved : WasMoved z t.scan sh.size range n y = was_moved busy n y o.is_kept stands (omega arith) in
+              let ends : y + sh.size n ≤ t.scan = moved.ends in
+              omega arith
+        ]
+
+    -- it is a word of no range that fits, unless it is one of the object's own range
+    in_own_range : l.is_resting t.line ≡ false → (x : ℕ) → x < z.live → z.current + x ≡ p → (y : ℕ) × (range y ≡ Some n) × (y + sh.size n ≤ z.live) × Covers y (sh.size n) x
+    in_own_range busy x below e =
+        let after : w.place n < p = o.after in
+        let before : p < w.place n + sh.size n = o.before in
+        elim (h.objects_in_one_space n o.is_kept) [
+          | inl old ↦
+              let a : z.old ≤ w.place n = old.after in
+              let b : w.place n + sh.size n ≤ z.old + (z.live + z.alloc) = old.before in
+              elim m.spaces [ inl c ↦ absurd (omega arith) | inr c ↦ absurd (omega arith) ]
+          | inr new ↦
+              let a : z.current ≤ w.place n = new.after in
+              let y = w.place n - z.current in
+              let stands : w.place n ≡ z.current + y = omega arith in
+              let moved : WasMoved z t.scan sh.size range n y = was_moved busy n y o.is_kept stands (omega arith) in
+              let ends : y + sh.size n ≤ t.scan = moved.ends in
+              let scanned : t.scan ≤ z.live = moved.scanned in
+              (y, moved.has_range, omega arith, record { after = omega arith; before = omega arith })
+        ]
+
+    -- it isn't among the words of the old space that were cleared
+    in_no_cleared : (i : ℕ) → i < l.cleared g t.line → z.old + i ≢ p
+    in_no_cleared i below e =
+        let after : w.place n < p = o.after in
+        let before : p < w.place n + sh.size n = o.before in
+        let done = cleared_marks g t t.line i h.spot_formed below in
+        let few : i < space_words g = done.1 in
+        let whole : space_words g ≡ z.live + z.alloc = m.whole in
+        elim (h.objects_in_one_space n o.is_kept) [
+          | inl old ↦
+              let a : z.old ≤ w.place n = old.after in
+              let b : w.place n + sh.size n ≤ z.old + (z.live + z.alloc) = old.before in
+              let k = m.kept n o.is_kept in
+              let marked : w.mark n ≡ w.cycle = fresh_when_done w.cycle (l.is_marking t.line) (w.mark n) done.0 k.is_fresh in
+              let grey : sh.grey n ≡ true = m.is_grey n (record { of_cycle = marked; after = a; before = omega arith }) in
+              absurd (both_ways _ ((h.settled_from_sweep done.0).none_grey n k.within) grey)
+          | inr new ↦
+              let a : z.current ≤ w.place n = new.after in
+              let b : w.place n + sh.size n ≤ z.current + (z.live + z.alloc) = new.before in
+              elim m.spaces [ inl c ↦ omega arith | inr c ↦ omega arith ]
+        ]
+
+    -- while the header is the one that an attempt loaded, it is none of the item's cells
+    in_no_item : ShapesFit names → (passed i : ℕ) → l.object_attempt t t.line ≡ Some passed → w.version (layout.reference_number t.item) ≡ layout.header_version t.first
+        → i + 1 < reference_size t.item → layout.header_place t.first + 1 + i ≢ p
+    in_no_item fit passed i attempt same below e =
+        let k = layout.reference_number t.item in
+        let moving : IsMoving z sh t.scan t.item range = is_moving fit (attempt_moves g t t.line passed h.spot_formed attempt).0 in
+        let behind : ObjectBehind t.first w.accessors w.place w.version k = h.object_attempt_behind passed attempt in
+        let nobody : w.accessors k ≡ 0 = behind.same_accessors same in
+        let some : 0 < w.accessors n = o.inside in
+        let placed : layout.header_place t.first ≡ w.place k = behind.placed in
+        let size : reference_size t.item ≡ sh.size k = moving.size in
+        in_no_other k (1 + i) moving.is_kept (λ same. let a : w.accessors k ≡ w.accessors n = ap w.accessors same in omega arith) (omega arith) (omega arith)
+
+    -- nor is it a word of the item's range
+    in_no_moving : ShapesFit names → (passed i : ℕ) → l.object_attempt t t.line ≡ Some passed → i < passed → z.current + t.scan + 1 + i ≢ p
+    in_no_moving fit passed i attempt below e =
+        let moves = attempt_moves g t t.line passed h.spot_formed attempt in
+        let few : passed + 1 ≤ reference_size t.item = moves.1 in
+        let moving : IsMoving z sh t.scan t.item range = is_moving fit moves.0 in
+        let size : reference_size t.item ≡ sh.size (layout.reference_number t.item) = moving.size in
+        let fits : t.scan + sh.size (layout.reference_number t.item) ≤ z.live = moving.fits in
+        in_no_copy (item_at_range t.line moves.0).1 (t.scan + 1 + i) (omega arith) (omega arith) (omega arith)
+
+-- THE FACTS OF CELLS
+
+-- a column after a write at another index
+unwritten : (cell : ℕ → ℕ) (p v i : ℕ) (P : ℕ → Type 0) → i ≢ p → P (cell i) → P (upd cell p v i)
+unwritten cell p v i P differ o = rw (upd_other cell p v i differ) o
+
+-- the facts that read the words of the spaces, but what these show of the plain heap
+pub record CellFacts (g : Geometry) (w : Words) (z : Spaces) (sh : Shades) (flight : ℕ → Flight) (hand : ℕ → Hand) (t : Spot)
+    (names : Names) (range : ℕ → Option ℕ) (cell : ℕ → ℕ) : Type 0 where
+  pub free_is_zero : fact.FreeIsZero z sh.kept w.place sh.size cell
+  pub unreserved_is_zero : fact.UnreservedIsZero z (l.is_resting t.line) sh.size cell range
+  pub unused_is_zero : fact.UnusedIsZero z (l.is_resting t.line) sh.kept w.place sh.size cell
+  pub cleared_is_zero : fact.ClearedIsZero z (l.cleared g t.line) cell
+  pub ranges_linked : fact.RangesLinked z sh.size cell (reference_at names) range
+  pub claims_unlinked : fact.ClaimsUnlinked g z w.cycle sh.grey sh.size cell range hand
+  pub news_clean : fact.NewsClean g cell flight
+  pub item_is_linked : fact.ItemIsLinked z t.line t.scan t.item cell
+  pub cells_passed : fact.CellsPassed t t.line w.cycle t.first t.item w.version w.mark cell
+  pub cells_copied : fact.CellsCopied z t t.line t.scan t.first t.item w.version cell
+  pub cell_loaded : fact.CellLoaded t.line t.first t.item t.cell w.version cell
+
+module _ (g : Geometry) (w : Words) (z : Spaces) (sh : Shades) (flight : ℕ → Flight) (begun : ℕ → ℕ) (hand : ℕ → Hand) (t : Spot)
+    (names : Names) (contents : Contents) (range : ℕ → Option ℕ) (h : Facts g w z sh flight begun hand t names contents range)
+    (m : ShadesMean g w z sh flight t.line names) (fit : ShapesFit names) (n p v : ℕ) (o : WritesInside w sh n p) where
+  -- the object covers the written word
+  covered : (i : ℕ) → i ≡ p → Covers (w.place n) (sh.size n) i
+  covered i e = let after : w.place n < p = o.after in let before : p < w.place n + sh.size n = o.before in record { after = omega arith; before = omega arith }
+
+  -- so do the facts of cells hold after the write
+  pub cells_write : CellFacts g w z sh flight hand t names range (upd w.cell p v)
+  cells_write =
+      let linked : (x k : ℕ) → range x ≡ Some k → x + sh.size k ≤ z.live → z.current + x ≢ p = in_no_link g w z sh flight begun hand t names contents range h m n p o in
+      let item : (passed i : ℕ) → l.object_attempt t t.line ≡ Some passed → w.version (layout.reference_number t.item) ≡ layout.header_version t.first
+      → i + 1 < reference_size t.item → layout.header_place t.first + 1 + i ≢ p = in_no_item g w z sh flight begun hand t names contents range h m n p o fit in
+      let moving : (passed i : ℕ) → l.object_attempt t t.line ≡ Some passed → i < passed → z.current + t.scan + 1 + i ≢ p =
+      in_no_moving g w z sh flight begun hand t names contents range h m n p o fit in
+      record {
+        free_is_zero = λ i below free. unwritten w.cell p v (z.current + (z.live + i)) (λ c. c ≡ 0) (λ e. free n o.is_kept (covered (z.current + (z.live + i)) e)) (h.free_is_zero i below free);
+        unreserved_is_zero = λ busy x below free. unwritten w.cell p v (z.current + x) (λ c. c ≡ 0)
+            (λ e. let own = in_own_range g w z sh flight begun hand t names contents range h m n p o busy x below e in free own.0 n own.1 own.2 own.3) (h.unreserved_is_zero busy x below free);
+        unused_is_zero = λ rests x below free. unwritten w.cell p v (z.current + x) (λ c. c ≡ 0) (λ e. free n o.is_kept (covered (z.current + x) e)) (h.unused_is_zero rests x below free);
+        cleared_is_zero = λ i below. unwritten w.cell p v (z.old + i) (λ c. c ≡ 0) (in_no_cleared g w z sh flight begun hand t names contents range h m n p o i below) (h.cleared_is_zero i below);
+        ranges_linked = λ x k there fits. unwritten w.cell p v (z.current + x) (λ c. (c ≡ 0) ⊎ (c ≡ reference_at names k)) (linked x k there fits) (h.ranges_linked x k there fits);
+        claims_unlinked = λ k claimed cycle offset within e.
+            let r : HoldsRange z w.cycle sh.grey sh.size w.cell range claimed cycle offset = h.claims_unlinked k claimed cycle offset within e in
+            record {
+              of_cycle = r.of_cycle;
+              is_grey = r.is_grey;
+              has_range = r.has_range;
+              fits = r.fits;
+              unlinked = unwritten w.cell p v (z.current + offset) (λ c. c ≡ 0) (linked offset (layout.reference_number claimed) r.has_range r.fits) r.unlinked;
+            };
+        news_clean = λ s i below making within. unwritten w.cell p v (new_place g (flight s) + i) (λ c. c ≡ 0)
+            (λ e. let after : w.place n < p = o.after in let before : p < w.place n + sh.size n = o.before in
+            elim (h.objects_apart_from_new s n below making o.is_kept) [ inl a ↦ omega arith | inr a ↦ omega arith ]) (h.news_clean s i below making within);
+        item_is_linked = λ e.
+            let at : IsMoving z sh t.scan t.item range = is_moving g w z sh flight begun hand t names contents range h m fit e in
+            let some = h.item_is_linked e in
+            (some.0, unwritten w.cell p v (z.current + t.scan) (λ c. c ≡ t.item) (linked t.scan (layout.reference_number t.item) at.has_range at.fits) some.1);
+        cells_passed = λ passed i e same below fits. unwritten w.cell p v (layout.header_place t.first + 1 + i) (λ c. IsNullOrMarked w.cycle w.mark c)
+            (item passed i e same (omega arith)) (h.cells_passed passed i e same below fits);
+        cells_copied = λ passed i e same below.
+            let few : passed + 1 ≤ reference_size t.item = (attempt_moves g t t.line passed h.spot_formed e).1 in
+            upd_other w.cell p v (z.current + t.scan + 1 + i) (moving passed i e below) ∙ h.cells_copied passed i e same below
+            ∙ sym (upd_other w.cell p v (layout.header_place t.first + 1 + i) (item passed i e same (omega arith)));
+        cell_loaded = λ i e same.
+            let moves = loaded_moves g t t.line i h.spot_formed e in
+            h.cell_loaded i e same ∙ sym (upd_other w.cell p v (layout.header_place t.first + 1 + i) (item i i moves.0 same moves.1));
+      }

@@ -4,30 +4,28 @@ use Rattle.std.proofs.Common.{◌≡◌, ◌≢◌, ◌⊎◌, ℕ, ◌+◌, ◌
 use Rattle.std.proofs.lemmas.Bool.{both_ways, cases_Bool, cases_eq, cases_lt, ltb-true, leb-true, lt-ltb, le-leb, eqb-true, eq-eqb, and_parts, and_from, or_cases}
 use Rattle.std.specs.Prelude.{unwrap_or, option_map, nat_eq}
 use Rattle.hk_words.specs.declared.geometry.Geometry.{Geometry}
-use Rattle.hk_words.specs.declared.call.Call.{Call}
 use Rattle.hk_words.specs.declared.call.Call.TheVariants as call
 use Rattle.hk_words.specs.Geometry.{tasks, numbers, space_words}
 use Rattle.hk_words.specs.Layout as layout
 use Rattle.hk_model.specs.View.{upd, upd2}
-use Rattle.hk_model.proofs.Updates.{upd_same, upd_other}
+use Rattle.hk_model.proofs.Updates.{upd_same, upd_other, upd2_same, upd2_other}
 use Rattle.hk_core.specs.declared.flight.Flight.{Flight}
 use Rattle.hk_core.specs.declared.spot.Spot.{Spot}
 use Rattle.hk_core.specs.declared.spot.Line.{Line}
 use Rattle.hk_core.specs.declared.spot.Line.TheVariants as line
 use Rattle.hk_core.specs.declared.spot.Stage.TheVariants as stage
-use Rattle.hk_core.specs.Collect.{current_space, old_space}
+use Rattle.hk_core.specs.Begin.{has_field}
 use Rattle.hk_core.specs.Step.{number_cell, new_place, reference_size}
-use Rattle.hk_core.specs.View.{Words, Names, Contents, shown, refs_at, nums_at, size_at, reference_at}
+use Rattle.hk_core.specs.View.{Words, Names, Contents, refs_at, nums_at, size_at, reference_at}
 use Rattle.hk_core.specs.Flights as f
 use Rattle.hk_core.specs.Flights.{Hand}
 use Rattle.hk_core.specs.Lines as l
-use Rattle.hk_core.specs.Colours.{Spaces, spaces_of, Shades, shades_of, held_by, is_fresh, LiesIn, InCurrent, InOld, Apart, Covers, IsNullOrMarked}
+use Rattle.hk_core.specs.Colours.{Spaces, spaces_of, Shades, shades_of, held_by, is_fresh, Covers, IsNullOrMarked}
 use Rattle.hk_core.specs.Facts as fact
 use Rattle.hk_core.specs.Facts.{HoldsRange, ObjectBehind, IsSettled}
 use Rattle.hk_core.specs.Lawful.{Facts, FactsOf, hands_of}
-use Rattle.hk_core.proofs.Update.{upd_cases, upd2_cases}
-use Rattle.hk_core.proofs.kinds.Seats.{NewsFacts, CallsFacts, KeptMeans, GoesOn, SameObject, SameFrame, SameClaim, SameItem, moved_on, kept_means, calls_upd, counted_kept, versions_kept, frames_counted_kept, frame_versions_kept}
-use Rattle.hk_core.proofs.kinds.Seats.{hands_upd, shades_upd, goes_making_nothing, goes_without_number, goes_hand, goes_so, goes_is_inside, goes_before_object, goes_in_frame, goes_before_frame}
+use Rattle.hk_core.proofs.kinds.Seats.{CallsFacts, KeptMeans, GoesOn, SameObject, SameFrame, SameClaim, SameItem, moved_on, kept_means, calls_upd, counted_kept, versions_kept, frames_counted_kept, frame_versions_kept}
+use Rattle.hk_core.proofs.kinds.Seats.{hands_upd, shades_upd, goes_making_nothing, goes_without_number, goes_hand, goes_so, goes_is_inside, goes_before_object, goes_in_frame, goes_before_frame, goes_in_object}
 use Rattle.hk_core.proofs.kinds.Enter.{object_of}
 use Rattle.hk_core.proofs.kinds.Read.{Knows, ShapesFit}
 use Rattle.hk_core.proofs.kinds.Words.{some_in_object}
@@ -445,3 +443,179 @@ module _ (g : Geometry) (w : Words) (z : Spaces) (sh : Shades) (flight : ℕ →
             let moves = loaded_moves g t t.line i h.spot_formed e in
             h.cell_loaded i e same ∙ sym (upd_other w.cell p v (layout.header_place t.first + 1 + i) (item i i moves.0 same moves.1));
       }
+
+-- THE PLAIN HEAP
+
+-- the number that a birth bears is its own
+abbrev pub BearersNumbered : Names → Type 0
+BearersNumbered names = (n b : ℕ) → names.bearer n ≡ Some b → names.number b ≡ n
+
+same_birth : (names : Names) (n b c : ℕ) → names.bearer n ≡ Some b → names.bearer n ≡ Some c → b ≡ c
+same_birth names n b c d e = cc
+
+module _ (g : Geometry) (w : Words) (z : Spaces) (sh : Shades) (flight : ℕ → Flight) (begun : ℕ → ℕ) (hand : ℕ → Hand) (t : Spot)
+    (names : Names) (contents : Contents) (range : ℕ → Option ℕ) (h : Facts g w z sh flight begun hand t names contents range)
+    (m : ShadesMean g w z sh flight t.line names) (n birth field v : ℕ) (o : WritesInside w sh n (w.place n + 1 + names.refs birth + field))
+    (bears : names.bearer n ≡ Some birth) (there : field < names.nums birth) where
+  -- after the write of a number cell the reference cells show what they did
+  pub links_write_number : fact.LinksShown sh.kept names w.place (upd w.cell (w.place n + 1 + names.refs birth + field) v) contents.link
+  links_write_number k b kept borne i below =
+      let p = w.place n + 1 + names.refs birth + field in
+      let size : sh.size k ≡ 1 + names.refs b + names.nums b = m.size k ∙ size_borne names k b borne in
+      let differ : w.place k + 1 + i ≢ p = elim (cases_eq k n) [
+        | inl e ↦
+            let same : b ≡ birth = same_birth names n b birth (ap names.bearer (sym e) ∙ borne) bears in
+            let refs : names.refs b ≡ names.refs birth = ap names.refs same in
+            let stands : w.place k ≡ w.place n = ap w.place e in
+            λ q. omega arith
+        | inr d ↦ λ q. in_no_other g w z sh flight begun hand t names contents range h m n p o k (1 + i) kept d (omega arith) (omega arith)
+      ] in
+      upd_other w.cell p v (w.place k + 1 + i) differ ∙ h.links_shown k b kept borne i below
+
+  -- and the number cells show the changed value
+  pub values_write : BearersNumbered names → fact.ValuesShown sh.kept names w.place (upd w.cell (w.place n + 1 + names.refs birth + field) v) (upd2 contents.value birth field v)
+  values_write numbered k b kept borne i below =
+      let p = w.place n + 1 + names.refs birth + field in
+      let size : sh.size k ≡ 1 + names.refs b + names.nums b = m.size k ∙ size_borne names k b borne in
+      let shows : w.cell (w.place k + 1 + names.refs b + i) ≡ contents.value b i = h.values_shown k b kept borne i below in
+      elim (cases_eq k n) [
+        | inl e ↦
+            let same : b ≡ birth = same_birth names n b birth (ap names.bearer (sym e) ∙ borne) bears in
+            let refs : names.refs b ≡ names.refs birth = ap names.refs same in
+            let stands : w.place k ≡ w.place n = ap w.place e in
+            elim (cases_eq i field) [
+              | inl f ↦
+                  let here : w.place k + 1 + names.refs b + i ≡ p = omega arith in
+                  ap (upd w.cell p v) here ∙ upd_same w.cell p v ∙ sym (upd2_same contents.value birth field v) ∙ sym (rw (same, f) refl)
+              | inr d ↦
+                  upd_other w.cell p v (w.place k + 1 + names.refs b + i) (λ q. d (omega arith)) ∙ shows ∙ sym (upd2_other contents.value birth field v b i (inr d))
+            ]
+        | inr d ↦
+            let other : b ≢ birth = λ same. d (sym (numbered k b borne) ∙ ap names.number same ∙ numbered n birth bears) in
+            upd_other w.cell p v (w.place k + 1 + names.refs b + i)
+            (λ q. in_no_other g w z sh flight begun hand t names contents range h m n p o k (1 + names.refs b + i) kept d (omega arith) (omega arith))
+            ∙ shows ∙ sym (upd2_other contents.value birth field v b i (inl other))
+      ]
+
+-- ALL FACTS
+
+-- the words, and the contents of the plain heap, after a number cell was written
+abbrev pub cell_words : Words → (p v : ℕ) → Words
+cell_words w p v = record w { cell = upd w.cell p v }
+
+abbrev pub value_contents : Contents → (birth field v : ℕ) → Contents
+value_contents c birth field v = record c { value = upd2 c.value birth field v }
+
+module _ (g : Geometry) (w : Words) (z : Spaces) (sh : Shades) (flight : ℕ → Flight) (begun : ℕ → ℕ) (hand : ℕ → Hand) (t : Spot)
+    (names : Names) (contents : Contents) (range : ℕ → Option ℕ) (s q n birth field v : ℕ) where
+  -- for a call that goes on to its next place
+  pub write_number_facts : s < tasks g → GoesOn (flight s).call (flight s).place q → SameObject (flight s).call (flight s).place q
+      → SameFrame (flight s).call (flight s).place q → SameClaim (flight s).call (flight s).place q → SameItem (flight s).call (flight s).place q
+      → ShadesMean g w z sh flight t.line names → ShapesFit names → BearersNumbered names
+      → WritesInside w sh n (w.place n + 1 + names.refs birth + field) → names.bearer n ≡ Some birth → field < names.nums birth
+      → Facts g w z sh flight begun hand t names contents range
+      → Facts g (cell_words w (w.place n + 1 + names.refs birth + field) v) z sh (upd flight s (moved_on (flight s) q (flight s).at)) begun hand t names
+      (value_contents contents birth field v) range
+  write_number_facts below goes object frame claim item m fit numbered o bears there h =
+      let x = flight s in
+      let y = moved_on x q x.at in
+      let p = w.place n + 1 + names.refs birth + field in
+      let words = cell_words w p v in
+      let plain = value_contents contents birth field v in
+      let counted : fact.AccessorsCounted g w.accessors (upd flight s y) = counted_kept g flight s y w.accessors (goes_is_inside x q x.at goes object) h.accessors_counted in
+      let versions : fact.VersionsBounded g w.version (upd flight s y) begun = versions_kept g flight s y w.version begun (goes_before_object x q x.at goes object) h.versions_bounded in
+      let frames : fact.FrameAccessorsCounted g w.frame_accessors (upd flight s y) = frames_counted_kept g flight s y w.frame_accessors below (goes_in_frame x q x.at goes frame) h.frame_accessors_counted in
+      let frame_versions : fact.FrameVersionsBounded g w.frame_version (upd flight s y) begun = frame_versions_kept g flight s y w.frame_version begun (goes_before_frame x q x.at goes frame) h.frame_versions_bounded in
+      let cells : CellFacts g w z sh flight hand t names range (upd w.cell p v) = cells_write g w z sh flight begun hand t names contents range h m fit n p v o in
+      let links : fact.LinksShown sh.kept names w.place (upd w.cell p v) contents.link =
+      links_write_number g w z sh flight begun hand t names contents range h m n birth field v o bears there in
+      let values : fact.ValuesShown sh.kept names w.place (upd w.cell p v) (upd2 contents.value birth field v) =
+      values_write g w z sh flight begun hand t names contents range h m n birth field v o bears there numbered in
+      let clean : fact.NewsClean g (upd w.cell p v) flight = cells.news_clean in
+      let between : CallsFacts g words sh t.line names plain flight = assumption in
+      let known : f.in_object y ≡ true → x.at ≡ w.place (layout.reference_number x.entered) = λ i. h.place_known s below (sym (goes_in_object x q x.at goes object) ∙ i) in
+      let calls : CallsFacts g words sh t.line names plain (upd flight s y) =
+      calls_upd g words sh t.line names plain flight s y (goes_so x q x.at goes g words sh t.line names plain flight s below refl claim item known between) between in
+      assumption
+
+-- what many facts read of the words is the same after the write
+shades_cell : (g : Geometry) (w : Words) (p v : ℕ) (flight : ℕ → Flight) (ln : Line) (names : Names) → shades_of g (cell_words w p v) flight ln names ≡ shades_of g w flight ln names
+unfolding shades_of
+shades_cell g w p v flight ln names = refl
+
+-- PUT
+
+module _ (x : Flight) (reg field v : ℕ) (is_put : x.call ≡ call.Put reg field v) (at_2 : x.place ≡ 2) where
+  -- a Put goes on from its second place to its third
+  put_goes : GoesOn x.call x.place 3
+  unfolding f.register_stays_at f.is_load_at f.is_new_at
+  put_goes = rw (is_put, at_2) (record {
+    flying = refl;
+    in_row = omega arith;
+    in_step = λ full raised h. h;
+    register_stays = refl;
+    is_load = refl;
+    will_raise = refl;
+    raised_before = refl;
+    raised = refl;
+    making = refl;
+    numbered_before = refl;
+    numbered = refl;
+  })
+
+  put_object : SameObject x.call x.place 3
+  unfolding f.in_object_at f.before_object_at
+  put_object = rw (is_put, at_2) (record { inside = refl; before = refl })
+
+  put_frame : SameFrame x.call x.place 3
+  unfolding f.in_frame_at f.before_frame_at
+  put_frame = rw (is_put, at_2) (record { inside = refl; before = refl })
+
+  put_claim : SameClaim x.call x.place 3
+  unfolding f.is_load_at f.has_cycle_inside_at f.has_claimed_at f.reserves_at f.links_at
+  put_claim = rw (is_put, at_2) (record { has_cycle_in_frame = λ h. h; has_cycle = λ b h. h; has_claimed = λ h. h; reserves = refl; links = refl })
+
+  put_item : SameItem x.call x.place 3
+  unfolding f.has_item_at f.is_load_at f.holds_back_at
+  put_item = rw (is_put, at_2) (record { has_item = refl; has_loaded = refl; has_loaded_inside = λ h. h; has_written = refl; holds_back = λ r. refl })
+
+  put_inside : f.is_inside x (object_of x) ≡ true
+  unfolding f.is_inside f.in_object f.in_object_at
+  put_inside = rw (is_put, at_2) (eq-eqb (object_of x) (object_of x) refl)
+
+  put_field : has_field x.call x.entered ≡ true → field < layout.reference_nums x.entered
+  put_field e = ltb-true field (layout.reference_nums x.entered) (rw is_put at e)
+
+-- all facts hold after a Put has written its cell, for the plain heap after the Put
+pub put_writes : (g : Geometry) (w : Words) (flight : ℕ → Flight) (begun : ℕ → ℕ) (t : Spot) (names : Names) (contents : Contents) (range : ℕ → Option ℕ) (s reg field v : ℕ)
+    → s < tasks g → (flight s).call ≡ call.Put reg field v → (flight s).place ≡ 2 → ShapesFit names → BearersNumbered names
+    → (k : Knows w (shades_of g w flight t.line names) names contents.register s reg (flight s)) → FactsOf g w flight begun t names contents range
+    → FactsOf g (cell_words w (number_cell (flight s) field) v) (upd flight s (moved_on (flight s) 3 (flight s).at)) begun t names
+    (value_contents contents k.birth field v) range
+put_writes g w flight begun t names contents range s reg field v below is_put at_2 fit numbered k h =
+    let x = flight s in
+    let y = moved_on x 3 x.at in
+    let n = object_of x in
+    let z = spaces_of g w.cycle in
+    let sh = shades_of g w flight t.line names in
+    let p = w.place n + 1 + names.refs k.birth + field in
+    let goes = put_goes x reg field v is_put at_2 in
+    let claim = put_claim x reg field v is_put at_2 in
+    let m = shades_mean g w flight t.line names in
+    let there : field < names.nums k.birth = let nums = k.nums in let field_there = put_field x reg field v is_put at_2 (h.fields_there s below goes.flying) in omega arith in
+    let size : sh.size n ≡ 1 + names.refs k.birth + names.nums k.birth = m.size n ∙ size_borne names n k.birth k.bears in
+    let o : WritesInside w sh n p = record {
+      is_kept = k.is_kept;
+      after = omega arith;
+      before = omega arith;
+      inside = some_in_object g w.accessors flight s n below (m.kept n k.is_kept).within (put_inside x reg field v is_put at_2) h.accessors_counted;
+    } in
+    let stands : x.at ≡ w.place n = k.stands in
+    let refs : layout.reference_refs x.entered ≡ names.refs k.birth = k.refs in
+    let place : number_cell x field ≡ p = omega arith in
+    let hands : hands_of g (upd flight s y) t ≡ hands_of g flight t = hands_upd g t flight s y (goes_hand x 3 x.at goes g claim) in
+    let shades : shades_of g (cell_words w p v) (upd flight s y) t.line names ≡ shades_of g (cell_words w p v) flight t.line names =
+    shades_upd g (cell_words w p v) t.line names flight s y (goes_without_number x 3 x.at goes) ((goes_making_nothing x 3 x.at goes).no_number) in
+    rw place (rw (hands, shades, shades_cell g w p v flight t.line names)
+    (write_number_facts g w z sh flight begun (hands_of g flight t) t names contents range s 3 n k.birth field v below goes (put_object x reg field v is_put at_2)
+    (put_frame x reg field v is_put at_2) claim (put_item x reg field v is_put at_2) m fit numbered o k.bears there h))

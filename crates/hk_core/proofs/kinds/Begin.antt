@@ -1,28 +1,34 @@
 -- A call begins: an idle seat has the call's first flight, which knows nothing but registers, and has begun one more call.
-use Rattle.std.proofs.Common.{◌≡◌, ◌≢◌, ℕ, ◌+◌, ◌<◌, ◌≤◌, Bool, true, false, inl, inr, refl, sym, ◌∙◌, arith, Option, Some, None}
+use Rattle.std.proofs.Common.{◌≡◌, ◌≢◌, ℕ, ◌+◌, ◌<◌, ◌≤◌, Bool, true, false, inl, inr, refl, sym, ◌∙◌, arith, Option, Some, None, length, length-set}
 use Rattle.std.proofs.lemmas.Bool.{and_right}
-use Rattle.std.specs.Prelude.{is_some, option_map, unwrap_or}
+use Rattle.std.specs.Prelude.{is_some, option_map, unwrap_or, nat_le, nat_eq, not, ◌&&◌, if◌then◌else◌}
+use Rattle.std.proofs.lemmas.Bool.Decides.{nat_tests}
 use Rattle.hk_words.specs.declared.geometry.Geometry.{Geometry}
 use Rattle.hk_words.specs.declared.call.Call.{Call}
 use Rattle.hk_words.specs.declared.call.Call.TheVariants as call
 use Rattle.hk_words.specs.Geometry.{tasks}
 use Rattle.hk_words.specs.Calls.{entered, RegistersFit}
 use Rattle.hk_model.specs.View.{upd}
-use Rattle.hk_model.specs.History.{is_question}
+use Rattle.hk_model.specs.History.{is_question, History}
 use Rattle.hk_core.specs.declared.flight.Flight.{Flight}
 use Rattle.hk_core.specs.declared.spot.Spot.{Spot}
-use Rattle.hk_core.specs.Begin.{most_calls, copied, has_field}
+use Rattle.hk_core.specs.declared.outcome.Fault.TheVariants.{Spent, Nil, Field}
+use Rattle.hk_core.specs.declared.outcome.Fault.{Fault}
+use Rattle.hk_core.specs.Begin.{most_calls, copied, has_field, register_word, entered_word, copied_word, refusal, first_flight, accepted, after_begin, begun_or}
 use Rattle.hk_core.specs.Step.{places_of}
 use Rattle.hk_core.specs.Counts.{count_below, sum_below}
-use Rattle.hk_core.specs.View.{Words, Names, Contents}
+use Rattle.hk_core.specs.View.{Words, Names, Contents, words_of, decoded, flight_at, begun_at, names_of, contents_of}
 use Rattle.hk_core.specs.Flights as f
 use Rattle.hk_core.specs.Flights.{Hand, hand_of_flight}
 use Rattle.hk_core.specs.Colours.{Spaces, spaces_of, Shades, shades_of, IsGood, IsNullOrGood, NamesNoWhite}
 use Rattle.hk_core.specs.Facts as fact
 use Rattle.hk_core.specs.Facts.{IsSettled}
-use Rattle.hk_core.specs.Lawful.{Facts, FactsOf, hands_of}
+use Rattle.hk_core.specs.Lawful.{Facts, FactsOf, hands_of, Lawful}
+use Rattle.hk_core.specs.State.{State}
 use Rattle.hk_core.proofs.Update.{each_upd}
 use Rattle.hk_core.proofs.Counts.{one_if, count-upd_in, sum-upd_in}
+use Rattle.hk_core.proofs.Columns.{raw_register}
+use Rattle.hk_core.proofs.Encode.{flight_at-set, begun_at-set}
 use Rattle.hk_core.proofs.kinds.Seats.{FlightFacts, CallsFacts, Changes, MakesNothing, calls_upd, facts_of_flight, counted_kept, frames_counted_kept, hands_upd, shades_upd}
 use Rattle.hk_core.proofs.kinds.Read.{refuted}
 
@@ -317,3 +323,102 @@ begin_facts g w flight begun t names contents range s call below idle can h =
     shades_upd g w t.line names flight s y (start_nothing_made x start).no_number (start_nothing_made y (at_1 call)).no_number in
     rw (hands, shades)
     (begin_all_facts g w (spaces_of g w.cycle) (shades_of g w flight t.line names) flight begun (hands_of g flight t) t names contents range s call below idle can h)
+
+-- THE STATE
+
+-- a register of the state, as the words say it
+words_register : (c : State) (s r : ℕ) → s < tasks c.geometry → r < c.geometry.registers → (words_of c.geometry c.row).register s r ≡ register_word c s r
+unfolding words_of decoded register_word
+words_register c s r seat reg = raw_register c.geometry c.row s r seat reg
+
+word_same : (a b : ℕ → ℕ) (reg : Option ℕ) → ((r : ℕ) → reg ≡ Some r → a r ≡ b r) → word_in a reg ≡ word_in b reg
+word_same a b None same = refl
+word_same a b (Some r) same = same r refl
+
+module _ (c : State) (s : ℕ) (call : Call) (below : s < tasks c.geometry) (fit : RegistersFit c.geometry.registers call) where
+  entered_same : entered_word c s call ≡ word_in ((words_of c.geometry c.row).register s) (entered call)
+  unfolding entered_word
+  entered_same = word_same (register_word c s) ((words_of c.geometry c.row).register s) (entered call)
+      (λ r e. sym (words_register c s r below (entered_fits c.geometry.registers call fit r e)))
+
+  copied_same : copied_word c s call ≡ word_in ((words_of c.geometry c.row).register s) (copied call)
+  unfolding copied_word
+  copied_same = word_same (register_word c s) ((words_of c.geometry c.row).register s) (copied call)
+      (λ r e. sym (words_register c s r below (copied_fits c.geometry.registers call fit r e)))
+
+  -- the first flight of a state is that for the registers of the seat
+  pub first_flight-first : first_flight c s call ≡ first_of ((words_of c.geometry c.row).register s) s call
+  unfolding first_flight
+  first_flight-first = rw (entered_same, copied_same) refl
+
+  -- a call that isn't refused can begin
+  pub accepted_can : is_question call ≡ false → refusal c s call ≡ None → CanBegin c.geometry ((words_of c.geometry c.row).register s) (begun_at c s) call
+  unfolding refusal begun_at
+  accepted_can no_question e =
+      let tests = none_refused _ _ _ e in
+      record {
+        no_question = no_question;
+        registers = fit;
+        not_spent = below_most _ _ tests.0;
+        not_null = λ some. rw (← entered_same) (not_zero _ _ tests.1 some);
+        has_field = rw (← entered_same) (not_not _ tests.2);
+      }
+    where
+      none_refused : (a b d : Bool) → (if a then Some Spent else if b then Some Nil else if d then Some Field else None) ≡ None → (a ≡ false) × (b ≡ false) × (d ≡ false)
+      none_refused true b d e = absurd (cc)
+      none_refused false true d e = absurd (cc)
+      none_refused false false true e = absurd (cc)
+      none_refused false false false e = (refl, refl, refl)
+
+      below_most : (m n : ℕ) → nat_le m n ≡ false → n < m
+      below_most m n e = grind (arith, nat_tests)
+
+      not_zero : (some : Bool) (word : ℕ) → (some && nat_eq word 0) ≡ false → some ≡ true → word ≢ 0
+      not_zero true word e h = grind (arith, nat_tests)
+      not_zero false word e h = absurd (cc)
+
+      not_not : (b : Bool) → not b ≡ false → b ≡ true
+      not_not true e = refl
+      not_not false e = absurd (cc)
+
+-- the flights and the begun calls after a begin
+pub flight_at-accepted : (c : State) (s : ℕ) (call : Call) → s < length c.flights → flight_at (accepted c s call) ≡ upd (flight_at c) s (first_flight c s call)
+unfolding accepted flight_at
+flight_at-accepted c s call below = flight_at-set c s (first_flight c s call) below
+
+pub begun_at-accepted : (c : State) (s : ℕ) (call : Call) → s < length c.begun → begun_at (accepted c s call) ≡ upd (begun_at c) s (begun_at c s + 1)
+unfolding accepted begun_at
+begun_at-accepted c s call below = begun_at-set c s (begun_at c s + 1) below
+
+-- a state in which a call has begun is lawful for the same history
+pub lawful_begin : (c : State) (history : History) (s : ℕ) (call : Call) → s < tasks c.geometry → (flight_at c s).place ≡ 0 → is_question call ≡ false
+    → RegistersFit c.geometry.registers call → refusal c s call ≡ None → Lawful c history → Lawful (accepted c s call) history
+unfolding accepted begun_at
+lawful_begin c history s call below idle no_question fit not_refused h =
+    let g = c.geometry in
+    let w = words_of g c.row in
+    let first = first_flight c s call in
+    let flights : s < length c.flights = let e = h.sized.flights in omega arith in
+    let begun : s < length c.begun = let e = h.sized.begun in omega arith in
+    let facts : FactsOf g w (upd (flight_at c) s (first_of (w.register s) s call)) (upd (begun_at c) s (begun_at c s + 1)) c.spot (names_of g history) (contents_of g history) h.range =
+    begin_facts g w (flight_at c) (begun_at c) c.spot (names_of g history) (contents_of g history) h.range s call below idle (accepted_can c s call below fit no_question not_refused) h.facts in
+    record {
+      sized = record {
+        row = h.sized.row;
+        flights = length-set c.flights s first ∙ h.sized.flights;
+        begun = length-set c.begun s (begun_at c s + 1) ∙ h.sized.begun;
+      };
+      legal = h.legal;
+      range = h.range;
+      facts = rw (flight_at-accepted c s call flights, begun_at-accepted c s call begun, first_flight-first c s call below fit) facts;
+    }
+
+-- so is the state after any begin, also after one that is refused
+pub lawful_after_begin : (c : State) (history : History) (s : ℕ) (call : Call) → s < tasks c.geometry → (flight_at c s).place ≡ 0 → is_question call ≡ false
+    → RegistersFit c.geometry.registers call → Lawful c history → Lawful (after_begin c s call) history
+unfolding after_begin
+lawful_after_begin c history s call below idle no_question fit h = either (refusal c s call) (λ e. lawful_begin c history s call below idle no_question fit e h)
+  where
+    either : (refused : Option Fault) → (refused ≡ None → Lawful (accepted c s call) history) → Lawful (begun_or refused (accepted c s call) c) history
+    either None accepts = accepts refl
+    either (Some fault) accepts = h

@@ -1,14 +1,22 @@
 -- A call inside an object writes one of its cells. The word is behind the link word of the object's words, so it is in no
 -- other object, no link word, and no word that is said to be 0.
-use Rattle.std.proofs.Common.{◌≡◌, ◌≢◌, ◌⊎◌, ℕ, ◌+◌, ◌-◌, ◌%◌, ◌^◌, ◌<◌, ◌≤◌, Bool, true, false, inl, inr, refl, sym, ◌∙◌, ap, arith, Option, Some, None}
+use Rattle.std.proofs.Common.{◌≡◌, ◌≢◌, ◌⊎◌, ℕ, ◌+◌, ◌-◌, ◌%◌, ◌^◌, ◌<◌, ◌≤◌, Bool, true, false, inl, inr, refl, sym, ◌∙◌, ap, arith, Option, Some, None, [], ◌∷◌, ◌++◌}
 use Rattle.std.proofs.lemmas.Bool.{both_ways, cases_Bool, cases_eq, cases_lt, ltb-true, leb-true, lt-ltb, le-leb, eqb-true, eq-eqb, and_parts, and_from, or_cases}
 use Rattle.std.specs.Prelude.{unwrap_or, option_map, nat_eq}
 use Rattle.hk_words.specs.declared.geometry.Geometry.{Geometry}
 use Rattle.hk_words.specs.declared.call.Call.TheVariants as call
 use Rattle.hk_words.specs.Geometry.{tasks, numbers, space_words}
 use Rattle.hk_words.specs.Layout as layout
-use Rattle.hk_model.specs.View.{upd, upd2}
+use Rattle.hk_words.specs.declared.call.Reply.TheVariants.{Unit as Done}
+use Rattle.hk_words.specs.Calls.{RegistersFit}
+use Rattle.hk_model.specs.View.{upd, upd2, view_of}
+use Rattle.hk_model.specs.Heap as heap
+use Rattle.hk_model.specs.History.{Entry, History, Legal, after, after_entry}
 use Rattle.hk_model.proofs.Updates.{upd_same, upd_other, upd2_same, upd2_other}
+use Rattle.hk_model.proofs.Heaps.{IsHeap-opening}
+use Rattle.hk_model.proofs.Histories.{after-push, Legal-push, IsHeap-after, number_of-push_other, bearer-push_other, bearer_is_last}
+use Rattle.hk_model.proofs.Effects.{view_of-put}
+use Rattle.hk_model.proofs.Replies.{reply_of-put}
 use Rattle.hk_core.specs.declared.flight.Flight.{Flight}
 use Rattle.hk_core.specs.declared.spot.Spot.{Spot}
 use Rattle.hk_core.specs.declared.spot.Line.{Line}
@@ -16,19 +24,20 @@ use Rattle.hk_core.specs.declared.spot.Line.TheVariants as line
 use Rattle.hk_core.specs.declared.spot.Stage.TheVariants as stage
 use Rattle.hk_core.specs.Begin.{has_field}
 use Rattle.hk_core.specs.Step.{number_cell, new_place, reference_size}
-use Rattle.hk_core.specs.View.{Words, Names, Contents, refs_at, nums_at, size_at, reference_at}
+use Rattle.hk_core.specs.View.{Words, Names, Contents, refs_at, nums_at, size_at, reference_at, names_of, contents_of}
 use Rattle.hk_core.specs.Flights as f
 use Rattle.hk_core.specs.Flights.{Hand}
 use Rattle.hk_core.specs.Lines as l
-use Rattle.hk_core.specs.Colours.{Spaces, spaces_of, Shades, shades_of, held_by, is_fresh, Covers, IsNullOrMarked}
+use Rattle.hk_core.specs.Colours.{Spaces, spaces_of, Shades, shades_of, held_by, is_fresh, Covers, IsNullOrMarked, IsNullOrKept}
 use Rattle.hk_core.specs.Facts as fact
 use Rattle.hk_core.specs.Facts.{HoldsRange, ObjectBehind, IsSettled}
 use Rattle.hk_core.specs.Lawful.{Facts, FactsOf, hands_of}
 use Rattle.hk_core.proofs.kinds.Seats.{CallsFacts, KeptMeans, GoesOn, SameObject, SameFrame, SameClaim, SameItem, moved_on, kept_means, calls_upd, counted_kept, versions_kept, frames_counted_kept, frame_versions_kept}
 use Rattle.hk_core.proofs.kinds.Seats.{hands_upd, shades_upd, goes_making_nothing, goes_without_number, goes_hand, goes_so, goes_is_inside, goes_before_object, goes_in_frame, goes_before_frame, goes_in_object}
 use Rattle.hk_core.proofs.kinds.Enter.{object_of}
-use Rattle.hk_core.proofs.kinds.Read.{Knows, ShapesFit}
+use Rattle.hk_core.proofs.kinds.Read.{Knows, ShapesFit, object_known}
 use Rattle.hk_core.proofs.kinds.Words.{some_in_object}
+use Rattle.hk_core.proofs.kinds.Seats.{FlightFacts}
 
 -- WHAT THE SHADES AND THE SPACES MEAN
 
@@ -619,3 +628,60 @@ put_writes g w flight begun t names contents range s reg field v below is_put at
     rw place (rw (hands, shades, shades_cell g w p v flight t.line names)
     (write_number_facts g w z sh flight begun (hands_of g flight t) t names contents range s 3 n k.birth field v below goes (put_object x reg field v is_put at_2)
     (put_frame x reg field v is_put at_2) claim (put_item x reg field v is_put at_2) m fit numbered o k.bears there h))
+
+-- what such a Put knows of its object
+pub put_knows : (g : Geometry) (w : Words) (flight : ℕ → Flight) (t : Spot) (names : Names) (plain : ℕ → ℕ → Option ℕ) (s reg field v : ℕ)
+    → FlightFacts g w (shades_of g w flight t.line names) names plain s (flight s) → ShapesFit names
+    → (flight s).call ≡ call.Put reg field v → (flight s).place ≡ 2 → IsNullOrKept (shades_of g w flight t.line names).kept names (plain s reg)
+    → Knows w (shades_of g w flight t.line names) names plain s reg (flight s)
+unfolding f.is_through f.in_object f.in_object_at f.register_stays f.register_stays_at f.holds_back f.holds_back_at
+put_knows g w flight t names plain s reg field v o fit is_put at_2 kept =
+    let x = flight s in
+    let goes = put_goes x reg field v is_put at_2 in
+    let registers : RegistersFit g.registers (call.Put reg field v) = rw is_put at (o.formed.registers goes.flying) in
+    object_known g w (shades_of g w flight t.line names) (held_by g flight) t.line names plain s reg x (kept_means g w flight t.line names) o fit
+    (rw is_put refl) goes.flying (rw (is_put, at_2) refl) (rw (is_put, at_2) refl) (rw is_put refl) (rw is_put refl) registers kept
+
+-- THE HISTORY
+
+-- the number that a birth bears is its own
+pub bearers_numbered : (g : Geometry) (history : History) → BearersNumbered (names_of g history)
+unfolding names_of
+bearers_numbered g history n b e = ((bearer_is_last history n b).0 e).1
+
+-- the entry of a Put
+abbrev pub put_entry : (seat reg field v : ℕ) → Entry
+put_entry seat reg field v = record { seat = seat; call = call.Put reg field v; reply = Done; number = 0 }
+
+module _ (g : Geometry) (history : History) (seat reg field v birth : ℕ) (in_register : (contents_of g history).register seat reg ≡ Some birth)
+    (within : field < (names_of g history).nums birth) where
+  -- the view of the plain heap after the Put
+  view-put : view_of (after (heap.opening_of g) (history ++ put_entry seat reg field v ∷ []))
+      ≡ record (view_of (after (heap.opening_of g) history)) { value = upd2 (heap.value (after (heap.opening_of g) history)) birth field v }
+  unfolding after_entry contents_of names_of heap.opening_of
+  view-put =
+      ap view_of (after-push (heap.opening_of g) history (put_entry seat reg field v))
+      ∙ view_of-put (tasks g) g.registers (after (heap.opening_of g) history) seat reg field v birth
+      (IsHeap-after (tasks g) g.registers (heap.opening_of g) history (IsHeap-opening (tasks g) g.registers g.board (omega arith))) in_register within
+
+  -- a Put leaves the births as they are
+  pub names-put : names_of g (history ++ put_entry seat reg field v ∷ []) ≡ names_of g history
+  unfolding names_of view_of
+  names-put = λ i. record {
+    bearer = bearer-push_other history (put_entry seat reg field v) refl i;
+    number = number_of-push_other history (put_entry seat reg field v) refl i;
+    refs = (view-put i).refs;
+    nums = (view-put i).nums;
+  }
+
+  -- and changes one value
+  pub contents-put : contents_of g (history ++ put_entry seat reg field v ∷ []) ≡ value_contents (contents_of g history) birth field v
+  unfolding contents_of view_of
+  contents-put = λ i. record { register = (view-put i).register; link = (view-put i).link; value = (view-put i).value }
+
+  -- its entry is legal
+  pub legal-put : Legal (heap.opening_of g) history → Legal (heap.opening_of g) (history ++ put_entry seat reg field v ∷ [])
+  unfolding contents_of names_of
+  legal-put legal =
+      let answer : Done ≡ _ = sym (reply_of-put (after (heap.opening_of g) history) seat reg field v birth in_register within) in
+      Legal-push (heap.opening_of g) history (put_entry seat reg field v) legal (refl, inl (answer, (λ e. absurd (cc)), (λ e. absurd (cc))))

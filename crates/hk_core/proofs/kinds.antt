@@ -9,3 +9,5 @@ pub mod WriteRegister
 pub mod Effects
 pub mod Begin
 pub mod WriteCell
+pub mod Claim
+pub mod ClaimFlights

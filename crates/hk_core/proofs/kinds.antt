@@ -11,3 +11,4 @@ pub mod Begin
 pub mod WriteCell
 pub mod Claim
 pub mod ClaimFlights
+pub mod ClaimSeats

@@ -12,3 +12,4 @@ pub mod WriteCell
 pub mod Claim
 pub mod ClaimFlights
 pub mod ClaimSeats
+pub mod Reserve

@@ -13,3 +13,4 @@ pub mod Claim
 pub mod ClaimFlights
 pub mod ClaimSeats
 pub mod Reserve
+pub mod ClaimWords

@@ -339,13 +339,13 @@ old_not_current z place apart after before =
 
 module _ (g : Geometry) (w : Words) (flight : ℕ → Flight) (ln : Line) (names : Names) (n : ℕ) where
   -- a kept number that wasn't claimed is in the old space
-  record StandsOld : Type 0 where
-    low : w.mark n < w.cycle
-    fresh : is_fresh w.cycle (l.is_marking ln) (w.mark n) ≡ true
-    placed : w.place n ≢ 0
-    after : (spaces_of g w.cycle).old ≤ w.place n
-    before : w.place n < (spaces_of g w.cycle).old + (g.live + g.alloc)
-    apart : SpacesApart (spaces_of g w.cycle)
+  pub record StandsOld : Type 0 where
+    pub low : w.mark n < w.cycle
+    pub fresh : is_fresh w.cycle (l.is_marking ln) (w.mark n) ≡ true
+    pub placed : w.place n ≢ 0
+    pub after : (spaces_of g w.cycle).old ≤ w.place n
+    pub before : w.place n < (spaces_of g w.cycle).old + (g.live + g.alloc)
+    pub apart : SpacesApart (spaces_of g w.cycle)
 
   module _ (o : StandsOld) where
     white_raised : white_by w.cycle w.place (upd w.mark n w.cycle) ≡ upd (white_by w.cycle w.place w.mark) n false
@@ -383,7 +383,7 @@ module _ (g : Geometry) (w : Words) (flight : ℕ → Flight) (ln : Line) (names
           | inr (d, u) ↦ rw u refl
         ]
 
-    shades_raised : shades_of g (marked_words w n) flight ln names ≡ greyed (shades_of g w flight ln names) n
+    pub shades_raised : shades_of g (marked_words w n) flight ln names ≡ greyed (shades_of g w flight ln names) n
     unfolding shades_of
     shades_raised = λ i. record {
       white = white_raised i;

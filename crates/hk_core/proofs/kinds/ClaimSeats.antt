@@ -45,12 +45,12 @@ pub record ClaimsAt (call : Call) (p q : ℕ) : Type 0 where
 
 module _ (g : Geometry) (x : Flight) (q : ℕ) (t : ClaimsAt x.call x.place q) where
   -- the call has no claim in hand before
-  hand_before_claim : hand_of_flight g x ≡ no_claim
+  pub hand_before_claim : hand_of_flight g x ≡ no_claim
   unfolding f.hand_of_flight
   hand_before_claim = rw (t.reserves_before, t.links_before, and_right x.claimer false refl) refl
 
   -- and has one after it where it is the claimer
-  hand_after_claim : (first : Bool) (offset : ℕ) → hand_of_flight g (claim_on x q first offset) ≡ claim_hand x.item (f.cycle_of x) first
+  pub hand_after_claim : (first : Bool) (offset : ℕ) → hand_of_flight g (claim_on x q first offset) ≡ claim_hand x.item (f.cycle_of x) first
   unfolding f.hand_of_flight
   hand_after_claim true offset = rw t.reserves refl
   hand_after_claim false offset = refl
@@ -79,7 +79,7 @@ not_settled : (white : ℕ → Bool) (item : ℕ) → item ≢ 0 → white (layo
 not_settled white item some is (inl null) = some null
 not_settled white item some is (inr dark) = both_ways _ dark is
 
-none_claimed : (b c : Bool) → c ≡ true → ¬ ((b && not c) ≡ true)
+pub none_claimed : (b c : Bool) → c ≡ true → ¬ ((b && not c) ≡ true)
 none_claimed true true e h = absurd (cc)
 none_claimed true false e h = absurd (cc)
 none_claimed false c e h = absurd (cc)

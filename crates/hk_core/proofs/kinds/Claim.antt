@@ -1,9 +1,9 @@
 -- A claim of the object of a reference, by a call or by the collector: the mark of the object's number rises to the cycle of
 -- the claim. Where it was lower, the number was white and is grey, and whoever did it has a claim in hand.
-use Rattle.std.proofs.Common.{◌≡◌, ◌≢◌, ◌⊎◌, ℕ, ◌+◌, ◌*◌, ◌%◌, ◌<◌, ◌≤◌, Bool, true, false, inl, inr, refl, sym, ◌∙◌, ap, arith, Option, Some}
-use Rattle.std.proofs.lemmas.Bool.{both_ways, cases_Bool, cases_eq, cases_lt, ltb-true, leb-true, lt-ltb, le-leb, eqb-true, eq-eqb, ne_eqb, and_parts, and_from, and_right, or_cases}
+use Rattle.std.proofs.Common.{◌≡◌, ◌≢◌, ◌⊎◌, ℕ, ◌+◌, ◌*◌, ◌<◌, ◌≤◌, Bool, true, false, inl, inr, refl, sym, ◌∙◌, ap, arith, Option, Some}
+use Rattle.std.proofs.lemmas.Bool.{both_ways, cases_lt, ltb-true, lt-ltb, le-leb, eqb-true, eq-eqb, ne_eqb, and_parts, and_from, and_right, or_cases}
 use Rattle.std.proofs.lemmas.Bool.Decides.{nat_tests}
-use Rattle.std.specs.Prelude.{max, nat_eq, nat_lt, nat_le, is_some, not, ◌&&◌, ◌||◌, if◌then◌else◌}
+use Rattle.std.specs.Prelude.{max, nat_eq, nat_lt, nat_le, not, ◌&&◌, if◌then◌else◌}
 use Rattle.hk_words.specs.declared.geometry.Geometry.{Geometry}
 use Rattle.hk_words.specs.Geometry.{tasks, numbers}
 use Rattle.hk_words.specs.Layout as layout
@@ -19,14 +19,14 @@ use Rattle.hk_core.specs.View.{Words, Names, Contents, size_at}
 use Rattle.hk_core.specs.Flights as f
 use Rattle.hk_core.specs.Flights.{Hand, no_claim, to_reserve, to_link}
 use Rattle.hk_core.specs.Lines as l
-use Rattle.hk_core.specs.Colours.{Spaces, spaces_of, Shades, shades_of, held_by, is_fresh, is_within, white_by, grey_by, black_by, black_frame_by, kept_by, InOld, NamesNoWhite, IsNullOrMarked}
+use Rattle.hk_core.specs.Colours.{Spaces, spaces_of, Shades, shades_of, held_by, is_fresh, is_within, white_by, grey_by, black_by, black_frame_by, kept_by, NamesNoWhite, IsNullOrMarked}
 use Rattle.hk_core.specs.Facts as fact
 use Rattle.hk_core.specs.Facts.{IsRecent, IsUnread, IsOwn, IsMoved, IsSettled, HoldsClaim, HoldsRange}
 use Rattle.hk_core.specs.Lawful.{Facts}
 use Rattle.hk_core.proofs.Update.{upd_cases, upd_own}
 use Rattle.hk_core.proofs.Counts.{count_more}
 use Rattle.hk_core.proofs.kinds.Seats.{NewsFacts, own_not_kept, kept_means}
-use Rattle.hk_core.proofs.kinds.WriteCell.{IsGreyIn, ShadesMean, SpacesApart, shades_mean}
+use Rattle.hk_core.proofs.kinds.WriteCell.{ShadesMean, SpacesApart, shades_mean}
 
 -- MARKS THAT RISE
 

@@ -1,6 +1,6 @@
 -- A call goes on from its claim, its reserve or its link to its next place, and knows whether it is the claimer, or what it
 -- reserved. No word changes here: what the event does to the words, the ranges and the claims in hand is shown before.
-use Rattle.std.proofs.Common.{◌≡◌, ℕ, ◌<◌, ◌≤◌, Bool, true, false, inl, inr, refl, sym, ◌∙◌, ap, Option}
+use Rattle.std.proofs.Common.{◌≡◌, ℕ, ◌<◌, ◌≤◌, Bool, true, inl, inr, refl, sym, ◌∙◌, Option}
 use Rattle.std.proofs.lemmas.Bool.{both_ways, and_parts, lt-ltb, or_cases}
 use Rattle.std.specs.Prelude.{nat_lt, ◌&&◌, ◌||◌, if◌then◌else◌}
 use Rattle.hk_words.specs.declared.geometry.Geometry.{Geometry}

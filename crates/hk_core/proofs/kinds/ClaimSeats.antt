@@ -1,7 +1,7 @@
 -- A Load and a Store claim the object of their reference, and rest where it is null.
-use Rattle.std.proofs.Common.{◌≡◌, ◌≢◌, ℕ, ◌<◌, ◌≤◌, Bool, true, false, inl, inr, refl, sym, ◌∙◌, ap, arith, Option, Some}
-use Rattle.std.proofs.lemmas.Bool.{both_ways, and_parts, and_right, and_from, ne_eqb, eq-eqb, lt-ltb}
-use Rattle.std.specs.Prelude.{max, nat_eq, nat_lt, not, ◌==◌, ◌&&◌, if◌then◌else◌}
+use Rattle.std.proofs.Common.{◌≡◌, ◌≢◌, ℕ, ◌<◌, ◌≤◌, Bool, true, false, inl, inr, refl, sym, ◌∙◌, ap, arith, Option}
+use Rattle.std.proofs.lemmas.Bool.{both_ways, and_right, ne_eqb, eq-eqb, lt-ltb}
+use Rattle.std.specs.Prelude.{max, nat_lt, not, ◌&&◌}
 use Rattle.hk_words.specs.declared.geometry.Geometry.{Geometry}
 use Rattle.hk_words.specs.declared.call.Call.{Call}
 use Rattle.hk_words.specs.declared.call.Call.TheVariants as call
@@ -13,18 +13,15 @@ use Rattle.hk_model.proofs.Updates.{upd_same}
 use Rattle.hk_core.specs.declared.flight.Flight.{Flight}
 use Rattle.hk_core.specs.declared.spot.Spot.{Spot}
 use Rattle.hk_core.specs.declared.spot.Line.{Line}
-use Rattle.hk_core.specs.Begin.{copied}
-use Rattle.hk_core.specs.Step.{claims, reserved_fits}
+use Rattle.hk_core.specs.Step.{claims}
 use Rattle.hk_core.specs.View.{Words, Names, Contents}
 use Rattle.hk_core.specs.Flights as f
 use Rattle.hk_core.specs.Flights.{Hand, no_claim, to_reserve, to_link, hand_of_flight}
-use Rattle.hk_core.specs.Lines as l
-use Rattle.hk_core.specs.Colours.{Spaces, spaces_of, Shades, shades_of, white_by, IsGood, IsNullOrGood, NamesNoWhite}
+use Rattle.hk_core.specs.Colours.{spaces_of, shades_of, IsGood, IsNullOrGood, NamesNoWhite}
 use Rattle.hk_core.specs.Facts as fact
 use Rattle.hk_core.specs.Facts.{IsSettled}
 use Rattle.hk_core.specs.Lawful.{Facts, FactsOf, hands_of}
 use Rattle.hk_core.proofs.Update.{upd_own}
-use Rattle.hk_core.proofs.kinds.Seats.{kept_means}
 use Rattle.hk_core.proofs.kinds.WriteCell.{ShadesMean, shades_mean}
 use Rattle.hk_core.proofs.kinds.Claim.{CanClaim, claim_words, claim_shades, claim_hand, claim_facts, shades_claimed}
 use Rattle.hk_core.proofs.kinds.ClaimFlights.{GoesOnInClaim, claim_on, go_on_in_claim, hands_set, hand_of_seat, shades_in_claim}

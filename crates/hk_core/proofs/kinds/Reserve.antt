@@ -1,7 +1,7 @@
 -- Whoever has claimed an object reserves its place: the words reserved grow by the object's, and a range of its number begins
 -- where they ended. Where the range fits, its link word is still to be written.
 use Rattle.std.proofs.Common.{◌≡◌, ◌≢◌, ◌⊎◌, ℕ, ◌+◌, ◌*◌, ◌<◌, ◌≤◌, Bool, true, false, inl, inr, refl, sym, ◌∙◌, ap, arith, Option, Some, None}
-use Rattle.std.proofs.lemmas.Bool.{both_ways, cases_Bool, cases_eq, leb-true}
+use Rattle.std.proofs.lemmas.Bool.{both_ways, cases_Bool, leb-true}
 use Rattle.std.specs.Prelude.{nat_eq, if◌then◌else◌}
 use Rattle.hk_words.specs.declared.geometry.Geometry.{Geometry}
 use Rattle.hk_words.specs.Geometry.{tasks, numbers}
@@ -18,7 +18,7 @@ use Rattle.hk_core.specs.View.{Words, Names, Contents, size_at, reference_at}
 use Rattle.hk_core.specs.Flights as f
 use Rattle.hk_core.specs.Flights.{Hand, no_claim, to_reserve, to_link}
 use Rattle.hk_core.specs.Lines as l
-use Rattle.hk_core.specs.Colours.{Spaces, Shades, Covers}
+use Rattle.hk_core.specs.Colours.{Spaces, Shades}
 use Rattle.hk_core.specs.Facts as fact
 use Rattle.hk_core.specs.Facts.{IsMoved, IsSettled, HoldsClaim, HoldsRange}
 use Rattle.hk_core.specs.Lawful.{Facts}

@@ -1,6 +1,6 @@
 -- A Load reads its reference cell. No word changes; it is the Load's effect, so the register of the plain heap changes,
 -- and the flight holds back the word of that register until it has written it.
-use Rattle.std.proofs.Common.{◌≡◌, ◌≢◌, ◌⊎◌, ℕ, ◌+◌, ◌^◌, ◌<◌, ◌≤◌, Bool, true, false, List, [], ◌∷◌, ◌++◌, inl, inr, refl, sym, ◌∙◌, ap, arith, Option, Some, None}
+use Rattle.std.proofs.Common.{◌≡◌, ◌≢◌, ◌⊎◌, ℕ, ◌+◌, ◌*◌, ◌^◌, ◌<◌, ◌≤◌, Bool, true, false, List, [], ◌∷◌, ◌++◌, inl, inr, refl, sym, ◌∙◌, ap, arith, Option, Some, None}
 use Rattle.std.proofs.lemmas.Bool.{both_ways, cases_eq, cases_lt, and_from, and_right, not_from_false, or_cases, eq-eqb, eqb-true, ne_eqb, lt-ltb, ltb-true, le-ltb, le-leb, and_parts}
 use Rattle.std.specs.Prelude.{nat_eq, nat_lt, unwrap_or, option_map}
 use Rattle.hk_words.specs.declared.geometry.Geometry.{Geometry}
@@ -392,3 +392,53 @@ load_reads g w flight begun t names contents range s dest reg field below is_loa
     shades_upd g w t.line names flight s y (reads_without_number x dest reg field v is_load at_4) ((reads_nothing_made x dest reg field v is_load at_4).no_number) in
     rw (hands, shades)
     (load_read_facts g w z sh flight begun (hands_of g flight t) t names contents range s dest reg field v p below is_load at_4 reads.1 good bears dark settled h)
+
+-- THE ROW
+
+-- a load of a word of the spaces finds what the column of cells says
+pub found-cell : (g : Geometry) (row : List ℕ) (p : ℕ) → 0 < p → p ≤ 2 * space_words g → old_of row (event.Load (space_at g p)) ≡ (words_of g row).cell p
+unfolding words_of decoded
+found-cell g row p some within = old_at g row (event.Load (space_at g p)) (Space p) refl ∙ sym (raw_space g row p some within)
+
+-- THE HISTORY
+
+-- the entry of a Load
+abbrev pub loaded : (seat dest reg field : ℕ) → Entry
+loaded seat dest reg field = record { seat = seat; call = call.Load dest reg field; reply = reply.Unit; number = 0 }
+
+module _ (g : Geometry) (history : History) (seat dest reg field birth : ℕ) (in_register : (contents_of g history).register seat reg ≡ Some birth)
+    (within : field < (names_of g history).refs birth) where
+  -- the view of the plain heap after the Load
+  seen-loaded : seat < tasks g → dest < g.registers → view_of (after (opening_of g) (history ++ loaded seat dest reg field ∷ []))
+      ≡ with_register_seen (view_of (after (opening_of g) history)) seat dest (heap.link (after (opening_of g) history) birth field)
+  unfolding after_entry view_of contents_of names_of
+  seen-loaded s d =
+      ap view_of (after-push (opening_of g) history (loaded seat dest reg field))
+      ∙ view_of-load (tasks g) g.registers (after (opening_of g) history) seat dest reg field birth (is_heap g history) s d in_register within
+
+  -- a Load leaves the births as they are
+  pub names-loaded : seat < tasks g → dest < g.registers → names_of g (history ++ loaded seat dest reg field ∷ []) ≡ names_of g history
+  unfolding names_of view_of
+  names-loaded s d =
+      let seen = seen-loaded s d in
+      λ i. record {
+        bearer = bearer-push_other history (loaded seat dest reg field) refl i;
+        number = number_of-push_other history (loaded seat dest reg field) refl i;
+        refs = (seen i).refs;
+        nums = (seen i).nums;
+      }
+
+  -- and changes one register
+  pub contents-loaded : seat < tasks g → dest < g.registers
+      → contents_of g (history ++ loaded seat dest reg field ∷ []) ≡ writing_contents (contents_of g history) seat dest ((contents_of g history).link birth field)
+  unfolding contents_of view_of
+  contents-loaded s d =
+      let seen = seen-loaded s d in
+      λ i. record { register = (seen i).register; link = (seen i).link; value = (seen i).value }
+
+  -- its entry is legal
+  pub legal-loaded : Legal (opening_of g) history → Legal (opening_of g) (history ++ loaded seat dest reg field ∷ [])
+  unfolding contents_of names_of
+  legal-loaded legal =
+      let answer : reply.Unit ≡ _ = sym (reply_of-load (after (opening_of g) history) seat dest reg field birth in_register within) in
+      Legal-push (opening_of g) history (loaded seat dest reg field) legal (refl, inl (answer, (λ e. absurd (cc)), (λ e. absurd (cc))))

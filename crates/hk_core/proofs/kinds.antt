@@ -11,3 +11,4 @@ pub mod Begin
 pub mod WriteCell
 pub mod LoadRead
 pub mod LoadWrite
+pub mod StoreWrite

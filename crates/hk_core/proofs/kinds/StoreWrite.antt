@@ -298,3 +298,201 @@ store_writes g w flight begun t names contents range s reg field from below is_s
     kept_child : (kept : ℕ → Bool) (names : Names) (plain : Option ℕ) (child : ℕ) → plain ≡ Some child → IsNullOrKept kept names plain → IsKeptBirth kept names child
     kept_child kept names plain child e (inl none) = absurd (cc)
     kept_child kept names plain child e (inr found) = let same : found.0 ≡ child = cc in rw (← same) found.2
+
+-- THE HISTORY
+
+-- the entry of a Store
+abbrev pub stored : (seat reg field from : ℕ) → Entry
+stored seat reg field from = record { seat = seat; call = call.Store reg field from; reply = reply.Unit; number = 0 }
+
+module _ (g : Geometry) (history : History) (seat reg field from birth : ℕ) (in_register : (contents_of g history).register seat reg ≡ Some birth)
+    (within : field < (names_of g history).refs birth) where
+  -- the view of the plain heap after the Store
+  seen-stored : view_of (after (opening_of g) (history ++ stored seat reg field from ∷ []))
+      ≡ record (view_of (after (opening_of g) history)) { link = upd2 (heap.link (after (opening_of g) history)) birth field (heap.register (after (opening_of g) history) seat from) }
+  unfolding after_entry contents_of names_of
+  seen-stored =
+      ap view_of (after-push (opening_of g) history (stored seat reg field from))
+      ∙ view_of-store (tasks g) g.registers (after (opening_of g) history) seat reg field from birth (is_heap g history) in_register within
+
+  -- a Store leaves the births as they are
+  pub names-stored : names_of g (history ++ stored seat reg field from ∷ []) ≡ names_of g history
+  unfolding names_of view_of
+  names-stored = λ i. record {
+    bearer = bearer-push_other history (stored seat reg field from) refl i;
+    number = number_of-push_other history (stored seat reg field from) refl i;
+    refs = (seen-stored i).refs;
+    nums = (seen-stored i).nums;
+  }
+
+  -- and changes one reference cell
+  pub contents-stored : contents_of g (history ++ stored seat reg field from ∷ []) ≡ link_contents (contents_of g history) birth field ((contents_of g history).register seat from)
+  unfolding contents_of view_of
+  contents-stored = λ i. record { register = (seen-stored i).register; link = (seen-stored i).link; value = (seen-stored i).value }
+
+  -- its entry is legal
+  pub legal-stored : Legal (opening_of g) history → Legal (opening_of g) (history ++ stored seat reg field from ∷ [])
+  unfolding contents_of names_of
+  legal-stored legal =
+      let answer : reply.Unit ≡ _ = sym (reply_of-store (after (opening_of g) history) seat reg field from birth in_register within) in
+      Legal-push (opening_of g) history (stored seat reg field from) legal (refl, inl (answer, (λ e. absurd (cc)), (λ e. absurd (cc))))
+
+-- A STORE OF NULL
+
+-- it loads no W0 at its second place: a rest learns 0
+module _ (x : Flight) (reg field from : ℕ) (is_store : x.call ≡ call.Store reg field from) (at_2 : x.place ≡ 2) where
+  rest_goes : GoesOn x.call x.place 3
+  unfolding f.register_stays_at f.is_load_at f.is_new_at
+  rest_goes = rw (is_store, at_2) (record {
+    flying = refl;
+    in_row = omega arith;
+    in_step = λ full raised h. h;
+    register_stays = refl;
+    is_load = refl;
+    will_raise = refl;
+    raised_before = refl;
+    raised = refl;
+    making = refl;
+    numbered_before = refl;
+    numbered = refl;
+  })
+
+  rest_nothing_made : MakesNothing (loaded_on x 3 0)
+  unfolding f.has_raised f.has_room f.is_making f.has_number f.is_new_at
+  rest_nothing_made = record { not_raised = rw is_store refl; no_room = rw is_store refl; not_making = rw is_store refl; no_number = rw is_store refl }
+
+  rest_raising : f.will_raise (loaded_on x 3 0) ≡ f.will_raise x
+  unfolding f.will_raise f.is_new_at
+  rest_raising = rw is_store refl
+
+  rest_inside : (m : ℕ) → f.is_inside (loaded_on x 3 0) m ≡ f.is_inside x m
+  unfolding f.is_inside f.in_object f.in_object_at
+  rest_inside m = rw (is_store, at_2) refl
+
+  rest_before_object : f.before_object (loaded_on x 3 0) ≡ f.before_object x
+  unfolding f.before_object f.before_object_at
+  rest_before_object = rw (is_store, at_2) refl
+
+  rest_in_frame : f.in_frame (loaded_on x 3 0) ≡ f.in_frame x
+  unfolding f.in_frame f.in_frame_at
+  rest_in_frame = rw is_store refl
+
+  rest_before_frame : f.before_frame (loaded_on x 3 0) ≡ f.before_frame x
+  unfolding f.before_frame f.before_frame_at
+  rest_before_frame = rw is_store refl
+
+  rest_hand : (g : Geometry) → hand_of_flight g (loaded_on x 3 0) ≡ hand_of_flight g x
+  unfolding f.hand_of_flight f.reserves_at f.links_at
+  rest_hand g = rw (is_store, at_2, and_right x.claimer false refl) refl
+
+  rest_in_object : f.in_object x ≡ true
+  unfolding f.in_object f.in_object_at
+  rest_in_object = rw (is_store, at_2) refl
+
+  rest_stays : f.register_stays x ≡ true
+  unfolding f.register_stays f.register_stays_at
+  rest_stays = rw (is_store, at_2) refl
+
+  rest_has_item : f.has_item x ≡ true
+  unfolding f.has_item f.has_item_at
+  rest_has_item = rw (is_store, at_2) refl
+
+  rest_holds_nothing_back : (k : ℕ) → f.holds_back x k ≡ false
+  unfolding f.holds_back f.holds_back_at
+  rest_holds_nothing_back k = rw is_store refl
+
+  rested_holds_nothing_back : (k : ℕ) → f.holds_back (loaded_on x 3 0) k ≡ false
+  unfolding f.holds_back f.holds_back_at
+  rested_holds_nothing_back k = rw is_store refl
+
+  -- so it has no cycle, and it has claimed and loaded nothing
+  rested_has_no_cycle : x.item ≡ 0 → f.has_cycle_inside (loaded_on x 3 0) ≡ false
+  unfolding f.has_cycle_inside f.has_cycle_inside_at
+  rested_has_no_cycle null = rw (is_store, null) refl
+
+  rested_has_no_cycle_in_frame : f.has_cycle_in_frame (loaded_on x 3 0) ≡ false
+  unfolding f.has_cycle_in_frame f.is_load_at f.has_raised f.is_new_at
+  rested_has_no_cycle_in_frame = rw is_store refl
+
+  rested_has_not_claimed : f.has_claimed (loaded_on x 3 0) ≡ false
+  unfolding f.has_claimed f.has_claimed_at
+  rested_has_not_claimed = rw is_store refl
+
+  rested_has_not_loaded : f.has_loaded (loaded_on x 3 0) ≡ false
+  unfolding f.has_loaded f.is_load_at
+  rested_has_not_loaded = rw is_store refl
+
+  rested_has_not_loaded_inside : f.has_loaded_inside (loaded_on x 3 0) ≡ false
+  unfolding f.has_loaded_inside f.is_load_at
+  rested_has_not_loaded_inside = rw is_store refl
+
+  rested_has_not_written : f.has_written (loaded_on x 3 0) ≡ false
+  unfolding f.has_written f.is_load_at
+  rested_has_not_written = rw is_store refl
+
+  rested_is_no_load : f.is_load (loaded_on x 3 0) ≡ false
+  unfolding f.is_load f.is_load_at
+  rested_is_no_load = rw is_store refl
+
+  -- the facts of the flight after the rest
+  rest_facts : (g : Geometry) (w : Words) (sh : Shades) (names : Names) (plain : ℕ → ℕ → Option ℕ) (s : ℕ) → x.item ≡ 0
+      → FlightFacts g w sh names plain s x → FlightFacts g w sh names plain s (loaded_on x 3 0)
+  rest_facts g w sh names plain s null o = record {
+    registers_shown = λ r h. rw (rested_holds_nothing_back r) (rw (rest_holds_nothing_back r) at (o.registers_shown r h));
+    entered_good = λ a b. o.entered_good a rest_goes.flying;
+    loaded_good = λ h. refuted _ rested_has_not_loaded h;
+    formed = record { seated = o.formed.seated; in_row = rest_goes.in_row; registers = λ h. o.formed.registers rest_goes.flying; no_question = o.formed.no_question };
+    in_step = rest_goes.in_step x.full x.raised o.in_step;
+    field_there = λ h. o.field_there rest_goes.flying;
+    entered_stays = λ r h. o.entered_stays r rest_stays;
+    place_known = λ h. o.place_known rest_in_object;
+    loaded_recent = λ h. refuted _ (rested_has_no_cycle null) h;
+    loaded_stays = λ r h. refuted _ rested_has_not_written h;
+    copied_stays = λ r h. o.copied_stays r rest_goes.flying;
+    claims_last = λ h. refuted _ rested_has_not_claimed h;
+    late_in_no_black_object = λ h. refuted _ (rested_has_no_cycle null) h;
+    late_in_no_black_frame = λ h. refuted _ rested_has_no_cycle_in_frame h;
+    loaded_white = λ h. refuted _ rested_has_not_loaded_inside h;
+    entered_white = λ h. refuted _ rested_is_no_load h;
+  }
+
+  rest_so : (g : Geometry) (w : Words) (sh : Shades) (ln : Line) (names : Names) (contents : Contents) (flight : ℕ → Flight) (s : ℕ) → s < tasks g → flight s ≡ x → x.item ≡ 0
+      → CallsFacts g w sh ln names contents flight → Changes g w sh names contents flight s (loaded_on x 3 0)
+  rest_so g w sh ln names contents flight s below here null h = record {
+    nothing = rest_nothing_made;
+    raising = rw here rest_raising;
+    facts = rest_facts g w sh names contents.register s null (rw (← here) (facts_of_flight g w sh names contents.register flight h.flights s below));
+    entered = λ o e. rw (← here) (o.entered s below (rw here rest_goes.flying));
+    item = λ o e. rw (← here) (o.items s below (rw here rest_has_item));
+  }
+
+module _ (g : Geometry) (w : Words) (z : Spaces) (sh : Shades) (flight : ℕ → Flight) (begun : ℕ → ℕ) (hand : ℕ → Hand) (t : Spot)
+    (names : Names) (contents : Contents) (range : ℕ → Option ℕ) (s reg field from : ℕ) where
+  pub store_rest_facts : s < tasks g → (flight s).call ≡ call.Store reg field from → (flight s).place ≡ 2 → (flight s).item ≡ 0
+      → Facts g w z sh flight begun hand t names contents range
+      → Facts g w z sh (upd flight s (loaded_on (flight s) 3 0)) begun hand t names contents range
+  store_rest_facts below is_store at_2 null h =
+      let x = flight s in
+      let y = loaded_on x 3 0 in
+      let counted : fact.AccessorsCounted g w.accessors (upd flight s y) = counted_kept g flight s y w.accessors (rest_inside x reg field from is_store at_2) h.accessors_counted in
+      let versions : fact.VersionsBounded g w.version (upd flight s y) begun = versions_kept g flight s y w.version begun (rest_before_object x reg field from is_store at_2) h.versions_bounded in
+      let frames : fact.FrameAccessorsCounted g w.frame_accessors (upd flight s y) = frames_counted_kept g flight s y w.frame_accessors below (rest_in_frame x reg field from is_store at_2) h.frame_accessors_counted in
+      let frame_versions : fact.FrameVersionsBounded g w.frame_version (upd flight s y) begun = frame_versions_kept g flight s y w.frame_version begun (rest_before_frame x reg field from is_store at_2) h.frame_versions_bounded in
+      let between : CallsFacts g w sh t.line names contents flight = assumption in
+      let calls : CallsFacts g w sh t.line names contents (upd flight s y) =
+      calls_upd g w sh t.line names contents flight s y (rest_so x reg field from is_store at_2 g w sh t.line names contents flight s below refl null between) between in
+      assumption
+
+-- all facts hold after a Store of null has rested where it would load W0; no word changes
+pub store_rests : (g : Geometry) (w : Words) (flight : ℕ → Flight) (begun : ℕ → ℕ) (t : Spot) (names : Names) (contents : Contents) (range : ℕ → Option ℕ) (s reg field from : ℕ)
+    → s < tasks g → (flight s).call ≡ call.Store reg field from → (flight s).place ≡ 2 → (flight s).item ≡ 0 → FactsOf g w flight begun t names contents range
+    → FactsOf g w (upd flight s (loaded_on (flight s) 3 0)) begun t names contents range
+store_rests g w flight begun t names contents range s reg field from below is_store at_2 null h =
+    let x = flight s in
+    let y = loaded_on x 3 0 in
+    let goes = rest_goes x reg field from is_store at_2 in
+    let hands : hands_of g (upd flight s y) t ≡ hands_of g flight t = hands_upd g t flight s y (rest_hand x reg field from is_store at_2 g) in
+    let shades : shades_of g w (upd flight s y) t.line names ≡ shades_of g w flight t.line names =
+    shades_upd g w t.line names flight s y (goes_without_number x 3 x.at goes) ((rest_nothing_made x reg field from is_store at_2).no_number) in
+    rw (hands, shades)
+    (store_rest_facts g w (spaces_of g w.cycle) (shades_of g w flight t.line names) flight begun (hands_of g flight t) t names contents range s reg field from below is_store at_2 null h)

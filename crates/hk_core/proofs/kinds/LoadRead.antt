@@ -24,8 +24,8 @@ use Rattle.hk_core.specs.declared.flight.Flight.{Flight}
 use Rattle.hk_core.specs.declared.spot.Spot.{Spot}
 use Rattle.hk_core.specs.declared.spot.Line.{Line}
 use Rattle.hk_core.specs.Begin.{copied, has_field}
-use Rattle.hk_core.specs.Event.{old_of}
-use Rattle.hk_core.specs.Step.{places_of, reference_cell}
+use Rattle.hk_core.specs.Event.{fired_if, learnt}
+use Rattle.hk_core.specs.Step.{places_of, reference_cell, read_cell, load_event, load_took, load_entry_of, event_at, event_of, took_at, took_of, effect_at, effect_of}
 use Rattle.hk_core.specs.View.{Words, Names, Contents, shown, refs_at, nums_at, size_at, reference_at, words_of, raw, decoded, names_of, contents_of}
 use Rattle.hk_core.specs.Flights as f
 use Rattle.hk_core.specs.Flights.{Hand, hand_of_flight}
@@ -35,11 +35,12 @@ use Rattle.hk_core.specs.Facts as fact
 use Rattle.hk_core.specs.Facts.{IsSettled}
 use Rattle.hk_core.specs.Lawful.{Facts, FactsOf, hands_of}
 use Rattle.hk_core.proofs.Update.{upd_cases, upd2_cases}
-use Rattle.hk_core.proofs.Columns.{old_at, raw_space}
+use Rattle.hk_core.proofs.Columns.{old_at, raw_space, fired_if_some}
 use Rattle.hk_core.proofs.kinds.Seats.{FlightFacts, FlightsFacts, NewsFacts, CallsFacts, KeptMeans, MakesNothing, kept_means, facts_of_flight, facts_of_flights, news_upd, settled_upd, pass_upd}
 use Rattle.hk_core.proofs.kinds.Seats.{hands_upd, shades_upd, counted_kept, versions_kept, frames_counted_kept, frame_versions_kept}
 use Rattle.hk_core.proofs.kinds.Enter.{object_of}
 use Rattle.hk_core.proofs.kinds.Read.{Knows, ShapesFit, read_on, refuted, object_known}
+use Rattle.hk_core.proofs.kinds.Words.{words-load}
 use Rattle.hk_core.proofs.kinds.WriteCell.{ShadesMean, shades_mean}
 use Rattle.hk_core.proofs.kinds.WriteRegister.{writing_contents}
 use Rattle.hk_core.proofs.kinds.Effects.{with_register_seen, is_heap}
@@ -396,9 +397,35 @@ load_reads g w flight begun t names contents range s dest reg field below is_loa
 -- THE ROW
 
 -- a load of a word of the spaces finds what the column of cells says
-pub found-cell : (g : Geometry) (row : List ℕ) (p : ℕ) → 0 < p → p ≤ 2 * space_words g → old_of row (event.Load (space_at g p)) ≡ (words_of g row).cell p
-unfolding words_of decoded
+pub found-cell : (g : Geometry) (row : List ℕ) (p : ℕ) → 0 < p → p ≤ 2 * space_words g → learnt row (Some (event.Load (space_at g p))) ≡ (words_of g row).cell p
+unfolding words_of decoded learnt
 found-cell g row p some within = old_at g row (event.Load (space_at g p)) (Space p) refl ∙ sym (raw_space g row p some within)
+
+module _ (g : Geometry) (x : Flight) (dest reg field : ℕ) (is_load : x.call ≡ call.Load dest reg field) (at_4 : x.place ≡ 4) where
+  -- the event of the place, and the flight after it
+  pub load_read_event : event_of g x ≡ Some (event.Load (space_at g (reference_cell x field)))
+  unfolding event_of event_at load_event read_cell
+  load_read_event = rw (is_load, at_4) refl
+
+  pub load_read_took : (old : ℕ) → took_of g x old ≡ read_on x 5 old
+  unfolding took_of took_at load_took
+  load_read_took old = rw (is_load, at_4) refl
+
+-- all facts hold of the row and of the flights after a Load has read its cell
+pub load_reads_row : (g : Geometry) (row : List ℕ) (flight : ℕ → Flight) (begun : ℕ → ℕ) (t : Spot) (names : Names) (contents : Contents) (range : ℕ → Option ℕ) (s dest reg field : ℕ)
+    → s < tasks g → (flight s).call ≡ call.Load dest reg field → (flight s).place ≡ 4 → reference_cell (flight s) field ≤ 2 * space_words g
+    → (k : Knows (words_of g row) (shades_of g (words_of g row) flight t.line names) names contents.register s reg (flight s))
+    → FactsOf g (words_of g row) flight begun t names contents range
+    → FactsOf g (words_of g (fired_if row (event_of g (flight s)))) (upd flight s (took_of g (flight s) (learnt row (event_of g (flight s))))) begun t names
+    (writing_contents contents s dest (contents.link k.birth field)) range
+load_reads_row g row flight begun t names contents range s dest reg field below is_load at_4 within k h =
+    let x = flight s in
+    let p = reference_cell x field in
+    let e = event.Load (space_at g p) in
+    let words : words_of g (fired_if row (Some e)) ≡ words_of g row = ap (words_of g) (fired_if_some row e) ∙ words-load g row (space_at g p) in
+    let found : learnt row (Some e) ≡ (words_of g row).cell p = found-cell g row p (omega arith) within in
+    rw (load_read_event g x dest reg field is_load at_4) (rw (words, found, load_read_took g x dest reg field is_load at_4 ((words_of g row).cell p))
+    (load_reads g (words_of g row) flight begun t names contents range s dest reg field below is_load at_4 k h))
 
 -- THE HISTORY
 
@@ -436,7 +463,12 @@ module _ (g : Geometry) (history : History) (seat dest reg field birth : ℕ) (i
       let seen = seen-loaded s d in
       λ i. record { register = (seen i).register; link = (seen i).link; value = (seen i).value }
 
-  -- its entry is legal
+  -- it is what the step adds
+  pub entry-loaded : (x : Flight) (old : ℕ) → x.seat ≡ seat → x.call ≡ call.Load dest reg field → x.place ≡ 4 → effect_of g x old ≡ Some (loaded seat dest reg field)
+  unfolding effect_of effect_at load_entry_of
+  entry-loaded x old seated is_load at_4 = rw (is_load, at_4, seated) refl
+
+  -- and it is legal
   pub legal-loaded : Legal (opening_of g) history → Legal (opening_of g) (history ++ loaded seat dest reg field ∷ [])
   unfolding contents_of names_of
   legal-loaded legal =

@@ -1,21 +1,24 @@
 -- A Load writes the reference that it has read into its register. The plain heap has it there since the read, so only
 -- the word changes, and from now on the word shows the plain heap's register.
-use Rattle.std.proofs.Common.{◌≡◌, ◌≢◌, ◌⊎◌, ℕ, ◌<◌, ◌≤◌, Bool, true, false, inl, inr, refl, sym, ◌∙◌, ap, arith, Option, Some, None}
+use Rattle.std.proofs.Common.{◌≡◌, ◌≢◌, ◌⊎◌, ℕ, ◌<◌, ◌≤◌, Bool, true, false, List, length, inl, inr, refl, sym, ◌∙◌, ap, arith, Option, Some, None}
 use Rattle.std.proofs.lemmas.Bool.{cases_eq, cases_lt, and_from, and_right, not_from_false, eq-eqb, eqb-true, ne_eqb}
 use Rattle.std.specs.Prelude.{nat_eq, not}
 use Rattle.hk_words.specs.declared.geometry.Geometry.{Geometry}
 use Rattle.hk_words.specs.declared.call.Call.TheVariants as call
-use Rattle.hk_words.specs.Geometry.{tasks}
+use Rattle.hk_words.specs.Geometry.{tasks, row_length}
 use Rattle.hk_words.specs.Calls.{entered, target, RegistersFit}
 use Rattle.hk_words.specs.Layout as layout
+use Rattle.hk_words.specs.Row.{register_at}
 use Rattle.hk_model.specs.View.{upd, upd2}
 use Rattle.hk_model.proofs.Updates.{upd2_same, upd2_other}
+use Rattle.hk_core.specs.declared.event.Event.TheVariants as event
 use Rattle.hk_core.specs.declared.flight.Flight.{Flight}
 use Rattle.hk_core.specs.declared.spot.Spot.{Spot}
 use Rattle.hk_core.specs.declared.spot.Line.{Line}
 use Rattle.hk_core.specs.Begin.{copied}
-use Rattle.hk_core.specs.Step.{places_of}
-use Rattle.hk_core.specs.View.{Words, Names, Contents, shown}
+use Rattle.hk_core.specs.Event.{fired, fired_if, learnt}
+use Rattle.hk_core.specs.Step.{places_of, write_register, load_event, load_took, load_entry_of, event_at, event_of, took_at, took_of, effect_at, effect_of}
+use Rattle.hk_core.specs.View.{Words, Names, Contents, shown, words_of}
 use Rattle.hk_core.specs.Flights as f
 use Rattle.hk_core.specs.Flights.{Hand, hand_of_flight}
 use Rattle.hk_core.specs.Colours.{Spaces, spaces_of, Shades, shades_of, IsNullOrGood, NamesNoWhite, IsNullOrMarked}
@@ -23,10 +26,12 @@ use Rattle.hk_core.specs.Facts as fact
 use Rattle.hk_core.specs.Facts.{IsSettled}
 use Rattle.hk_core.specs.Lawful.{Facts, FactsOf, hands_of}
 use Rattle.hk_core.proofs.Update.{upd_cases, upd2_cases}
+use Rattle.hk_core.proofs.Columns.{fired_if_some}
 use Rattle.hk_core.proofs.kinds.Seats.{FlightFacts, FlightsFacts, NewsFacts, CallsFacts, MakesNothing, moved_on, facts_of_flight, facts_of_flights, news_upd, settled_upd, pass_upd}
 use Rattle.hk_core.proofs.kinds.Seats.{hands_upd, shades_upd, counted_kept, versions_kept, frames_counted_kept, frame_versions_kept}
 use Rattle.hk_core.proofs.kinds.Frame.{work_in_attempt}
 use Rattle.hk_core.proofs.kinds.Read.{refuted}
+use Rattle.hk_core.proofs.kinds.Words.{words-write_register}
 use Rattle.hk_core.proofs.kinds.WriteRegister.{writing_words}
 use Rattle.hk_core.proofs.kinds.LoadRead.{ColoursMean, colours_mean}
 
@@ -334,3 +339,35 @@ load_writes g w flight begun t names contents range s dest reg field below is_lo
     ((writes_nothing_made x dest reg field is_load at_8).no_number) in
     rw (hands, shades, shades_write g w s dest x.item flight t.line names)
     (write_word_facts g w z sh flight begun (hands_of g flight t) t names contents range s dest x.item y below writes h)
+
+-- THE ROW
+
+module _ (g : Geometry) (x : Flight) (dest reg field : ℕ) (is_load : x.call ≡ call.Load dest reg field) (at_8 : x.place ≡ 8) where
+  -- the event of the place, and the flight after it; no entry is added
+  pub load_write_event : event_of g x ≡ Some (event.Write (register_at g x.seat dest) x.item)
+  unfolding event_of event_at load_event write_register
+  load_write_event = rw (is_load, at_8) refl
+
+  pub load_write_took : (old : ℕ) → took_of g x old ≡ moved_on x 9 x.at
+  unfolding took_of took_at load_took
+  load_write_took old = rw (is_load, at_8) refl
+
+  pub load_write_entry : (old : ℕ) → effect_of g x old ≡ None
+  unfolding effect_of effect_at load_entry_of
+  load_write_entry old = rw (is_load, at_8) refl
+
+-- all facts hold of the row and of the flights after a Load has written its register
+pub load_writes_row : (g : Geometry) (row : List ℕ) (flight : ℕ → Flight) (begun : ℕ → ℕ) (t : Spot) (names : Names) (contents : Contents) (range : ℕ → Option ℕ) (s dest reg field : ℕ)
+    → s < tasks g → (flight s).call ≡ call.Load dest reg field → (flight s).place ≡ 8 → length row ≡ row_length g
+    → FactsOf g (words_of g row) flight begun t names contents range
+    → FactsOf g (words_of g (fired_if row (event_of g (flight s)))) (upd flight s (took_of g (flight s) (learnt row (event_of g (flight s))))) begun t names contents range
+load_writes_row g row flight begun t names contents range s dest reg field below is_load at_8 whole h =
+    let x = flight s in
+    let e = event.Write (register_at g x.seat dest) x.item in
+    let formed = h.flights_formed s below in
+    let registers : RegistersFit g.registers (call.Load dest reg field) = rw is_load at (formed.registers (writes_flying x dest reg field is_load at_8)) in
+    let words : words_of g (fired_if row (Some e)) ≡ writing_words (words_of g row) s dest x.item =
+    ap (words_of g) (fired_if_some row e) ∙ ap (λ (seat : ℕ). words_of g (fired row (event.Write (register_at g seat dest) x.item))) formed.seated
+    ∙ words-write_register g row whole s dest x.item below registers.0.1 in
+    rw (load_write_event g x dest reg field is_load at_8) (rw (words, load_write_took g x dest reg field is_load at_8 (learnt row (Some e)))
+    (load_writes g (words_of g row) flight begun t names contents range s dest reg field below is_load at_8 h))

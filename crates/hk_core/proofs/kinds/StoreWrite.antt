@@ -1,14 +1,15 @@
 -- A Store writes its reference into a cell of the object that it is inside: the word and the cell of the plain heap
 -- change together. And a Store of null rests where it would load W0.
-use Rattle.std.proofs.Common.{◌≡◌, ◌≢◌, ◌⊎◌, ℕ, ◌+◌, ◌<◌, ◌≤◌, Bool, true, false, [], ◌∷◌, ◌++◌, inl, inr, refl, sym, ◌∙◌, ap, arith, Option, Some, None}
+use Rattle.std.proofs.Common.{◌≡◌, ◌≢◌, ◌⊎◌, ℕ, ◌+◌, ◌*◌, ◌<◌, ◌≤◌, Bool, true, false, List, length, [], ◌∷◌, ◌++◌, inl, inr, refl, sym, ◌∙◌, ap, arith, Option, Some, None}
 use Rattle.std.proofs.lemmas.Bool.{cases_eq, and_from, and_right, not_from_false, eq-eqb, ne_eqb, ltb-true}
 use Rattle.std.specs.Prelude.{nat_eq, not, ◌&&◌}
 use Rattle.hk_words.specs.declared.geometry.Geometry.{Geometry}
 use Rattle.hk_words.specs.declared.call.Call.TheVariants as call
 use Rattle.hk_words.specs.declared.call.Reply.TheVariants as reply
-use Rattle.hk_words.specs.Geometry.{tasks}
+use Rattle.hk_words.specs.Geometry.{tasks, space_words, row_length}
 use Rattle.hk_words.specs.Calls.{RegistersFit}
 use Rattle.hk_words.specs.Layout as layout
+use Rattle.hk_words.specs.Row.{space_at}
 use Rattle.hk_model.specs.View.{upd, upd2, view_of}
 use Rattle.hk_model.specs.Heap as heap
 use Rattle.hk_model.specs.Heap.{opening_of}
@@ -17,22 +18,25 @@ use Rattle.hk_model.proofs.Effects.{view_of-store}
 use Rattle.hk_model.proofs.Histories.{after-push, Legal-push, number_of-push_other, bearer-push_other}
 use Rattle.hk_model.proofs.Replies.{reply_of-store}
 use Rattle.hk_model.proofs.Updates.{upd_same, upd_other, upd2_same, upd2_other}
+use Rattle.hk_core.specs.declared.event.Event.TheVariants as event
 use Rattle.hk_core.specs.declared.flight.Flight.{Flight}
 use Rattle.hk_core.specs.declared.spot.Spot.{Spot}
 use Rattle.hk_core.specs.declared.spot.Line.{Line}
 use Rattle.hk_core.specs.Begin.{copied, has_field}
-use Rattle.hk_core.specs.Step.{reference_cell}
-use Rattle.hk_core.specs.View.{Words, Names, Contents, shown, refs_at, nums_at, size_at, names_of, contents_of}
+use Rattle.hk_core.specs.Event.{fired_if, learnt}
+use Rattle.hk_core.specs.Step.{reference_cell, write_cell, store_event, store_took, store_entry, event_at, event_of, took_at, took_of, effect_at, effect_of}
+use Rattle.hk_core.specs.View.{Words, Names, Contents, shown, refs_at, nums_at, size_at, words_of, names_of, contents_of}
 use Rattle.hk_core.specs.Flights as f
 use Rattle.hk_core.specs.Flights.{Hand, hand_of_flight}
 use Rattle.hk_core.specs.Colours.{Spaces, spaces_of, Shades, shades_of, held_by, IsKeptBirth, IsNullOrKept}
 use Rattle.hk_core.specs.Facts as fact
 use Rattle.hk_core.specs.Lawful.{Facts, FactsOf, hands_of}
 use Rattle.hk_core.proofs.Update.{upd2_cases}
+use Rattle.hk_core.proofs.Columns.{fired_if_some, fired_if_none}
 use Rattle.hk_core.proofs.kinds.Seats.{FlightFacts, CallsFacts, Changes, MakesNothing, KeptMeans, GoesOn, SameObject, SameFrame, SameClaim, SameItem, moved_on, kept_means, calls_upd, facts_of_flight, counted_kept, versions_kept, frames_counted_kept, frame_versions_kept}
 use Rattle.hk_core.proofs.kinds.Seats.{hands_upd, shades_upd, goes_making_nothing, goes_without_number, goes_hand, goes_so, goes_is_inside, goes_before_object, goes_in_frame, goes_before_frame, goes_in_object}
 use Rattle.hk_core.proofs.kinds.Enter.{object_of}
-use Rattle.hk_core.proofs.kinds.Words.{some_in_object}
+use Rattle.hk_core.proofs.kinds.Words.{some_in_object, words-write_cell}
 use Rattle.hk_core.proofs.kinds.Read.{Knows, ShapesFit, refuted, none_in, object_known}
 use Rattle.hk_core.proofs.kinds.WriteCell.{ShadesMean, WritesInside, CellFacts, BearersNumbered, shades_mean, cells_write, cell_words}
 use Rattle.hk_core.proofs.kinds.Effects.{is_heap}
@@ -299,6 +303,35 @@ store_writes g w flight begun t names contents range s reg field from below is_s
     kept_child kept names plain child e (inl none) = absurd (cc)
     kept_child kept names plain child e (inr found) = let same : found.0 ≡ child = cc in rw (← same) found.2
 
+-- THE ROW
+
+module _ (g : Geometry) (x : Flight) (reg field from : ℕ) (is_store : x.call ≡ call.Store reg field from) (at_6 : x.place ≡ 6) where
+  -- the event of the place, and the flight after it
+  pub store_write_event : event_of g x ≡ Some (event.Write (space_at g (reference_cell x field)) x.item)
+  unfolding event_of event_at store_event write_cell
+  store_write_event = rw (is_store, at_6) refl
+
+  pub store_write_took : (old : ℕ) → took_of g x old ≡ moved_on x 7 x.at
+  unfolding took_of took_at store_took
+  store_write_took old = rw (is_store, at_6) refl
+
+-- all facts hold of the row and of the flights after a Store has written its cell
+pub store_writes_row : (g : Geometry) (row : List ℕ) (flight : ℕ → Flight) (begun : ℕ → ℕ) (t : Spot) (names : Names) (contents : Contents) (range : ℕ → Option ℕ) (s reg field from : ℕ)
+    → s < tasks g → (flight s).call ≡ call.Store reg field from → (flight s).place ≡ 6 → length row ≡ row_length g → reference_cell (flight s) field ≤ 2 * space_words g
+    → ShapesFit names → BearersNumbered names
+    → (k : Knows (words_of g row) (shades_of g (words_of g row) flight t.line names) names contents.register s reg (flight s))
+    → FactsOf g (words_of g row) flight begun t names contents range
+    → FactsOf g (words_of g (fired_if row (event_of g (flight s)))) (upd flight s (took_of g (flight s) (learnt row (event_of g (flight s))))) begun t names
+    (link_contents contents k.birth field (contents.register s from)) range
+store_writes_row g row flight begun t names contents range s reg field from below is_store at_6 whole within fit numbered k h =
+    let x = flight s in
+    let p = reference_cell x field in
+    let e = event.Write (space_at g p) x.item in
+    let words : words_of g (fired_if row (Some e)) ≡ cell_words (words_of g row) p x.item =
+    ap (words_of g) (fired_if_some row e) ∙ words-write_cell g row whole p x.item (omega arith) within in
+    rw (store_write_event g x reg field from is_store at_6) (rw (words, store_write_took g x reg field from is_store at_6 (learnt row (Some e)))
+    (store_writes g (words_of g row) flight begun t names contents range s reg field from below is_store at_6 fit numbered k h))
+
 -- THE HISTORY
 
 -- the entry of a Store
@@ -330,7 +363,12 @@ module _ (g : Geometry) (history : History) (seat reg field from birth : ℕ) (i
   unfolding contents_of view_of
   contents-stored = λ i. record { register = (seen-stored i).register; link = (seen-stored i).link; value = (seen-stored i).value }
 
-  -- its entry is legal
+  -- it is what the step adds
+  pub entry-stored : (x : Flight) (old : ℕ) → x.seat ≡ seat → x.call ≡ call.Store reg field from → x.place ≡ 6 → effect_of g x old ≡ Some (stored seat reg field from)
+  unfolding effect_of effect_at store_entry
+  entry-stored x old seated is_store at_6 = rw (is_store, at_6, seated) refl
+
+  -- and it is legal
   pub legal-stored : Legal (opening_of g) history → Legal (opening_of g) (history ++ stored seat reg field from ∷ [])
   unfolding contents_of names_of
   legal-stored legal =
@@ -496,3 +534,31 @@ store_rests g w flight begun t names contents range s reg field from below is_st
     shades_upd g w t.line names flight s y (goes_without_number x 3 x.at goes) ((rest_nothing_made x reg field from is_store at_2).no_number) in
     rw (hands, shades)
     (store_rest_facts g w (spaces_of g w.cycle) (shades_of g w flight t.line names) flight begun (hands_of g flight t) t names contents range s reg field from below is_store at_2 null h)
+
+module _ (g : Geometry) (x : Flight) (reg field from : ℕ) (is_store : x.call ≡ call.Store reg field from) (at_2 : x.place ≡ 2) where
+  -- the place is a rest, and this is the flight after it; no entry is added
+  pub store_rest_event : x.item ≡ 0 → event_of g x ≡ None
+  unfolding event_of event_at store_event
+  store_rest_event null = rw (is_store, at_2, null) refl
+
+  pub store_rest_took : (old : ℕ) → took_of g x old ≡ loaded_on x 3 old
+  unfolding took_of took_at store_took
+  store_rest_took old = rw (is_store, at_2) refl
+
+  pub store_rest_entry : (old : ℕ) → effect_of g x old ≡ None
+  unfolding effect_of effect_at store_entry
+  store_rest_entry old = rw (is_store, at_2) refl
+
+nothing_learnt : (row : List ℕ) → learnt row None ≡ 0
+unfolding learnt
+nothing_learnt row = refl
+
+-- all facts hold of the row and of the flights after a Store of null has rested
+pub store_rests_row : (g : Geometry) (row : List ℕ) (flight : ℕ → Flight) (begun : ℕ → ℕ) (t : Spot) (names : Names) (contents : Contents) (range : ℕ → Option ℕ) (s reg field from : ℕ)
+    → s < tasks g → (flight s).call ≡ call.Store reg field from → (flight s).place ≡ 2 → (flight s).item ≡ 0
+    → FactsOf g (words_of g row) flight begun t names contents range
+    → FactsOf g (words_of g (fired_if row (event_of g (flight s)))) (upd flight s (took_of g (flight s) (learnt row (event_of g (flight s))))) begun t names contents range
+store_rests_row g row flight begun t names contents range s reg field from below is_store at_2 null h =
+    let x = flight s in
+    rw (store_rest_event g x reg field from is_store at_2 null) (rw (fired_if_none row, nothing_learnt row, store_rest_took g x reg field from is_store at_2 0)
+    (store_rests g (words_of g row) flight begun t names contents range s reg field from below is_store at_2 null h))

@@ -1,8 +1,8 @@
 -- A Load reads its reference cell. No word changes; it is the Load's effect, so the register of the plain heap changes,
 -- and the flight holds back the word of that register until it has written it.
 use Rattle.std.proofs.Common.{◌≡◌, ◌≢◌, ◌⊎◌, ℕ, ◌+◌, ◌*◌, ◌^◌, ◌<◌, ◌≤◌, Bool, true, false, List, [], ◌∷◌, ◌++◌, inl, inr, refl, sym, ◌∙◌, ap, arith, Option, Some, None}
-use Rattle.std.proofs.lemmas.Bool.{both_ways, cases_eq, cases_lt, and_from, and_right, not_from_false, or_cases, eq-eqb, eqb-true, ne_eqb, lt-ltb, ltb-true, le-ltb, le-leb, and_parts}
-use Rattle.std.specs.Prelude.{nat_eq, nat_lt, unwrap_or, option_map}
+use Rattle.std.proofs.lemmas.Bool.{cases_eq, and_from, and_right, not_from_false, or_cases, eq-eqb, eqb-true, ne_eqb, lt-ltb, ltb-true, le-ltb, le-leb, and_parts}
+use Rattle.std.specs.Prelude.{nat_eq}
 use Rattle.hk_words.specs.declared.geometry.Geometry.{Geometry}
 use Rattle.hk_words.specs.declared.call.Call.TheVariants as call
 use Rattle.hk_words.specs.declared.call.Reply.TheVariants as reply
@@ -26,11 +26,11 @@ use Rattle.hk_core.specs.declared.spot.Line.{Line}
 use Rattle.hk_core.specs.Begin.{copied, has_field}
 use Rattle.hk_core.specs.Event.{fired_if, learnt}
 use Rattle.hk_core.specs.Step.{places_of, reference_cell, read_cell, load_event, load_took, load_entry_of, event_at, event_of, took_at, took_of, effect_at, effect_of}
-use Rattle.hk_core.specs.View.{Words, Names, Contents, shown, refs_at, nums_at, size_at, reference_at, words_of, raw, decoded, names_of, contents_of}
+use Rattle.hk_core.specs.View.{Words, Names, Contents, shown, refs_at, nums_at, size_at, reference_at, words_of, decoded, names_of, contents_of}
 use Rattle.hk_core.specs.Flights as f
 use Rattle.hk_core.specs.Flights.{Hand, hand_of_flight}
 use Rattle.hk_core.specs.Lines as l
-use Rattle.hk_core.specs.Colours.{Spaces, spaces_of, Shades, shades_of, held_by, is_fresh, IsGood, IsNullOrGood, IsKeptBirth, IsNullOrKept, NamesNoWhite}
+use Rattle.hk_core.specs.Colours.{Spaces, spaces_of, Shades, shades_of, held_by, is_fresh, IsNullOrGood, IsKeptBirth, IsNullOrKept, NamesNoWhite}
 use Rattle.hk_core.specs.Facts as fact
 use Rattle.hk_core.specs.Facts.{IsSettled}
 use Rattle.hk_core.specs.Lawful.{Facts, FactsOf, hands_of}
@@ -335,7 +335,7 @@ reference_read w sh names plain link s reg field x k shows there =
     let cell : w.cell (w.place n + 1 + field) ≡ shown names (link k.birth field) = shows n k.birth k.is_kept k.bears field within in
     (within, rw k.stands cell)
 
--- what a Load inside its object knows of it, until it has written its register
+-- what a Load knows of its object as it reads the cell
 pub load_knows : (g : Geometry) (w : Words) (flight : ℕ → Flight) (begun : ℕ → ℕ) (t : Spot) (names : Names) (contents : Contents) (range : ℕ → Option ℕ) (s dest reg field : ℕ)
     → s < tasks g → (flight s).call ≡ call.Load dest reg field → (flight s).place ≡ 4 → ShapesFit names → FactsOf g w flight begun t names contents range
     → Knows w (shades_of g w flight t.line names) names contents.register s reg (flight s)
@@ -401,8 +401,12 @@ pub found-cell : (g : Geometry) (row : List ℕ) (p : ℕ) → 0 < p → p ≤ 2
 unfolding words_of decoded learnt
 found-cell g row p some within = old_at g row (event.Load (space_at g p)) (Space p) refl ∙ sym (raw_space g row p some within)
 
+-- the entry of a Load
+abbrev pub loaded : (seat dest reg field : ℕ) → Entry
+loaded seat dest reg field = record { seat = seat; call = call.Load dest reg field; reply = reply.Unit; number = 0 }
+
 module _ (g : Geometry) (x : Flight) (dest reg field : ℕ) (is_load : x.call ≡ call.Load dest reg field) (at_4 : x.place ≡ 4) where
-  -- the event of the place, and the flight after it
+  -- the event of the place, the flight after it, and the entry that it adds
   pub load_read_event : event_of g x ≡ Some (event.Load (space_at g (reference_cell x field)))
   unfolding event_of event_at load_event read_cell
   load_read_event = rw (is_load, at_4) refl
@@ -410,6 +414,10 @@ module _ (g : Geometry) (x : Flight) (dest reg field : ℕ) (is_load : x.call �
   pub load_read_took : (old : ℕ) → took_of g x old ≡ read_on x 5 old
   unfolding took_of took_at load_took
   load_read_took old = rw (is_load, at_4) refl
+
+  pub load_read_entry : (old : ℕ) → effect_of g x old ≡ Some (loaded x.seat dest reg field)
+  unfolding effect_of effect_at load_entry_of
+  load_read_entry old = rw (is_load, at_4) refl
 
 -- all facts hold of the row and of the flights after a Load has read its cell
 pub load_reads_row : (g : Geometry) (row : List ℕ) (flight : ℕ → Flight) (begun : ℕ → ℕ) (t : Spot) (names : Names) (contents : Contents) (range : ℕ → Option ℕ) (s dest reg field : ℕ)
@@ -428,10 +436,6 @@ load_reads_row g row flight begun t names contents range s dest reg field below 
     (load_reads g (words_of g row) flight begun t names contents range s dest reg field below is_load at_4 k h))
 
 -- THE HISTORY
-
--- the entry of a Load
-abbrev pub loaded : (seat dest reg field : ℕ) → Entry
-loaded seat dest reg field = record { seat = seat; call = call.Load dest reg field; reply = reply.Unit; number = 0 }
 
 module _ (g : Geometry) (history : History) (seat dest reg field birth : ℕ) (in_register : (contents_of g history).register seat reg ≡ Some birth)
     (within : field < (names_of g history).refs birth) where
@@ -463,12 +467,7 @@ module _ (g : Geometry) (history : History) (seat dest reg field birth : ℕ) (i
       let seen = seen-loaded s d in
       λ i. record { register = (seen i).register; link = (seen i).link; value = (seen i).value }
 
-  -- it is what the step adds
-  pub entry-loaded : (x : Flight) (old : ℕ) → x.seat ≡ seat → x.call ≡ call.Load dest reg field → x.place ≡ 4 → effect_of g x old ≡ Some (loaded seat dest reg field)
-  unfolding effect_of effect_at load_entry_of
-  entry-loaded x old seated is_load at_4 = rw (is_load, at_4, seated) refl
-
-  -- and it is legal
+  -- its entry is legal
   pub legal-loaded : Legal (opening_of g) history → Legal (opening_of g) (history ++ loaded seat dest reg field ∷ [])
   unfolding contents_of names_of
   legal-loaded legal =

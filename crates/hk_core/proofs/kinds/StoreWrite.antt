@@ -1,8 +1,7 @@
 -- A Store writes its reference into a cell of the object that it is inside: the word and the cell of the plain heap
 -- change together. And a Store of null rests where it would load W0.
-use Rattle.std.proofs.Common.{◌≡◌, ◌≢◌, ◌⊎◌, ℕ, ◌+◌, ◌*◌, ◌<◌, ◌≤◌, Bool, true, false, List, length, [], ◌∷◌, ◌++◌, inl, inr, refl, sym, ◌∙◌, ap, arith, Option, Some, None}
-use Rattle.std.proofs.lemmas.Bool.{cases_eq, and_from, and_right, not_from_false, eq-eqb, ne_eqb, ltb-true}
-use Rattle.std.specs.Prelude.{nat_eq, not, ◌&&◌}
+use Rattle.std.proofs.Common.{◌≡◌, ◌≢◌, ℕ, ◌+◌, ◌*◌, ◌<◌, ◌≤◌, Bool, true, false, List, length, [], ◌∷◌, ◌++◌, inl, inr, refl, sym, ◌∙◌, ap, arith, Option, Some, None}
+use Rattle.std.proofs.lemmas.Bool.{cases_eq, and_right, not_from_false, eq-eqb, ne_eqb, ltb-true}
 use Rattle.hk_words.specs.declared.geometry.Geometry.{Geometry}
 use Rattle.hk_words.specs.declared.call.Call.TheVariants as call
 use Rattle.hk_words.specs.declared.call.Reply.TheVariants as reply
@@ -37,10 +36,10 @@ use Rattle.hk_core.proofs.kinds.Seats.{FlightFacts, CallsFacts, Changes, MakesNo
 use Rattle.hk_core.proofs.kinds.Seats.{hands_upd, shades_upd, goes_making_nothing, goes_without_number, goes_hand, goes_so, goes_is_inside, goes_before_object, goes_in_frame, goes_before_frame, goes_in_object}
 use Rattle.hk_core.proofs.kinds.Enter.{object_of}
 use Rattle.hk_core.proofs.kinds.Words.{some_in_object, words-write_cell}
-use Rattle.hk_core.proofs.kinds.Read.{Knows, ShapesFit, refuted, none_in, object_known}
+use Rattle.hk_core.proofs.kinds.Read.{Knows, ShapesFit, refuted, object_known}
 use Rattle.hk_core.proofs.kinds.WriteCell.{ShadesMean, WritesInside, CellFacts, BearersNumbered, shades_mean, cells_write, cell_words}
 use Rattle.hk_core.proofs.kinds.Effects.{is_heap}
-use Rattle.hk_core.proofs.kinds.LoadCycle.{LoadsCycle, loaded_on, store_loads_cycle}
+use Rattle.hk_core.proofs.kinds.LoadCycle.{loaded_on}
 use Rattle.hk_core.proofs.kinds.LoadRead.{colours_mean, kept_number, shown_birth}
 use Rattle.hk_core.proofs.kinds.LoadWrite.{claimed_not_white}
 
@@ -226,7 +225,7 @@ module _ (x : Flight) (reg field from : ℕ) (is_store : x.call ≡ call.Store r
   unfolding f.has_claimed f.has_claimed_at
   store_claimed some = rw (is_store, at_6) (not_from_false _ (ne_eqb x.item 0 some))
 
--- what a Store inside its object knows of it
+-- what a Store knows of its object as it writes the cell
 pub store_knows : (g : Geometry) (w : Words) (flight : ℕ → Flight) (begun : ℕ → ℕ) (t : Spot) (names : Names) (contents : Contents) (range : ℕ → Option ℕ) (s reg field from : ℕ)
     → s < tasks g → (flight s).call ≡ call.Store reg field from → (flight s).place ≡ 6 → ShapesFit names → FactsOf g w flight begun t names contents range
     → Knows w (shades_of g w flight t.line names) names contents.register s reg (flight s)
@@ -305,8 +304,12 @@ store_writes g w flight begun t names contents range s reg field from below is_s
 
 -- THE ROW
 
+-- the entry of a Store
+abbrev pub stored : (seat reg field from : ℕ) → Entry
+stored seat reg field from = record { seat = seat; call = call.Store reg field from; reply = reply.Unit; number = 0 }
+
 module _ (g : Geometry) (x : Flight) (reg field from : ℕ) (is_store : x.call ≡ call.Store reg field from) (at_6 : x.place ≡ 6) where
-  -- the event of the place, and the flight after it
+  -- the event of the place, the flight after it, and the entry that it adds
   pub store_write_event : event_of g x ≡ Some (event.Write (space_at g (reference_cell x field)) x.item)
   unfolding event_of event_at store_event write_cell
   store_write_event = rw (is_store, at_6) refl
@@ -314,6 +317,10 @@ module _ (g : Geometry) (x : Flight) (reg field from : ℕ) (is_store : x.call �
   pub store_write_took : (old : ℕ) → took_of g x old ≡ moved_on x 7 x.at
   unfolding took_of took_at store_took
   store_write_took old = rw (is_store, at_6) refl
+
+  pub store_write_entry : (old : ℕ) → effect_of g x old ≡ Some (stored x.seat reg field from)
+  unfolding effect_of effect_at store_entry
+  store_write_entry old = rw (is_store, at_6) refl
 
 -- all facts hold of the row and of the flights after a Store has written its cell
 pub store_writes_row : (g : Geometry) (row : List ℕ) (flight : ℕ → Flight) (begun : ℕ → ℕ) (t : Spot) (names : Names) (contents : Contents) (range : ℕ → Option ℕ) (s reg field from : ℕ)
@@ -333,10 +340,6 @@ store_writes_row g row flight begun t names contents range s reg field from belo
     (store_writes g (words_of g row) flight begun t names contents range s reg field from below is_store at_6 fit numbered k h))
 
 -- THE HISTORY
-
--- the entry of a Store
-abbrev pub stored : (seat reg field from : ℕ) → Entry
-stored seat reg field from = record { seat = seat; call = call.Store reg field from; reply = reply.Unit; number = 0 }
 
 module _ (g : Geometry) (history : History) (seat reg field from birth : ℕ) (in_register : (contents_of g history).register seat reg ≡ Some birth)
     (within : field < (names_of g history).refs birth) where
@@ -363,12 +366,7 @@ module _ (g : Geometry) (history : History) (seat reg field from birth : ℕ) (i
   unfolding contents_of view_of
   contents-stored = λ i. record { register = (seen-stored i).register; link = (seen-stored i).link; value = (seen-stored i).value }
 
-  -- it is what the step adds
-  pub entry-stored : (x : Flight) (old : ℕ) → x.seat ≡ seat → x.call ≡ call.Store reg field from → x.place ≡ 6 → effect_of g x old ≡ Some (stored seat reg field from)
-  unfolding effect_of effect_at store_entry
-  entry-stored x old seated is_store at_6 = rw (is_store, at_6, seated) refl
-
-  -- and it is legal
+  -- its entry is legal
   pub legal-stored : Legal (opening_of g) history → Legal (opening_of g) (history ++ stored seat reg field from ∷ [])
   unfolding contents_of names_of
   legal-stored legal =

@@ -14,3 +14,6 @@ pub mod ClaimFlights
 pub mod ClaimSeats
 pub mod Reserve
 pub mod ClaimWords
+pub mod LoadRead
+pub mod LoadWrite
+pub mod StoreWrite

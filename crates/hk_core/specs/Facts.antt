@@ -255,9 +255,10 @@ MarksFew g line cycle reserved mark hand = l.is_sweeping_or_marking line ≡ tru
 
 -- CLAIMS IN HAND. The hand of each seat is below the number of tasks, and that of the collector is the last one.
 
--- A claim that has still to reserve is of this cycle, and its number is grey and has no range. Without it a number would
--- be given two ranges.
+-- A claim that has still to reserve is of an object, not of null, and of this cycle, and its number is grey and has no
+-- range. Without it a number would be given two ranges, or a word be reserved for null.
 pub record HoldsClaim (cycle : ℕ) (grey : ℕ → Bool) (range : ℕ → Option ℕ) (item item_cycle : ℕ) : Type 0 where
+  pub some : item ≢ 0
   pub of_cycle : item_cycle ≡ cycle
   pub is_grey : grey (layout.reference_number item) ≡ true
   pub unreserved : (x : ℕ) → range x ≢ Some (layout.reference_number item)
@@ -266,9 +267,10 @@ abbrev pub ClaimsUnreserved : Geometry → (cycle : ℕ) → (grey : ℕ → Boo
 ClaimsUnreserved g cycle grey range hand = (k item item_cycle : ℕ) → k ≤ tasks g → hand k ≡ to_reserve item item_cycle
     → HoldsClaim cycle grey range item item_cycle
 
--- A claim that has still to link is of this cycle, its number is grey, the number's range begins at the offset and fits,
--- and the link word there is 0. Without it the link word would be written into a live object.
+-- A claim that has still to link is of an object and of this cycle, its number is grey, the number's range begins at the
+-- offset and fits, and the link word there is 0. Without it the link word would be written into a live object.
 pub record HoldsRange (z : Spaces) (cycle : ℕ) (grey : ℕ → Bool) (size cell : ℕ → ℕ) (range : ℕ → Option ℕ) (item item_cycle offset : ℕ) : Type 0 where
+  pub some : item ≢ 0
   pub of_cycle : item_cycle ≡ cycle
   pub is_grey : grey (layout.reference_number item) ≡ true
   pub has_range : range offset ≡ Some (layout.reference_number item)

@@ -240,7 +240,7 @@ module _ (g : Geometry) (w : Words) (z : Spaces) (sh : Shades) (flight : ℕ →
   raise_settled done = absurd (both_ways _ done marking)
 
   -- facts on claims in hand
-  module _ (k item : ℕ) (within : k ≤ tasks g) (free : hand k ≡ no_claim) (is : layout.reference_number item ≡ n) where
+  module _ (k item : ℕ) (within : k ≤ tasks g) (free : hand k ≡ no_claim) (some : item ≢ 0) (is : layout.reference_number item ≡ n) where
     raise_few : fact.MarksFew g t.line w.cycle w.reserved (upd w.mark n w.cycle) (upd hand k (to_reserve item w.cycle))
     raise_few e =
         let below : n < numbers g = (m.kept n o.is_kept).within in
@@ -257,10 +257,10 @@ module _ (g : Geometry) (w : Words) (z : Spaces) (sh : Shades) (flight : ℕ →
       | inl (a, u) ↦
           let same = reserving item w.cycle other c (sym u ∙ e) in
           let number : layout.reference_number other ≡ n = ap (λ i. layout.reference_number i) (sym same.0) ∙ is in
-          record { of_cycle = sym same.1; is_grey = ap (upd sh.grey n true) number ∙ upd_same sh.grey n true; unreserved = λ x r. no_range_yet x (r ∙ ap Some number) }
+          record { some = λ null. some (same.0 ∙ null); of_cycle = sym same.1; is_grey = ap (upd sh.grey n true) number ∙ upd_same sh.grey n true; unreserved = λ x r. no_range_yet x (r ∙ ap Some number) }
       | inr (d, u) ↦
           let old : HoldsClaim w.cycle sh.grey range other c = h.claims_unreserved j other c below (sym u ∙ e) in
-          record { of_cycle = old.of_cycle; is_grey = grey_stays sh.grey n (layout.reference_number other) old.is_grey; unreserved = old.unreserved }
+          record { some = old.some; of_cycle = old.of_cycle; is_grey = grey_stays sh.grey n (layout.reference_number other) old.is_grey; unreserved = old.unreserved }
     ]
 
     raise_unlinked : fact.ClaimsUnlinked g z w.cycle (upd sh.grey n true) sh.size w.cell range (upd hand k (to_reserve item w.cycle))
@@ -269,6 +269,7 @@ module _ (g : Geometry) (w : Words) (z : Spaces) (sh : Shades) (flight : ℕ →
       | inr (d, u) ↦
           let old : HoldsRange z w.cycle sh.grey sh.size w.cell range other c offset = h.claims_unlinked j other c offset below (sym u ∙ e) in
           record {
+            some = old.some;
             of_cycle = old.of_cycle;
             is_grey = grey_stays sh.grey n (layout.reference_number other) old.is_grey;
             has_range = old.has_range;
@@ -426,7 +427,7 @@ claim_of_cycle cycle marking mark c recent fresh low =
 
 module _ (g : Geometry) (w : Words) (z : Spaces) (sh : Shades) (flight : ℕ → Flight) (begun : ℕ → ℕ) (hand : ℕ → Hand) (t : Spot)
     (names : Names) (contents : Contents) (range : ℕ → Option ℕ) (h : Facts g w z sh flight begun hand t names contents range)
-    (m : ShadesMean g w z sh flight t.line names) (n c : ℕ) (o : CanClaim g w sh flight t.line n c) (k item : ℕ) (within : k ≤ tasks g) (free : hand k ≡ no_claim) (is : layout.reference_number item ≡ n) where
+    (m : ShadesMean g w z sh flight t.line names) (n c : ℕ) (o : CanClaim g w sh flight t.line n c) (k item : ℕ) (within : k ≤ tasks g) (free : hand k ≡ no_claim) (some : item ≢ 0) (is : layout.reference_number item ≡ n) where
   -- all facts hold after a claim, for whoever holds no claim in hand
   pub claim_facts : Facts g (claim_words w n c) z (claim_shades sh n (nat_lt (w.mark n) c)) flight begun (upd hand k (claim_hand item c (nat_lt (w.mark n) c))) t names contents range
   claim_facts = by_mark (nat_lt (w.mark n) c) refl
@@ -438,7 +439,7 @@ module _ (g : Geometry) (w : Words) (z : Spaces) (sh : Shades) (flight : ℕ →
           let same : c ≡ w.cycle = claim_of_cycle w.cycle (l.is_marking t.line) (w.mark n) c o.recent (m.kept n o.is_kept).is_fresh low in
           let top : max (w.mark n) c ≡ w.cycle = omega arith in
           let white : IsWhite g w sh flight t.line n = record { is_kept = o.is_kept; low = omega arith; unsettled = o.unsettled (omega arith) } in
-          rw (top, same) (raise_facts g w z sh flight begun hand t names contents range h m n white k item within free is)
+          rw (top, same) (raise_facts g w z sh flight begun hand t names contents range h m n white k item within free some is)
       by_mark false e =
           let high : c ≤ w.mark n = not_low (w.mark n) c e in
           let top : max (w.mark n) c ≡ w.mark n = omega arith in

@@ -104,7 +104,7 @@ claims_facts g w flight begun t names contents range s q below e some kept h =
     } in
     let free : hands_of g flight t s ≡ no_claim = hand_of_seat g t flight s below ∙ hand_before_claim g x q e in
     let claimed : Facts g words z (claim_shades sh n first) flight begun (upd (hands_of g flight t) s (claim_hand x.item c first)) t names contents range =
-    claim_facts g w z sh flight begun (hands_of g flight t) t names contents range h m n c can s x.item (omega arith) free refl in
+    claim_facts g w z sh flight begun (hands_of g flight t) t names contents range h m n c can s x.item (omega arith) free some refl in
     let high : c ≤ words.mark n = rw (upd_same w.mark n (max (w.mark n) c)) (omega arith) in
     let on : Facts g words z (claim_shades sh n first) (upd flight s y) begun (upd (hands_of g flight t) s (claim_hand x.item c first)) t names contents range =
     go_on_in_claim g words z (claim_shades sh n first) flight begun (upd (hands_of g flight t) s (claim_hand x.item c first)) t names contents range s q first x.offset below e.goes_on (λ _. high) claimed in

@@ -299,6 +299,7 @@ module _ (g : Geometry) (w : Words) (z : Spaces) (sh : Shades) (flight : ℕ →
         let held : hand j ≡ to_reserve other d = sym u ∙ e in
         let old : HoldsClaim w.cycle sh.grey range other d = h.claims_unreserved j other d below held in
         record {
+          some = old.some;
           of_cycle = old.of_cycle;
           is_grey = old.is_grey;
           unreserved = λ x r. elim (back x (layout.reference_number other) r) [
@@ -316,6 +317,7 @@ module _ (g : Geometry) (w : Words) (z : Spaces) (sh : Shades) (flight : ℕ →
         let some = some_words n in
         let number : layout.reference_number other ≡ n = ap (λ i. layout.reference_number i) (sym fit.0) ∙ o.number in
         record {
+          some = λ null. claim_held.some (fit.0 ∙ null);
           of_cycle = sym fit.1 ∙ claim_held.of_cycle;
           is_grey = ap sh.grey number ∙ held_grey;
           has_range = ap (upd range w.reserved (Some n)) (sym fit.2) ∙ upd_same range w.reserved (Some n) ∙ ap Some (sym number);
@@ -325,6 +327,7 @@ module _ (g : Geometry) (w : Words) (z : Spaces) (sh : Shades) (flight : ℕ →
     | inr (differ, u) ↦
         let old : HoldsRange z w.cycle sh.grey sh.size w.cell range other d there = h.claims_unlinked j other d there below (sym u ∙ e) in
         record {
+          some = old.some;
           of_cycle = old.of_cycle;
           is_grey = old.is_grey;
           has_range = grown there (layout.reference_number other) old.has_range;

@@ -107,7 +107,7 @@ item_at_range (line.Clear j) e = absurd (cc)
 item_at_range line.Reset e = absurd (cc)
 
 -- an attempt on an object has an item, and has gone past cells of that
-attempt_moves : (g : Geometry) (t : Spot) (ln : Line) (passed : ℕ) → l.LineFits g t ln → l.object_attempt t ln ≡ Some passed
+pub attempt_moves : (g : Geometry) (t : Spot) (ln : Line) (passed : ℕ) → l.LineFits g t ln → l.object_attempt t ln ≡ Some passed
     → (l.has_item ln ≡ true) × (passed + 1 ≤ reference_size t.item)
 unfolding l.has_item l.object_attempt
 attempt_moves g t line.Rest passed fits e = absurd (cc)
@@ -126,7 +126,7 @@ attempt_moves g t (line.Clear j) passed fits e = absurd (cc)
 attempt_moves g t line.Reset passed fits e = absurd (cc)
 
 -- a cell that was loaded is one of an attempt, and of the item
-loaded_moves : (g : Geometry) (t : Spot) (ln : Line) (i : ℕ) → l.LineFits g t ln → l.cell_loaded ln ≡ Some i
+pub loaded_moves : (g : Geometry) (t : Spot) (ln : Line) (i : ℕ) → l.LineFits g t ln → l.cell_loaded ln ≡ Some i
     → (l.object_attempt t ln ≡ Some i) × (i + 1 < reference_size t.item)
 unfolding l.cell_loaded l.object_attempt l.loaded_at
 loaded_moves g t line.Rest i fits e = absurd (cc)
@@ -151,7 +151,7 @@ loaded_moves g t (line.Clear j) i fits e = absurd (cc)
 loaded_moves g t line.Reset i fits e = absurd (cc)
 
 -- where words were cleared, the collector looks for no objects any more
-cleared_marks : (g : Geometry) (t : Spot) (ln : Line) (i : ℕ) → l.LineFits g t ln → i < l.cleared g ln → (l.is_marking ln ≡ false) × (i < space_words g)
+pub cleared_marks : (g : Geometry) (t : Spot) (ln : Line) (i : ℕ) → l.LineFits g t ln → i < l.cleared g ln → (l.is_marking ln ≡ false) × (i < space_words g)
 unfolding l.cleared l.is_marking
 cleared_marks g t line.Rest i fits below = (refl, below)
 cleared_marks g t (line.Frame s) i fits below = absurd (omega arith)
@@ -209,18 +209,18 @@ few_numbers : (g : Geometry) (n : ℕ) → n < numbers g → n + 1 < 2 ^ 20
 few_numbers g n h = omega arith
 
 -- the reference of a kept number has its parts
-reference_parts : (g : Geometry) (names : Names) (n item : ℕ) → n < numbers g → ShapesFit names → item ≡ reference_at names n
+pub reference_parts : (g : Geometry) (names : Names) (n item : ℕ) → n < numbers g → ShapesFit names → item ≡ reference_at names n
     → (layout.reference_number item ≡ n) × (layout.reference_refs item ≡ refs_at names n) × (layout.reference_nums item ≡ nums_at names n)
 unfolding reference_at
 reference_parts g names n item within fit e =
     packed n (refs_at names n) (nums_at names n) item (few_numbers g n within) (fits_byte names fit n).0 (fits_byte names fit n).1 e
 
-size_of_reference : (names : Names) (n item : ℕ) → layout.reference_refs item ≡ refs_at names n → layout.reference_nums item ≡ nums_at names n → reference_size item ≡ size_at names n
+pub size_of_reference : (names : Names) (n item : ℕ) → layout.reference_refs item ≡ refs_at names n → layout.reference_nums item ≡ nums_at names n → reference_size item ≡ size_at names n
 unfolding size_at
 size_of_reference names n item a b = rw (a, b) refl
 
 -- a kept number was claimed in this cycle, where the collector looks for no objects any more
-fresh_when_done : (cycle : ℕ) (marking : Bool) (mark : ℕ) → marking ≡ false → is_fresh cycle marking mark ≡ true → mark ≡ cycle
+pub fresh_when_done : (cycle : ℕ) (marking : Bool) (mark : ℕ) → marking ≡ false → is_fresh cycle marking mark ≡ true → mark ≡ cycle
 fresh_when_done cycle true mark done fresh = absurd (cc)
 fresh_when_done cycle false mark done fresh = elim (or_cases (nat_eq mark cycle) false fresh) [ inl e ↦ eqb-true _ _ e | inr e ↦ absurd (cc) ]
 
@@ -429,6 +429,7 @@ module _ (g : Geometry) (w : Words) (z : Spaces) (sh : Shades) (flight : ℕ →
         claims_unlinked = λ k claimed cycle offset within e.
             let r : HoldsRange z w.cycle sh.grey sh.size w.cell range claimed cycle offset = h.claims_unlinked k claimed cycle offset within e in
             record {
+              some = r.some;
               of_cycle = r.of_cycle;
               is_grey = r.is_grey;
               has_range = r.has_range;
@@ -548,7 +549,7 @@ module _ (g : Geometry) (w : Words) (z : Spaces) (sh : Shades) (flight : ℕ →
       assumption
 
 -- what many facts read of the words is the same after the write
-shades_cell : (g : Geometry) (w : Words) (p v : ℕ) (flight : ℕ → Flight) (ln : Line) (names : Names) → shades_of g (cell_words w p v) flight ln names ≡ shades_of g w flight ln names
+pub shades_cell : (g : Geometry) (w : Words) (p v : ℕ) (flight : ℕ → Flight) (ln : Line) (names : Names) → shades_of g (cell_words w p v) flight ln names ≡ shades_of g w flight ln names
 unfolding shades_of
 shades_cell g w p v flight ln names = refl
 

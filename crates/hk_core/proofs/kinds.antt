@@ -9,3 +9,4 @@ pub mod WriteRegister
 pub mod Effects
 pub mod Begin
 pub mod WriteCell
+pub mod NewFlight

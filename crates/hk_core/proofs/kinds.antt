@@ -10,3 +10,4 @@ pub mod Effects
 pub mod Begin
 pub mod WriteCell
 pub mod NewFlight
+pub mod NewLoads

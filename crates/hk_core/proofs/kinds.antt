@@ -11,3 +11,4 @@ pub mod Begin
 pub mod WriteCell
 pub mod NewFlight
 pub mod NewLoads
+pub mod NewEntry

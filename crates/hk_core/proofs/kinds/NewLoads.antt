@@ -195,7 +195,7 @@ new_loads g w flight begun t names contents range s dest shape word below is_new
 abbrev pub new_on : Flight → (q number : ℕ) → Flight
 new_on x q number = record x { place = q; number = number }
 
-between : (a b p : ℕ) → a ≤ p → p ≤ b → (nat_le a p && nat_le p b) ≡ true
+pub between : (a b p : ℕ) → a ≤ p → p ≤ b → (nat_le a p && nat_le p b) ≡ true
 between a b p low high = and_from _ _ (le-leb a p low) (le-leb p b high)
 
 -- a New that found too few words is inside its frame, and has raised W0, where it is said to have

@@ -12,3 +12,4 @@ pub mod WriteCell
 pub mod NewFlight
 pub mod NewLoads
 pub mod NewEntry
+pub mod NewRaise

@@ -13,3 +13,4 @@ pub mod NewFlight
 pub mod NewLoads
 pub mod NewEntry
 pub mod NewRaise
+pub mod NewWords

@@ -14,3 +14,4 @@ pub mod NewLoads
 pub mod NewEntry
 pub mod NewRaise
 pub mod NewWords
+pub mod NewHeader

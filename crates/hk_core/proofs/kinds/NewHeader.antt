@@ -1,7 +1,7 @@
 -- A New that found room writes the header of its number: the number has the place of the new object then, and is still
 -- held, so that it isn't kept.
 use Rattle.std.proofs.Common.{◌≡◌, ◌≢◌, ◌⊎◌, ℕ, ◌+◌, ◌-◌, ◌*◌, ◌%◌, ◌^◌, ◌<◌, ◌≤◌, Bool, true, false, inl, inr, refl, sym, ◌∙◌, ap, arith, subst, Option, Some, None}
-use Rattle.std.proofs.lemmas.Bool.{both_ways, cases_Bool, cases_eq, cases_lt, and_parts, and_from, and_left, and_right, leb-true, le-leb, lt-leb, le-ltb, lt-ltb, eq-eqb, ne_eqb}
+use Rattle.std.proofs.lemmas.Bool.{both_ways, cases_Bool, cases_eq, cases_lt, and_parts, and_from, and_left, and_right, leb-true, le-leb, lt-leb, le-ltb, lt-ltb, eq-eqb, ne_eqb, not_from_true}
 use Rattle.std.specs.Prelude.{nat_eq, nat_le, nat_lt, is_some, not, ◌&&◌, ◌||◌, if◌then◌else◌}
 use Rattle.hk_words.specs.declared.geometry.Geometry.{Geometry}
 use Rattle.hk_words.specs.declared.shape.Shape.{Shape}
@@ -32,7 +32,7 @@ use Rattle.hk_core.proofs.Update.{upd_own}
 use Rattle.hk_core.proofs.Counts.{count_kept, count_some}
 use Rattle.hk_core.proofs.kinds.Seats.{FlightFacts, FlightsFacts, KeptMeans, facts_of_flight, kept_means, pass_upd, hands_upd}
 use Rattle.hk_core.proofs.kinds.Read.{refuted}
-use Rattle.hk_core.proofs.kinds.NewFlight.{MakingFacts, MakesWell, MakeApartIf, Settles, CountFacts, counts_set, flights_set, settled_set, making_set, well_of, apart_of, new_hand, new_has_item, new_has_number, new_has_header}
+use Rattle.hk_core.proofs.kinds.NewFlight.{MakingFacts, MakesWell, MakeApartIf, Settles, CountFacts, counts_set, flights_set, settled_set, making_set, well_of, apart_of, new_hand, new_has_item, new_has_number, new_has_header, new_has_size}
 use Rattle.hk_core.proofs.kinds.NewLoads.{new_on}
 use Rattle.hk_core.proofs.kinds.NewEntry.{HasMade, made_is_making, made_raised, made_room, on_apart, on_well, on_counts, on_raising, on_facts, on_settles, held_elsewhere}
 use Rattle.hk_core.proofs.kinds.NewRaise.{SpacesMean, spaces_mean}
@@ -413,3 +413,131 @@ module _ (g : Geometry) (w : Words) (z : Spaces) (sh : Shades) (flight : ℕ →
       kept_child : {link : Option ℕ} → IsNullOrKept sh.kept names link → (child : ℕ) → link ≡ Some child → sh.white (names.number child) ≡ false → white' (names.number child) ≡ false
       kept_child (inl none) child e dark = absurd (cc)
       kept_child (inr o) child e dark = let same : o.0 ≡ child = cc in kept_white _ (ap (λ k. sh.kept (names.number k)) (sym same) ∙ o.2.is_kept) ∙ dark
+
+-- THE SHADES
+
+-- a held number isn't kept
+pub held_not_kept : (g : Geometry) (cycle : ℕ) (marking : Bool) (held : ℕ → Bool) (bearer : ℕ → Option ℕ) (place mark : ℕ → ℕ) (n : ℕ) → held n ≡ true
+    → kept_by g cycle marking held bearer place mark n ≡ false
+held_not_kept g cycle marking held bearer place mark n e = and_left _ _ (and_right _ _ (and_right _ _ (not_from_true (held n) e)))
+
+-- the shades after a number that is held has got a place in the current space, or has become white
+module _ (g : Geometry) (w : Words) (flight : ℕ → Flight) (s : ℕ) (y : Flight) (ln : Line) (names : Names) (n p : ℕ) where
+  abbrev headed_white : ℕ → Bool
+  headed_white = white_by w.cycle (upd w.place n p) w.mark
+
+  abbrev headed_black : ℕ → Bool
+  headed_black = black_by (spaces_of g w.cycle) w.cycle (upd w.place n p) w.mark
+
+  white_elsewhere : (m : ℕ) → m ≢ n → headed_white m ≡ (shades_of g w flight ln names).white m
+  unfolding shades_of
+  white_elsewhere m differ = rw (upd_other w.place n p m differ) refl
+
+  black_elsewhere : (m : ℕ) → m ≢ n → headed_black m ≡ (shades_of g w flight ln names).black m
+  unfolding shades_of
+  black_elsewhere m differ = rw (upd_other w.place n p m differ) refl
+
+  white_there : w.mark n ≡ w.cycle → headed_white n ≡ false
+  white_there e = and_right _ _ (le-ltb (w.mark n) w.cycle (omega arith))
+
+  grey_same : grey_by (spaces_of g w.cycle) w.cycle (upd w.place n p) w.mark n ≡ false → grey_by (spaces_of g w.cycle) w.cycle w.place w.mark n ≡ false
+      → grey_by (spaces_of g w.cycle) w.cycle (upd w.place n p) w.mark ≡ grey_by (spaces_of g w.cycle) w.cycle w.place w.mark
+  grey_same now was = λ i m. at m i
+    where
+      at : (m : ℕ) → grey_by (spaces_of g w.cycle) w.cycle (upd w.place n p) w.mark m ≡ grey_by (spaces_of g w.cycle) w.cycle w.place w.mark m
+      at m = elim (cases_eq m n) [
+        | inl e ↦ rw e (now ∙ sym was)
+        | inr d ↦ rw (upd_other w.place n p m d) refl
+      ]
+
+  kept_unchanged : ((m : ℕ) → held_by g (upd flight s y) m ≡ held_by g flight m) → held_by g flight n ≡ true
+      → kept_by g w.cycle (l.is_marking ln) (held_by g (upd flight s y)) names.bearer (upd w.place n p) w.mark
+      ≡ kept_by g w.cycle (l.is_marking ln) (held_by g flight) names.bearer w.place w.mark
+  kept_unchanged same held = λ i m. at m i
+    where
+      at : (m : ℕ) → kept_by g w.cycle (l.is_marking ln) (held_by g (upd flight s y)) names.bearer (upd w.place n p) w.mark m
+          ≡ kept_by g w.cycle (l.is_marking ln) (held_by g flight) names.bearer w.place w.mark m
+      at m = elim (cases_eq m n) [
+        | inl e ↦
+            rw e (held_not_kept g w.cycle (l.is_marking ln) (held_by g (upd flight s y)) names.bearer (upd w.place n p) w.mark n (same n ∙ held)
+            ∙ sym (held_not_kept g w.cycle (l.is_marking ln) (held_by g flight) names.bearer w.place w.mark n held))
+        | inr d ↦ rw (same m, upd_other w.place n p m d) refl
+      ]
+
+  shades_header : grey_by (spaces_of g w.cycle) w.cycle (upd w.place n p) w.mark n ≡ false → grey_by (spaces_of g w.cycle) w.cycle w.place w.mark n ≡ false
+      → ((m : ℕ) → held_by g (upd flight s y) m ≡ held_by g flight m) → held_by g flight n ≡ true
+      → shades_of g (record w { place = upd w.place n p }) (upd flight s y) ln names ≡ record (shades_of g w flight ln names) { white = headed_white; black = headed_black }
+  unfolding shades_of
+  shades_header now was same held = λ i. record {
+    white = headed_white;
+    grey = grey_same now was i;
+    black = headed_black;
+    black_frame = (shades_of g w flight ln names).black_frame;
+    kept = kept_unchanged same held i;
+    size = (shades_of g w flight ln names).size;
+  }
+
+-- a number without a place isn't grey
+no_place_not_grey : (z : Spaces) (cycle : ℕ) (place mark : ℕ → ℕ) (n : ℕ) → 0 < z.old → place n ≡ 0 → grey_by z cycle place mark n ≡ false
+no_place_not_grey z cycle place mark n some e = and_right _ _ (and_left _ _ (lt-leb z.old (place n) (omega arith)))
+
+-- nor is that of a New: its object is in the current space, or it was marked for the cycle before
+new_not_grey : (g : Geometry) (cycle : ℕ) (z : Spaces) (place mark : ℕ → ℕ) (x : Flight) (n : ℕ) → SpacesMean g cycle z → IsRecent cycle (f.cycle_of x) → mark n ≡ f.cycle_of x
+    → f.words_before x < g.alloc → place n ≡ new_place g x → grey_by z cycle place mark n ≡ false
+new_not_grey g cycle z place mark x n m recent marked few stands =
+    let alloc = m.alloc in
+    elim (m.stands x recent) [
+      | inl o ↦
+          let at : new_place g x ≡ z.current + (z.live + f.words_before x) = o.stands in
+          and_right (nat_eq (mark n) cycle) (is_within z z.old (place n)) (elim m.apart [
+            | inl c ↦ and_right (nat_le z.old (place n)) (nat_lt (place n) (z.old + (z.live + z.alloc))) (le-ltb (place n) (z.old + (z.live + z.alloc)) (omega arith))
+            | inr c ↦ and_left (nat_le z.old (place n)) (nat_lt (place n) (z.old + (z.live + z.alloc))) (lt-leb z.old (place n) (omega arith))
+          ])
+      | inr o ↦ let past : f.cycle_of x + 1 ≡ cycle = o.of_cycle_before in and_left (nat_eq (mark n) cycle) (is_within z z.old (place n)) (ne_eqb (mark n) cycle (λ e. omega arith))
+    ]
+
+same_holder : (x : Flight) (q m : ℕ) → f.has_number (new_on x q x.number) ≡ f.has_number x → f.holds_number m (new_on x q x.number) ≡ f.holds_number m x
+unfolding f.holds_number
+same_holder x q m same = rw same refl
+
+-- all facts hold after a New that found room has written the header of its number
+pub new_writes_header : (g : Geometry) (w : Words) (flight : ℕ → Flight) (begun : ℕ → ℕ) (t : Spot) (names : Names) (contents : Contents) (range : ℕ → Option ℕ) (s dest : ℕ) (shape : Shape)
+    → s < tasks g → (flight s).call ≡ call.New dest shape → (flight s).place ≡ 5 → (flight s).full ≡ false → FactsOf g w flight begun t names contents range
+    → FactsOf g (headed_words w (flight s).number (new_place g (flight s))) (upd flight s (new_on (flight s) 6 (flight s).number)) begun t names contents range
+new_writes_header g w flight begun t names contents range s dest shape below is_new at_5 not_full h =
+    let x = flight s in
+    let n = x.number in
+    let p = new_place g x in
+    let y = new_on x 6 n in
+    let z = spaces_of g w.cycle in
+    let sh = shades_of g w flight t.line names in
+    let hand = hands_of g flight t in
+    let means = kept_means g w flight t.line names in
+    let mean = spaces_mean g w.cycle in
+    let white' = headed_white g w flight s y t.line names n p in
+    let black' = headed_black g w flight s y t.line names n p in
+    let step : IsNewInStep x.place x.full x.raised = rw is_new at (h.news_in_step s below) in
+    let was : HasMade x dest shape = record { is_new = is_new; not_full = not_full; raised = step.raised_by_then (omega arith) not_full; from = omega arith; to = omega arith } in
+    let making : f.is_making x ≡ true = made_is_making x dest shape was (omega arith) in
+    let numbered : f.has_number x ≡ true = new_has_number x dest shape is_new ∙ rw (at_5, not_full) refl in
+    let numbered_still : f.has_number y ≡ true = new_has_number y dest shape is_new ∙ rw not_full refl in
+    let number : n ≡ fact.own_entry w.entry x = h.number_is_own s below numbered in
+    let own : IsOwn g w.accessors w.place w.version w.mark x n = subst (λ k. IsOwn g w.accessors w.place w.version w.mark x k) (sym number) (h.own_entries s below making) in
+    let bare : f.has_header x ≡ false = new_has_header x dest shape is_new ∙ rw at_5 refl in
+    let placeless : w.place n ≡ 0 = own.placed ∙ rw bare refl in
+    let room : FoundRoom g w.cycle w.used x = h.news_found_room s below (made_room x dest shape was) in
+    let few : f.words_before x < g.alloc = let a : f.words_before x + f.new_size x ≤ g.alloc = room.words in let b = new_has_size x dest shape is_new in omega arith in
+    let recent = h.news_recent s below (made_raised x dest shape was) in
+    let marked : w.mark n ≡ f.cycle_of x = own.is_marked in
+    let held : (m : ℕ) → held_by g (upd flight s y) m ≡ held_by g flight m = λ m. held_elsewhere g flight s y m (same_holder x 6 m (numbered_still ∙ sym numbered)) in
+    let hands : hands_of g (upd flight s y) t ≡ hand = hands_upd g t flight s y (new_hand y dest shape is_new g ∙ sym (new_hand x dest shape is_new g)) in
+    let now : grey_by z w.cycle (upd w.place n p) w.mark n ≡ false = new_not_grey g w.cycle z (upd w.place n p) w.mark x n mean recent marked few (upd_same w.place n p) in
+    let before : grey_by z w.cycle w.place w.mark n ≡ false = no_place_not_grey z w.cycle w.place w.mark n mean.some_old placeless in
+    let shades : shades_of g (record w { place = upd w.place n p }) (upd flight s y) t.line names ≡ record sh { white = white'; black = black' } =
+    shades_header g w flight s y t.line names n p now before held (holder_holds g flight s below numbered) in
+    let facts : Facts g (record w { place = upd w.place n p }) z (record sh { white = white'; black = black' }) (upd flight s y) begun hand t names contents range =
+    header_facts g w z sh flight begun hand t names contents range s dest shape white' black' below is_new at_5 not_full means
+    (white_elsewhere g w flight s y t.line names n p) (black_elsewhere g w flight s y t.line names n p)
+    (λ e. white_there g w flight s y t.line names n p (marked ∙ e)) h in
+    let all : FactsOf g (record w { place = upd w.place n p }) (upd flight s y) begun t names contents range = rw (hands, shades) facts in
+    rw (upd_own w.accessors n 0 (sym own.no_accessors), upd_own w.version n 0 (sym own.no_version)) all

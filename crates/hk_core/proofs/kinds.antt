@@ -15,3 +15,4 @@ pub mod NewEntry
 pub mod NewRaise
 pub mod NewWords
 pub mod NewHeader
+pub mod NewBorn

@@ -16,3 +16,4 @@ pub mod NewRaise
 pub mod NewWords
 pub mod NewHeader
 pub mod NewBorn
+pub mod NewIsBorn

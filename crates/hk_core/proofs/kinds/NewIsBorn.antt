@@ -1,7 +1,7 @@
 -- A New that found room writes its register: the object is born. The plain heap has one more birth then, and its number,
 -- which is held no more, is kept.
 use Rattle.std.proofs.Common.{◌≡◌, ◌≢◌, ◌⊎◌, ℕ, zero, suc, ◌+◌, ◌-◌, ◌*◌, ◌%◌, ◌^◌, ◌<◌, ◌≤◌, Bool, true, false, inl, inr, refl, sym, ◌∙◌, ap, arith, subst, Option, Some, None, [], ◌∷◌, ◌++◌, length}
-use Rattle.std.proofs.lemmas.Bool.{both_ways, cases_Bool, cases_eq, cases_lt, and_parts, and_from, and_left, and_right, leb-true, le-leb, lt-leb, le-ltb, lt-ltb, eq-eqb, ne_eqb, not_from_false}
+use Rattle.std.proofs.lemmas.Bool.{both_ways, cases_Bool, cases_eq, cases_lt, and_parts, and_from, and_left, and_right, leb-true, le-leb, lt-leb, le-ltb, lt-ltb, eq-eqb, ne_eqb, not_from_false, or_left, or_right}
 use Rattle.std.specs.Prelude.{nat_eq, nat_le, nat_lt, is_some, not, ◌&&◌, ◌||◌, if◌then◌else◌}
 use Rattle.hk_words.specs.declared.geometry.Geometry.{Geometry}
 use Rattle.hk_words.specs.declared.shape.Shape.{Shape}
@@ -33,7 +33,7 @@ use Rattle.hk_core.proofs.kinds.Seats.{FlightFacts, FlightsFacts, KeptMeans, fac
 use Rattle.hk_core.proofs.kinds.Frame.{work_in_attempt}
 use Rattle.hk_core.proofs.kinds.Read.{refuted}
 use Rattle.hk_core.proofs.kinds.WriteRegister.{writing_words, writing_contents, HasWritten}
-use Rattle.hk_core.proofs.kinds.NewFlight.{MakingFacts, MakesWell, MakeApartIf, GoesQuietly, quiet_facts, well_of, apart_of, new_hand, new_has_item, new_has_number, new_has_header, new_has_size, new_is_making, new_holds_back, new_stays, new_has_written}
+use Rattle.hk_core.proofs.kinds.NewFlight.{MakingFacts, MakesWell, MakeApartIf, GoesQuietly, quiet_facts, well_of, apart_of, new_hand, new_has_item, new_has_number, new_has_header, new_has_size, new_is_making, new_holds_back, new_stays, new_has_written, new_cycle_in_frame}
 use Rattle.hk_core.proofs.kinds.NewLoads.{new_on}
 use Rattle.hk_core.proofs.kinds.NewEntry.{HasMade, made_is_making, made_raised, made_room, made_in_frame, on_counts, on_raising, on_facts, on_settles, held_elsewhere, holds_not}
 use Rattle.hk_core.proofs.kinds.NewRaise.{SpacesMean, StandsNow, StandsBefore, spaces_mean}
@@ -154,3 +154,243 @@ module _ (g : Geometry) (w : Words) (flight : ℕ → Flight) (s : ℕ) (y : Fli
 
   held_of_others : (m : ℕ) → m ≢ (flight s).number → held_by g (upd flight s y) m ≡ held_by g flight m
   held_of_others m differ = held_elsewhere g flight s y m (holds_not y m (λ e. refuted _ over e) ∙ sym (holds_not (flight s) m (λ e same. differ (sym same))))
+
+-- THE NEW BIRTH
+
+kept_from : (g : Geometry) (cycle : ℕ) (marking : Bool) (held : ℕ → Bool) (bearer : ℕ → Option ℕ) (place mark : ℕ → ℕ) (n : ℕ) → n < numbers g → is_some (bearer n) ≡ true
+    → held n ≡ false → place n ≢ 0 → is_fresh cycle marking (mark n) ≡ true → kept_by g cycle marking held bearer place mark n ≡ true
+kept_from g cycle marking held bearer place mark n within borne free placed fresh =
+    and_from _ _ (and_from _ _ (lt-ltb n (numbers g) within) (and_from _ _ borne (not_from_false (held n) free)))
+    (and_from _ _ (not_from_false (nat_eq (place n) 0) (ne_eqb (place n) 0 placed)) fresh)
+
+-- a number of the cycle is fresh, and one of the cycle before too as long as the collector looks for objects
+fresh_now : (cycle : ℕ) (marking : Bool) (mark : ℕ) → mark ≡ cycle → is_fresh cycle marking mark ≡ true
+fresh_now cycle marking mark e = or_left (nat_eq mark cycle) (marking && nat_eq (mark + 1) cycle) (eq-eqb mark cycle e)
+
+fresh_before : (cycle : ℕ) (marking : Bool) (mark : ℕ) → marking ≡ true → mark + 1 ≡ cycle → is_fresh cycle marking mark ≡ true
+fresh_before cycle marking mark looks e = or_right (nat_eq mark cycle) (marking && nat_eq (mark + 1) cycle) (and_from _ _ looks (eq-eqb (mark + 1) cycle e))
+
+module _ (g : Geometry) (w : Words) (z : Spaces) (sh : Shades) (flight : ℕ → Flight) (begun : ℕ → ℕ) (hand : ℕ → Hand) (t : Spot)
+    (names : Names) (contents : Contents) (range : ℕ → Option ℕ) (s dest : ℕ) (shape : Shape) (b : ℕ)
+    (below : s < tasks g) (is_new : (flight s).call ≡ call.New dest shape) (at_6 : (flight s).place ≡ 6) (not_full : (flight s).full ≡ false)
+    (next : IsNextBirth names contents b) (mean : SpacesMean g w.cycle z) (not_kept : sh.kept (flight s).number ≡ false)
+    (white_there : w.mark (flight s).number ≡ w.cycle → sh.white (flight s).number ≡ false)
+    (h : Facts g w z sh flight begun hand t names contents range) where
+  abbrev n : ℕ
+  n = (flight s).number
+
+  abbrev y : Flight
+  y = new_on (flight s) 7 n
+
+  abbrev flight' : ℕ → Flight
+  flight' = upd flight s y
+
+  abbrev v : ℕ
+  v = new_reference (flight s) shape
+
+  abbrev names' : Names
+  names' = born_names names n b shape
+
+  abbrev sh' : Shades
+  sh' = born_shades sh n shape
+
+  pub has_made : HasMade (flight s) dest shape
+  has_made =
+      let step : IsNewInStep (flight s).place (flight s).full (flight s).raised = rw is_new at (h.news_in_step s below) in
+      record { is_new = is_new; not_full = not_full; raised = step.raised_by_then (omega arith) not_full; from = omega arith; to = omega arith }
+
+  its_making : f.is_making (flight s) ≡ true
+  its_making = made_is_making (flight s) dest shape has_made (omega arith)
+
+  pub its_numbered : f.has_number (flight s) ≡ true
+  its_numbered = new_has_number (flight s) dest shape is_new ∙ rw (at_6, not_full) refl
+
+  its_number : n ≡ fact.own_entry w.entry (flight s)
+  its_number = h.number_is_own s below its_numbered
+
+  pub its_own : IsOwn g w.accessors w.place w.version w.mark (flight s) n
+  its_own = subst (λ k. IsOwn g w.accessors w.place w.version w.mark (flight s) k) (sym its_number) (h.own_entries s below its_making)
+
+  its_header : f.has_header (flight s) ≡ true
+  its_header = new_has_header (flight s) dest shape is_new ∙ rw (at_6, not_full) refl
+
+  its_place : w.place n ≡ new_place g (flight s)
+  its_place = its_own.placed ∙ rw its_header refl
+
+  its_size : f.new_size (flight s) ≡ size shape
+  its_size = new_has_size (flight s) dest shape is_new
+
+  its_room : FoundRoom g w.cycle w.used (flight s)
+  its_room = h.news_found_room s below (made_room (flight s) dest shape has_made)
+
+  its_cycle : IsRecent w.cycle (f.cycle_of (flight s))
+  its_cycle = h.news_recent s below (made_raised (flight s) dest shape has_made)
+
+  pub its_place_some : w.place n ≢ 0
+  its_place_some e =
+      let place = its_place in
+      let current = mean.some_current in
+      let old = mean.some_old in
+      elim (mean.stands (flight s) its_cycle) [
+        | inl o ↦ let at : new_place g (flight s) ≡ z.current + (z.live + f.words_before (flight s)) = o.stands in omega arith
+        | inr o ↦ let at : new_place g (flight s) ≡ z.old + (z.live + f.words_before (flight s)) = o.stands in omega arith
+      ]
+
+  -- it may still be reached
+  pub its_fresh : is_fresh w.cycle (l.is_marking t.line) (w.mark n) ≡ true
+  its_fresh =
+      let marked : w.mark n ≡ f.cycle_of (flight s) = its_own.is_marked in
+      elim its_cycle [
+        | inl e ↦ fresh_now w.cycle (l.is_marking t.line) (w.mark n) (marked ∙ e)
+        | inr e ↦ elim (cases_Bool (l.is_marking t.line)) [
+          | inl looks ↦ fresh_before w.cycle (l.is_marking t.line) (w.mark n) looks (omega arith)
+          | inr done ↦
+              let late : f.cycle_of (flight s) ≡ w.cycle = (h.settled_from_sweep done).none_late s below (made_raised (flight s) dest shape has_made) in
+              absurd (omega arith)
+        ]
+      ]
+
+  over : f.is_making y ≡ false
+  over = new_is_making y dest shape is_new
+
+  over_number : f.has_number y ≡ false
+  over_number = new_has_number y dest shape is_new
+
+  apart_from_news : (u : ℕ) → u < tasks g → f.is_making (flight' u) ≡ true → Apart (w.place n) (size shape) (new_place g (flight' u)) (f.new_size (flight' u))
+  apart_from_news u b making =
+      let place = its_place in
+      let words = its_size in
+      elim (upd_cases flight s y u) [
+        | inl (e, q) ↦ refuted (f.is_making y) over (ap f.is_making (sym q) ∙ making)
+        | inr (d, q) ↦ rw q (elim (h.news_apart s u below b (λ e. d (sym e)) its_making (ap f.is_making (sym q) ∙ making)) [ inl a ↦ inl (omega arith) | inr a ↦ inr (omega arith) ])
+      ]
+
+  ready : IsReady g w z sh flight' shape n
+  ready =
+      let place = its_place in
+      let words = its_size in
+      let fits : f.words_before (flight s) + f.new_size (flight s) ≤ g.alloc = its_room.words in
+      let alloc = mean.alloc in
+      let marked : w.mark n ≡ f.cycle_of (flight s) = its_own.is_marked in
+      record {
+        not_kept = not_kept;
+        clean = λ i few. let here : w.place n + i ≡ new_place g (flight s) + i = omega arith in ap w.cell here ∙ h.news_clean s i below its_making (omega arith);
+        one_space = elim (mean.stands (flight s) its_cycle) [
+          | inl o ↦
+              let at : new_place g (flight s) ≡ z.current + (z.live + f.words_before (flight s)) = o.stands in
+              inr (record { after = omega arith; before = omega arith })
+          | inr o ↦
+              let at : new_place g (flight s) ≡ z.old + (z.live + f.words_before (flight s)) = o.stands in
+              inl (record { after = omega arith; before = omega arith })
+        ];
+        apart = λ m kept. elim (h.objects_apart_from_new s m below its_making kept) [ inl a ↦ inl (omega arith) | inr a ↦ inr (omega arith) ];
+        apart_from_new = apart_from_news;
+        unclaimed = λ late. elim (mean.stands (flight s) its_cycle) [
+          | inl o ↦ let now : f.cycle_of (flight s) ≡ w.cycle = o.of_cycle in absurd (omega arith)
+          | inr o ↦
+              let at : new_place g (flight s) ≡ z.old + (z.live + f.words_before (flight s)) = o.stands in
+              record { after = omega arith; before = omega arith }
+        ];
+        below_used = λ current. elim (mean.stands (flight s) its_cycle) [
+          | inl o ↦
+              let at : new_place g (flight s) ≡ z.current + (z.live + f.words_before (flight s)) = o.stands in
+              let counted : f.words_before (flight s) + f.new_size (flight s) ≤ w.used = its_room.counted o.of_cycle in
+              omega arith
+          | inr o ↦
+              let at : new_place g (flight s) ≡ z.old + (z.live + f.words_before (flight s)) = o.stands in
+              let after : z.current ≤ w.place n = current.after in
+              let before : w.place n + size shape ≤ z.current + (z.live + z.alloc) = current.before in
+              elim mean.apart [ inl c ↦ absurd (omega arith) | inr c ↦ absurd (omega arith) ]
+        ];
+        not_moved = λ x stands. elim (mean.stands (flight s) its_cycle) [
+          | inl o ↦ let at : new_place g (flight s) ≡ z.current + (z.live + f.words_before (flight s)) = o.stands in omega arith
+          | inr o ↦
+              let at : new_place g (flight s) ≡ z.old + (z.live + f.words_before (flight s)) = o.stands in
+              elim mean.apart [ inl c ↦ absurd (omega arith) | inr c ↦ omega arith ]
+        ];
+      }
+
+  -- the flight after it
+  quietly : GoesQuietly g w z sh flight begun hand t names contents range s y
+  unfolding f.new_size
+  quietly =
+      let makes : MakingFacts g w sh flight = assumption in
+      let flies : FlightsFacts g w sh names contents.register flight = assumption in
+      let o = well_of g w sh flight makes s below in
+      let raising : f.will_raise y ≡ f.will_raise (flight s) = on_raising (flight s) 7 n dest shape has_made (omega arith) (omega arith) (omega arith) in
+      record {
+        counts = on_counts (flight s) 7 n dest shape has_made (omega arith) (omega arith) (omega arith);
+        used = rw (count_kept f.will_raise flight s y (tasks g) raising) h.used_stays_bounded;
+        objects = rw (count_kept f.will_raise flight s y (tasks g) raising) h.objects_stay_bounded;
+        well = record {
+          apart_from_kept = λ k e. refuted _ over e;
+          own = λ e. refuted _ over e;
+          unread = λ j e. refuted _ over e;
+          number = λ e. refuted _ over_number e;
+          room = λ e. let r = o.room (made_room (flight s) dest shape has_made) in record { words = r.words; entry = r.entry; counted = r.counted };
+          clean = λ i e. refuted _ over e;
+          recent = λ e. o.recent (made_raised (flight s) dest shape has_made);
+        };
+        apart = λ u b d e. refuted _ over e;
+        facts = on_facts g w sh names contents.register s (flight s) 7 n dest shape has_made (omega arith) (omega arith) (facts_of_flight g w sh names contents.register flight flies s below);
+        settles = on_settles g w.cycle sh.white sh.grey w.register flight s 7 n dest shape below has_made;
+      }
+
+  -- THE REFERENCE OF THE NEW OBJECT
+
+  v_shows : v ≡ reference_at names' n
+  v_shows = sym (reference_here names n b shape next.unborn)
+
+  v_number : layout.reference_number v ≡ n
+  v_number = number_of_reference g names' n v its_own.within v_shows
+
+  v_good : IsGood sh'.kept names' v
+  v_good = record {
+    some = λ e. absurd (omega arith);
+    is_kept = ap sh'.kept v_number ∙ upd_same sh.kept n true;
+    shows = v_shows ∙ ap (reference_at names') (sym v_number);
+  }
+
+  b_number : names'.number b ≡ n
+  b_number = upd_same names.number b n
+
+  b_kept : IsKeptBirth sh'.kept names' b
+  b_kept = record {
+    is_kept = ap sh'.kept b_number ∙ upd_same sh.kept n true;
+    bears = ap names'.bearer b_number ∙ upd_same names.bearer n (Some b);
+  }
+
+  -- it names no white number, unless the New is late
+  v_dark : f.cycle_of (flight s) ≡ w.cycle → NamesNoWhite sh.white v
+  v_dark now = inr (ap sh.white v_number ∙ white_there (its_own.is_marked ∙ now))
+
+  writes : WritesOwn g w z sh' flight' begun hand t names' contents range s dest v (Some b)
+  writes = record {
+    has_written = subst (λ q. HasWritten q v) (sym (upd_same flight s y)) (record {
+      stays = new_stays y dest shape is_new;
+      written = new_has_written y dest shape is_new;
+      free = new_holds_back y dest shape is_new;
+      copies = λ flying k from. nothing_copied k (rw is_new at from);
+    });
+    shows = sym (shown_here names n b shape next.unborn);
+    good = inr v_good;
+    bears = inr (b, refl, b_kept);
+    dark = λ black. elim its_cycle [
+      | inl e ↦ v_dark e
+      | inr e ↦ absurd (both_ways _ (h.late_in_no_black_frame s below (new_cycle_in_frame (flight s) dest shape is_new ∙ made_raised (flight s) dest shape has_made) (omega arith)) black)
+    ];
+    dark_when_settled = λ o.
+        v_dark (ap f.cycle_of (sym (upd_same flight s y)) ∙ o.none_late s below (ap f.has_raised (upd_same flight s y) ∙ made_raised y dest shape has_made_still));
+    inside = let one : w.frame_accessors s ≡ 1 = h.frame_accessors_counted s below ∙ rw (made_in_frame (flight s) dest shape has_made) refl in omega arith;
+  }
+    where
+      nothing_copied : {A : Type 0} (k : ℕ) → ◌≡◌ {A = Option ℕ} None (Some k) → A
+      nothing_copied k e = absurd (cc)
+
+      has_made_still : HasMade y dest shape
+      has_made_still = record { is_new = has_made.is_new; not_full = has_made.not_full; raised = has_made.raised; from = omega arith; to = omega arith }
+
+  pub birth_facts : Facts g (writing_words w s dest v) z sh' flight' begun hand t names' (writing_contents contents s dest (Some b)) range
+  birth_facts =
+      own_register_facts g w z sh' flight' begun hand t names' contents range s dest v (Some b) writes
+      (born_facts g w z sh flight' begun hand t names contents range n b shape next ready (quiet_facts g w z sh flight begun hand t names contents range s y below quietly h))

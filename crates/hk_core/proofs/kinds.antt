@@ -17,3 +17,4 @@ pub mod NewWords
 pub mod NewHeader
 pub mod NewBorn
 pub mod NewIsBorn
+pub mod NewHistory

@@ -394,3 +394,68 @@ module _ (g : Geometry) (w : Words) (z : Spaces) (sh : Shades) (flight : ℕ →
   birth_facts =
       own_register_facts g w z sh' flight' begun hand t names' contents range s dest v (Some b) writes
       (born_facts g w z sh flight' begun hand t names contents range n b shape next ready (quiet_facts g w z sh flight begun hand t names contents range s y below quietly h))
+
+-- ALL FACTS
+
+module _ (g : Geometry) (w : Words) (flight : ℕ → Flight) (s : ℕ) (y : Flight) (ln : Line) (names : Names) (n b dest v : ℕ) (shape : Shape)
+    (unborn : (m : ℕ) → names.bearer m ≢ Some b) (held_else : (m : ℕ) → m ≢ n → held_by g (upd flight s y) m ≡ held_by g flight m)
+    (here : kept_by g w.cycle (l.is_marking ln) (held_by g (upd flight s y)) (born_names names n b shape).bearer w.place w.mark n ≡ true) where
+  kept_born : kept_by g w.cycle (l.is_marking ln) (held_by g (upd flight s y)) (born_names names n b shape).bearer w.place w.mark
+      ≡ upd (kept_by g w.cycle (l.is_marking ln) (held_by g flight) names.bearer w.place w.mark) n true
+  kept_born = is_upd {A = Bool} (kept_by g w.cycle (l.is_marking ln) (held_by g (upd flight s y)) (born_names names n b shape).bearer w.place w.mark)
+      (kept_by g w.cycle (l.is_marking ln) (held_by g flight) names.bearer w.place w.mark) n true here
+      (λ m d. rw (held_else m d, upd_other names.bearer n (Some b) m d) refl)
+
+  size_born : size_at (born_names names n b shape) ≡ upd (size_at names) n (size shape)
+  size_born = is_upd {A = ℕ} (size_at (born_names names n b shape)) (size_at names) n (size shape) (size_here names n b shape unborn) (λ m d. size_same names n b shape unborn m d)
+
+  -- the shades after the birth
+  shades_born : shades_of g (writing_words w s dest v) (upd flight s y) ln (born_names names n b shape) ≡ born_shades (shades_of g w flight ln names) n shape
+  unfolding shades_of
+  shades_born = λ i. record {
+    white = (shades_of g w flight ln names).white;
+    grey = (shades_of g w flight ln names).grey;
+    black = (shades_of g w flight ln names).black;
+    black_frame = (shades_of g w flight ln names).black_frame;
+    kept = kept_born i;
+    size = size_born i;
+  }
+
+white_when_marked : (g : Geometry) (w : Words) (flight : ℕ → Flight) (ln : Line) (names : Names) (n : ℕ) → w.mark n ≡ w.cycle → (shades_of g w flight ln names).white n ≡ false
+unfolding shades_of
+white_when_marked g w flight ln names n e = and_right (not (nat_eq (w.place n) 0)) (nat_lt (w.mark n) w.cycle) (le-ltb (w.mark n) w.cycle (omega arith))
+
+not_kept_when_held : (g : Geometry) (w : Words) (flight : ℕ → Flight) (ln : Line) (names : Names) (n : ℕ) → held_by g flight n ≡ true → (shades_of g w flight ln names).kept n ≡ false
+unfolding shades_of
+not_kept_when_held g w flight ln names n e = held_not_kept g w.cycle (l.is_marking ln) (held_by g flight) names.bearer w.place w.mark n e
+
+-- all facts hold after a New that found room has written its register, for the plain heap after the birth
+pub new_is_born : (g : Geometry) (w : Words) (flight : ℕ → Flight) (begun : ℕ → ℕ) (t : Spot) (names : Names) (contents : Contents) (range : ℕ → Option ℕ) (s dest : ℕ) (shape : Shape) (b : ℕ)
+    → s < tasks g → (flight s).call ≡ call.New dest shape → (flight s).place ≡ 6 → (flight s).full ≡ false → IsNextBirth names contents b
+    → FactsOf g w flight begun t names contents range
+    → FactsOf g (writing_words w s dest (new_reference (flight s) shape)) (upd flight s (new_on (flight s) 7 (flight s).number)) begun t
+    (born_names names (flight s).number b shape) (writing_contents contents s dest (Some b)) range
+new_is_born g w flight begun t names contents range s dest shape b below is_new at_6 not_full next h =
+    let x = flight s in
+    let n = x.number in
+    let y = new_on x 7 n in
+    let v = new_reference x shape in
+    let z = spaces_of g w.cycle in
+    let sh = shades_of g w flight t.line names in
+    let hand = hands_of g flight t in
+    let mean = spaces_mean g w.cycle in
+    let numbered : f.has_number x ≡ true = new_has_number x dest shape is_new ∙ rw (at_6, not_full) refl in
+    let over : f.has_number y ≡ false = new_has_number y dest shape is_new in
+    let not_kept : sh.kept n ≡ false = not_kept_when_held g w flight t.line names n (holder_holds g flight s below numbered) in
+    let white : w.mark n ≡ w.cycle → sh.white n ≡ false = white_when_marked g w flight t.line names n in
+    let own : IsOwn g w.accessors w.place w.version w.mark x n = its_own g w z sh flight begun hand t names contents range s dest shape b below is_new at_6 not_full next mean not_kept white h in
+    let here : kept_by g w.cycle (l.is_marking t.line) (held_by g (upd flight s y)) (born_names names n b shape).bearer w.place w.mark n ≡ true =
+    kept_from g w.cycle (l.is_marking t.line) (held_by g (upd flight s y)) (born_names names n b shape).bearer w.place w.mark n own.within
+    (ap is_some (upd_same names.bearer n (Some b)))
+    (held_no_more g w flight s y below numbered over h.number_is_own h.own_entries_distinct)
+    (its_place_some g w z sh flight begun hand t names contents range s dest shape b below is_new at_6 not_full next mean not_kept white h)
+    (its_fresh g w z sh flight begun hand t names contents range s dest shape b below is_new at_6 not_full next mean not_kept white h) in
+    let hands : hands_of g (upd flight s y) t ≡ hand = hands_upd g t flight s y (new_hand y dest shape is_new g ∙ sym (new_hand x dest shape is_new g)) in
+    let shades : shades_of g (writing_words w s dest v) (upd flight s y) t.line (born_names names n b shape) ≡ born_shades sh n shape =
+    shades_born g w flight s y t.line names n b dest v shape next.unborn (held_of_others g w flight s y below numbered over h.number_is_own h.own_entries_distinct) here in
+    rw (hands, shades) (birth_facts g w z sh flight begun hand t names contents range s dest shape b below is_new at_6 not_full next mean not_kept white h)

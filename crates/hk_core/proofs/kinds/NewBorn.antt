@@ -1,6 +1,6 @@
 -- The plain heap has one more birth, and its number is kept: what holds of the new birth, and that the facts hold then.
-use Rattle.std.proofs.Common.{◌≡◌, ◌≢◌, ◌⊎◌, ℕ, ◌+◌, ◌-◌, ◌*◌, ◌%◌, ◌^◌, ◌<◌, ◌≤◌, Bool, true, false, inl, inr, refl, sym, ◌∙◌, ap, arith, subst, Option, Some, None}
-use Rattle.std.proofs.lemmas.Bool.{both_ways, cases_Bool, cases_eq, cases_lt}
+use Rattle.std.proofs.Common.{◌≡◌, ◌≢◌, ◌⊎◌, ℕ, ◌+◌, ◌<◌, ◌≤◌, true, false, inl, inr, refl, sym, ◌∙◌, ap, arith, subst, Option, Some, None}
+use Rattle.std.proofs.lemmas.Bool.{both_ways, cases_lt}
 use Rattle.std.specs.Prelude.{option_map, unwrap_or}
 use Rattle.hk_words.specs.declared.geometry.Geometry.{Geometry}
 use Rattle.hk_words.specs.declared.shape.Shape.{Shape}
@@ -16,12 +16,11 @@ use Rattle.hk_core.specs.View.{Words, Names, Contents, shown, refs_at, nums_at, 
 use Rattle.hk_core.specs.Flights as f
 use Rattle.hk_core.specs.Flights.{Hand}
 use Rattle.hk_core.specs.Lines as l
-use Rattle.hk_core.specs.Colours.{Spaces, Shades, InOld, InCurrent, Apart, Covers, IsGood, IsNullOrGood, IsKeptBirth, IsNullOrKept}
+use Rattle.hk_core.specs.Colours.{Spaces, Shades, InOld, InCurrent, Apart, IsGood, IsNullOrGood, IsKeptBirth, IsNullOrKept}
 use Rattle.hk_core.specs.Facts as fact
 use Rattle.hk_core.specs.Facts.{HoldsRange, IsMoved}
 use Rattle.hk_core.specs.Lawful.{Facts}
 use Rattle.hk_core.proofs.Update.{upd_cases}
-use Rattle.hk_core.proofs.kinds.Read.{refuted}
 
 -- the names after a birth of a shape was given a number
 abbrev pub born_names : Names → (number birth : ℕ) → Shape → Names

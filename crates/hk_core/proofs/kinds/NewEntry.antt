@@ -1,20 +1,18 @@
 -- A New that found room loads the entry that the raise of W0 gave to it. No word changes; the New holds the number then.
-use Rattle.std.proofs.Common.{◌≡◌, ◌≢◌, ℕ, ◌+◌, ◌<◌, ◌≤◌, Bool, true, false, inl, inr, refl, sym, ◌∙◌, ap, arith, Option, Some, None, List}
-use Rattle.std.proofs.lemmas.Bool.{both_ways, cases_eq, cases_Bool, and_right, and_from, le-leb, lt-leb, ne_eqb}
-use Rattle.std.specs.Prelude.{nat_eq, nat_le, nat_lt, not, ◌&&◌, is_some, if◌then◌else◌}
+use Rattle.std.proofs.Common.{◌≡◌, ◌≢◌, ℕ, ◌<◌, ◌≤◌, Bool, true, false, inl, inr, refl, sym, ◌∙◌, ap, arith, Option, List}
+use Rattle.std.proofs.lemmas.Bool.{cases_eq, cases_Bool, and_right, and_from, le-leb, lt-leb, ne_eqb}
+use Rattle.std.specs.Prelude.{nat_eq, nat_le, not, ◌&&◌}
 use Rattle.hk_words.specs.declared.geometry.Geometry.{Geometry}
 use Rattle.hk_words.specs.declared.shape.Shape.{Shape}
 use Rattle.hk_words.specs.declared.call.Call.TheVariants as call
-use Rattle.hk_words.specs.Geometry.{tasks, numbers, list_length}
+use Rattle.hk_words.specs.Geometry.{tasks, list_length}
 use Rattle.hk_words.specs.Row.{word_of}
 use Rattle.hk_words.specs.Row.Slot.{Entry}
 use Rattle.hk_model.specs.View.{upd}
 use Rattle.hk_core.specs.declared.flight.Flight.{Flight}
 use Rattle.hk_core.specs.declared.spot.Spot.{Spot}
 use Rattle.hk_core.specs.declared.spot.Line.{Line}
-use Rattle.hk_core.specs.Counts.{any_below}
-use Rattle.hk_core.specs.Step.{side_of}
-use Rattle.hk_core.specs.View.{Words, Names, Contents, words_of, decoded, raw}
+use Rattle.hk_core.specs.View.{Words, Names, Contents, words_of, decoded}
 use Rattle.hk_core.specs.Flights as f
 use Rattle.hk_core.specs.Flights.{IsNewInStep}
 use Rattle.hk_core.specs.Lines.{is_marking}
@@ -26,7 +24,7 @@ use Rattle.hk_core.proofs.Counts.{count_kept, any_kept}
 use Rattle.hk_core.proofs.Columns.{raw_entry}
 use Rattle.hk_core.proofs.kinds.Seats.{FlightFacts, FlightsFacts, facts_of_flight}
 use Rattle.hk_core.proofs.kinds.Read.{refuted}
-use Rattle.hk_core.proofs.kinds.NewFlight.{MakingFacts, MakesWell, MakeApart, MakeApartIf, Settles, SameCounts, GoesQuietly, well_of, apart_of, new_inside, new_before_object, new_has_item, new_hand, new_holds_back}
+use Rattle.hk_core.proofs.kinds.NewFlight.{MakingFacts, MakesWell, MakeApartIf, Settles, SameCounts, GoesQuietly, well_of, apart_of, new_inside, new_before_object, new_has_item, new_hand, new_holds_back}
 use Rattle.hk_core.proofs.kinds.NewFlight.{new_in_frame, new_before_frame, new_will_raise, new_has_raised, new_is_making, new_has_number, new_has_header, new_cycle_in_frame, new_flight_facts}
 use Rattle.hk_core.proofs.kinds.NewLoads.{new_on, between, quiet}
 
@@ -62,7 +60,6 @@ module _ (v : Flight) (dest : ℕ) (shape : Shape) (o : HasMade v dest shape) wh
 
   pub made_before_frame : f.before_frame v ≡ false
   made_before_frame = let from = o.from in new_before_frame v dest shape o.is_new ∙ rw (not_between 1 2 v.place (omega arith)) refl
-
 
 -- IT GOES ON, WITH WHAT IT WAS GIVEN
 

@@ -1,7 +1,7 @@
 -- The flight of a New, and the facts of the flights after that of one seat's New has changed.
-use Rattle.std.proofs.Common.{◌≡◌, ◌≢◌, ◌⊎◌, ℕ, ◌+◌, ◌<◌, ◌≤◌, Bool, true, false, inl, inr, refl, sym, ◌∙◌, ap, arith, Option, Some, None}
-use Rattle.std.proofs.lemmas.Bool.{both_ways, and_parts, and_from, and_right, leb-true, le-leb}
-use Rattle.std.specs.Prelude.{nat_eq, nat_le, not, ◌&&◌, ◌||◌, if◌then◌else◌}
+use Rattle.std.proofs.Common.{◌≡◌, ◌≢◌, ℕ, ◌+◌, ◌<◌, ◌≤◌, Bool, true, false, inl, inr, refl, sym, ◌∙◌, ap, arith, Option, Some, None}
+use Rattle.std.proofs.lemmas.Bool.{and_right}
+use Rattle.std.specs.Prelude.{nat_le, not, ◌&&◌, ◌||◌}
 use Rattle.hk_words.specs.declared.geometry.Geometry.{Geometry}
 use Rattle.hk_words.specs.declared.shape.Shape.{Shape}
 use Rattle.hk_words.specs.declared.call.Call.{Call}
@@ -22,8 +22,8 @@ use Rattle.hk_core.specs.Facts.{IsFormed, IsRecent, IsSettled, IsOwn, FoundRoom}
 use Rattle.hk_core.specs.Lawful.{Facts}
 use Rattle.hk_core.proofs.Update.{upd_cases, each_upd, pairs_upd}
 use Rattle.hk_core.proofs.Counts.{count_at_most}
-use Rattle.hk_core.proofs.kinds.Seats.{FlightFacts, FlightsFacts, facts_of_flight, facts_of_flights, flights_upd, pass_upd, counted_kept, frames_counted_kept}
-use Rattle.hk_core.proofs.kinds.Read.{refuted, none_in}
+use Rattle.hk_core.proofs.kinds.Seats.{FlightFacts, FlightsFacts, facts_of_flights, flights_upd, pass_upd, counted_kept, frames_counted_kept}
+use Rattle.hk_core.proofs.kinds.Read.{refuted}
 
 -- WHAT NEWS SHOW THAT HAVE RAISED W0
 

@@ -1,15 +1,14 @@
 -- A New that found room writes the header of its number: the number has the place of the new object then, and is still
 -- held, so that it isn't kept.
-use Rattle.std.proofs.Common.{◌≡◌, ◌≢◌, ◌⊎◌, ℕ, ◌+◌, ◌-◌, ◌*◌, ◌%◌, ◌^◌, ◌<◌, ◌≤◌, Bool, true, false, inl, inr, refl, sym, ◌∙◌, ap, arith, subst, Option, Some, None}
-use Rattle.std.proofs.lemmas.Bool.{both_ways, cases_Bool, cases_eq, cases_lt, and_parts, and_from, and_left, and_right, leb-true, le-leb, lt-leb, le-ltb, lt-ltb, eq-eqb, ne_eqb, not_from_true}
-use Rattle.std.specs.Prelude.{nat_eq, nat_le, nat_lt, is_some, not, ◌&&◌, ◌||◌, if◌then◌else◌}
+use Rattle.std.proofs.Common.{◌≡◌, ◌≢◌, ℕ, ◌+◌, ◌<◌, ◌≤◌, Bool, true, false, inl, inr, refl, sym, ◌∙◌, ap, arith, subst, Option, Some}
+use Rattle.std.proofs.lemmas.Bool.{both_ways, cases_eq, and_parts, and_from, and_left, and_right, leb-true, le-leb, lt-leb, le-ltb, lt-ltb, eq-eqb, ne_eqb, not_from_true}
+use Rattle.std.specs.Prelude.{nat_eq, nat_le, nat_lt, not, ◌&&◌}
 use Rattle.hk_words.specs.declared.geometry.Geometry.{Geometry}
 use Rattle.hk_words.specs.declared.shape.Shape.{Shape}
 use Rattle.hk_words.specs.declared.call.Call.{Call}
 use Rattle.hk_words.specs.declared.call.Call.TheVariants as call
 use Rattle.hk_words.specs.Geometry.{tasks, numbers, list_length}
 use Rattle.hk_words.specs.Layout as layout
-use Rattle.hk_words.specs.Shape.{size}
 use Rattle.hk_model.specs.View.{upd}
 use Rattle.hk_model.proofs.Updates.{upd_same, upd_other}
 use Rattle.hk_core.specs.declared.flight.Flight.{Flight}
@@ -24,17 +23,16 @@ use Rattle.hk_core.specs.View.{Words, Names, Contents, reference_at}
 use Rattle.hk_core.specs.Flights as f
 use Rattle.hk_core.specs.Flights.{Hand, IsNewInStep}
 use Rattle.hk_core.specs.Lines as l
-use Rattle.hk_core.specs.Colours.{Spaces, spaces_of, Shades, shades_of, held_by, kept_by, grey_by, black_by, white_by, is_fresh, is_within, IsGood, IsNullOrGood, IsNullOrKept, NamesNoWhite, Covers, LiesIn}
+use Rattle.hk_core.specs.Colours.{Spaces, spaces_of, Shades, shades_of, held_by, kept_by, grey_by, black_by, white_by, is_within, IsGood, IsNullOrGood, IsNullOrKept, NamesNoWhite}
 use Rattle.hk_core.specs.Facts as fact
 use Rattle.hk_core.specs.Facts.{HasNoHeader, IsUnread, IsOwn, IsMoved, FoundRoom, IsRecent, IsSettled, ObjectBehind}
 use Rattle.hk_core.specs.Lawful.{Facts, FactsOf, hands_of}
 use Rattle.hk_core.proofs.Update.{upd_own}
 use Rattle.hk_core.proofs.Counts.{count_kept, count_some}
 use Rattle.hk_core.proofs.kinds.Seats.{FlightFacts, FlightsFacts, KeptMeans, facts_of_flight, kept_means, pass_upd, hands_upd}
-use Rattle.hk_core.proofs.kinds.Read.{refuted}
-use Rattle.hk_core.proofs.kinds.NewFlight.{MakingFacts, MakesWell, MakeApartIf, Settles, CountFacts, counts_set, flights_set, settled_set, making_set, well_of, apart_of, new_hand, new_has_item, new_has_number, new_has_header, new_has_size}
+use Rattle.hk_core.proofs.kinds.NewFlight.{MakingFacts, MakesWell, CountFacts, counts_set, flights_set, settled_set, making_set, well_of, apart_of, new_hand, new_has_number, new_has_header, new_has_size}
 use Rattle.hk_core.proofs.kinds.NewLoads.{new_on}
-use Rattle.hk_core.proofs.kinds.NewEntry.{HasMade, made_is_making, made_raised, made_room, on_apart, on_well, on_counts, on_raising, on_facts, on_settles, held_elsewhere}
+use Rattle.hk_core.proofs.kinds.NewEntry.{HasMade, made_is_making, made_raised, made_room, on_apart, on_counts, on_raising, on_facts, on_settles, held_elsewhere}
 use Rattle.hk_core.proofs.kinds.NewRaise.{SpacesMean, spaces_mean}
 use Rattle.hk_core.proofs.kinds.NewWords.{headed_words}
 

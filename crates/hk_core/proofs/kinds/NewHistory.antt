@@ -1,11 +1,11 @@
 -- What the plain heap is after the entry of a New that made its object, and that this entry is legal.
-use Rattle.std.proofs.Common.{◌≡◌, ◌≢◌, ℕ, ◌+◌, ◌<◌, ◌≤◌, true, [], ◌∷◌, ◌++◌, length, inl, refl, sym, ◌∙◌, ap, arith, Option, Some, None}
+use Rattle.std.proofs.Common.{◌≡◌, ℕ, ◌+◌, ◌<◌, [], ◌∷◌, ◌++◌, length, inl, refl, sym, ◌∙◌, ap, arith, Some}
 use Rattle.hk_words.specs.declared.geometry.Geometry.{Geometry}
 use Rattle.hk_words.specs.declared.shape.Shape.{Shape}
 use Rattle.hk_words.specs.declared.call.Call.TheVariants as call
 use Rattle.hk_words.specs.declared.call.Reply.TheVariants.{Unit as Done}
 use Rattle.hk_words.specs.Geometry.{tasks}
-use Rattle.hk_model.specs.View.{upd, upd2, View, view_of}
+use Rattle.hk_model.specs.View.{upd, upd2, view_of}
 use Rattle.hk_model.specs.Heap as heap
 use Rattle.hk_model.specs.Heap.{born}
 use Rattle.hk_model.specs.History.{Entry, History, Legal, after, after_entry, numbers, number_of, bearer}
@@ -45,11 +45,11 @@ module _ (g : Geometry) (history : History) (legal : Legal (heap.opening_of g) h
 
   module _ (seat dest : ℕ) (shape : Shape) (number : ℕ) (seated : seat < tasks g) (within : dest < g.registers) where
     view-born : view_of (after (heap.opening_of g) (history ++ made seat dest shape number ∷ [])) ≡ record (view_of (after (heap.opening_of g) history)) {
-          born = next_birth g history + 1;
-          refs = upd (heap.refs (after (heap.opening_of g) history)) (next_birth g history) shape.refs;
-          nums = upd (heap.nums (after (heap.opening_of g) history)) (next_birth g history) shape.nums;
-          register = upd2 (heap.register (after (heap.opening_of g) history)) seat dest (Some (next_birth g history));
-        }
+      born = next_birth g history + 1;
+      refs = upd (heap.refs (after (heap.opening_of g) history)) (next_birth g history) shape.refs;
+      nums = upd (heap.nums (after (heap.opening_of g) history)) (next_birth g history) shape.nums;
+      register = upd2 (heap.register (after (heap.opening_of g) history)) seat dest (Some (next_birth g history));
+    }
     unfolding after_entry
     view-born =
         ap view_of (after-push (heap.opening_of g) history (made seat dest shape number))

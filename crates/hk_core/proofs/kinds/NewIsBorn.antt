@@ -1,14 +1,13 @@
 -- A New that found room writes its register: the object is born. The plain heap has one more birth then, and its number,
 -- which is held no more, is kept.
-use Rattle.std.proofs.Common.{◌≡◌, ◌≢◌, ◌⊎◌, ℕ, zero, suc, ◌+◌, ◌-◌, ◌*◌, ◌%◌, ◌^◌, ◌<◌, ◌≤◌, Bool, true, false, inl, inr, refl, sym, ◌∙◌, ap, arith, subst, Option, Some, None, [], ◌∷◌, ◌++◌, length}
-use Rattle.std.proofs.lemmas.Bool.{both_ways, cases_Bool, cases_eq, cases_lt, and_parts, and_from, and_left, and_right, leb-true, le-leb, lt-leb, le-ltb, lt-ltb, eq-eqb, ne_eqb, not_from_false, or_left, or_right}
-use Rattle.std.specs.Prelude.{nat_eq, nat_le, nat_lt, is_some, not, ◌&&◌, ◌||◌, if◌then◌else◌}
+use Rattle.std.proofs.Common.{◌≡◌, ◌≢◌, ℕ, zero, suc, ◌+◌, ◌<◌, ◌≤◌, Bool, true, false, inl, inr, refl, sym, ◌∙◌, ap, arith, subst, Option, Some, None}
+use Rattle.std.proofs.lemmas.Bool.{both_ways, cases_Bool, and_parts, and_from, and_right, leb-true, le-leb, le-ltb, lt-ltb, eq-eqb, ne_eqb, not_from_false, or_left, or_right}
+use Rattle.std.specs.Prelude.{nat_eq, nat_le, nat_lt, is_some, not, ◌&&◌}
 use Rattle.hk_words.specs.declared.geometry.Geometry.{Geometry}
 use Rattle.hk_words.specs.declared.shape.Shape.{Shape}
 use Rattle.hk_words.specs.declared.call.Call.{Call}
 use Rattle.hk_words.specs.declared.call.Call.TheVariants as call
 use Rattle.hk_words.specs.Geometry.{tasks, numbers}
-use Rattle.hk_words.specs.Calls.{entered, target}
 use Rattle.hk_words.specs.Layout as layout
 use Rattle.hk_words.specs.Shape.{size}
 use Rattle.hk_model.specs.View.{upd, upd2}
@@ -23,20 +22,20 @@ use Rattle.hk_core.specs.View.{Words, Names, Contents, shown, size_at, reference
 use Rattle.hk_core.specs.Flights as f
 use Rattle.hk_core.specs.Flights.{Hand, IsNewInStep}
 use Rattle.hk_core.specs.Lines as l
-use Rattle.hk_core.specs.Colours.{Spaces, spaces_of, Shades, shades_of, held_by, kept_by, is_fresh, white_by, Apart, Covers, InOld, InCurrent, LiesIn, IsGood, IsNullOrGood, IsKeptBirth, IsNullOrKept, NamesNoWhite, IsNullOrMarked}
+use Rattle.hk_core.specs.Colours.{Spaces, spaces_of, Shades, shades_of, held_by, kept_by, is_fresh, Apart, IsGood, IsNullOrGood, IsKeptBirth, IsNullOrKept, NamesNoWhite}
 use Rattle.hk_core.specs.Facts as fact
 use Rattle.hk_core.specs.Facts.{IsOwn, FoundRoom, IsRecent, IsSettled}
 use Rattle.hk_core.specs.Lawful.{Facts, FactsOf, hands_of}
 use Rattle.hk_core.proofs.Update.{upd_cases, upd2_cases}
-use Rattle.hk_core.proofs.Counts.{count_kept, count_same}
-use Rattle.hk_core.proofs.kinds.Seats.{FlightFacts, FlightsFacts, KeptMeans, facts_of_flight, kept_means, pass_upd, hands_upd}
+use Rattle.hk_core.proofs.Counts.{count_kept}
+use Rattle.hk_core.proofs.kinds.Seats.{FlightsFacts, facts_of_flight, pass_upd, hands_upd}
 use Rattle.hk_core.proofs.kinds.Frame.{work_in_attempt}
 use Rattle.hk_core.proofs.kinds.Read.{refuted}
 use Rattle.hk_core.proofs.kinds.WriteRegister.{writing_words, writing_contents, HasWritten}
-use Rattle.hk_core.proofs.kinds.NewFlight.{MakingFacts, MakesWell, MakeApartIf, GoesQuietly, quiet_facts, well_of, apart_of, new_hand, new_has_item, new_has_number, new_has_header, new_has_size, new_is_making, new_holds_back, new_stays, new_has_written, new_cycle_in_frame}
+use Rattle.hk_core.proofs.kinds.NewFlight.{MakingFacts, GoesQuietly, quiet_facts, well_of, new_hand, new_has_number, new_has_header, new_has_size, new_is_making, new_holds_back, new_stays, new_has_written, new_cycle_in_frame}
 use Rattle.hk_core.proofs.kinds.NewLoads.{new_on}
 use Rattle.hk_core.proofs.kinds.NewEntry.{HasMade, made_is_making, made_raised, made_room, made_in_frame, on_counts, on_raising, on_facts, on_settles, held_elsewhere, holds_not}
-use Rattle.hk_core.proofs.kinds.NewRaise.{SpacesMean, StandsNow, StandsBefore, spaces_mean}
+use Rattle.hk_core.proofs.kinds.NewRaise.{SpacesMean, spaces_mean}
 use Rattle.hk_core.proofs.kinds.NewHeader.{holder_holds, held_not_kept, number_of_reference}
 use Rattle.hk_core.proofs.kinds.NewBorn.{born_names, born_shades, IsNextBirth, IsReady, born_facts, reference_here, size_same, size_here, shown_here}
 

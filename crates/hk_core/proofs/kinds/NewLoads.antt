@@ -1,37 +1,36 @@
 -- A New loads W0, and finds room or too few words; and the rests of a New that found too few. No word changes.
-use Rattle.std.proofs.Common.{◌≡◌, ◌≢◌, ℕ, ◌+◌, ◌-◌, ◌*◌, ◌/◌, ◌<◌, ◌≤◌, Bool, true, false, inl, inr, refl, sym, ◌∙◌, ap, arith, Option, Some, None, [], ◌∷◌, ◌++◌, List}
-use Rattle.std.proofs.lemmas.Bool.{both_ways, cases_Bool, cases_lt, and_parts, and_from, and_right, leb-true, le-leb, ltb-true, lt-ltb}
-use Rattle.std.specs.Prelude.{nat_eq, nat_le, nat_lt, not, ◌&&◌, ◌||◌, if◌then◌else◌}
+use Rattle.std.proofs.Common.{◌≡◌, ℕ, ◌+◌, ◌-◌, ◌<◌, ◌≤◌, Bool, true, false, inl, inr, refl, sym, ◌∙◌, ap, arith, Option, [], ◌∷◌, ◌++◌, List}
+use Rattle.std.proofs.lemmas.Bool.{both_ways, cases_Bool, cases_lt, and_parts, and_from, and_right, leb-true, le-leb, lt-ltb}
+use Rattle.std.specs.Prelude.{nat_le, nat_lt, not, ◌&&◌, if◌then◌else◌}
 use Rattle.hk_words.specs.declared.geometry.Geometry.{Geometry}
 use Rattle.hk_words.specs.declared.shape.Shape.{Shape}
-use Rattle.hk_words.specs.declared.shape.TheConstants.{MAX_FIELDS}
 use Rattle.hk_words.specs.declared.call.Call.TheVariants as call
 use Rattle.hk_words.specs.declared.call.Reply.TheVariants as reply
-use Rattle.hk_words.specs.Geometry.{tasks, list_length}
+use Rattle.hk_words.specs.Geometry.{tasks}
 use Rattle.hk_words.specs.Shape.{size}
 use Rattle.hk_words.specs.Layout as layout
 use Rattle.hk_words.specs.Row.{word_of}
 use Rattle.hk_words.specs.Row.Slot.{W0}
 use Rattle.hk_model.specs.View.{upd}
 use Rattle.hk_model.specs.Heap as heap
-use Rattle.hk_model.specs.History.{Entry, History, Legal, after, after_entry}
+use Rattle.hk_model.specs.History.{Entry, History, Legal, after}
 use Rattle.hk_model.proofs.Histories.{after-push, after_entry-refused, Legal-push, number_of-push_other, bearer-push_other}
 use Rattle.hk_core.specs.declared.flight.Flight.{Flight}
 use Rattle.hk_core.specs.declared.spot.Spot.{Spot}
 use Rattle.hk_core.specs.State.{idle}
 use Rattle.hk_core.specs.Step.{full_to, limit_of}
 use Rattle.hk_core.specs.Counts.{count_below}
-use Rattle.hk_core.specs.View.{Words, Names, Contents, names_of, contents_of, words_of, decoded, raw, shown}
+use Rattle.hk_core.specs.View.{Words, Names, Contents, names_of, contents_of, words_of, decoded, raw}
 use Rattle.hk_core.specs.Flights as f
 use Rattle.hk_core.specs.Flights.{hand_of_flight, IsNewInStep, no_claim}
-use Rattle.hk_core.specs.Colours.{Spaces, Shades, spaces_of, shades_of, NamesNoWhite}
+use Rattle.hk_core.specs.Colours.{Shades, spaces_of, shades_of}
 use Rattle.hk_core.specs.Facts as fact
 use Rattle.hk_core.specs.Facts.{IsFormed, IsSettled}
-use Rattle.hk_core.specs.Lawful.{Facts, FactsOf, hands_of}
+use Rattle.hk_core.specs.Lawful.{FactsOf, hands_of}
 use Rattle.hk_core.proofs.Counts.{count_kept, count_more, count_room}
-use Rattle.hk_core.proofs.kinds.Seats.{FlightFacts, FlightsFacts, facts_of_flight, hands_upd, shades_upd, idle_facts, idle_makes_nothing}
-use Rattle.hk_core.proofs.kinds.Read.{refuted, none_in}
-use Rattle.hk_core.proofs.kinds.NewFlight.{MakesWell, MakeApartIf, Settles, SameCounts, GoesQuietly, quiet_facts, new_inside, new_before_object, new_has_item, new_hand, new_holds_back}
+use Rattle.hk_core.proofs.kinds.Seats.{FlightsFacts, facts_of_flight, hands_upd, shades_upd, idle_facts, idle_makes_nothing}
+use Rattle.hk_core.proofs.kinds.Read.{refuted}
+use Rattle.hk_core.proofs.kinds.NewFlight.{MakesWell, SameCounts, GoesQuietly, quiet_facts, new_inside, new_before_object, new_has_item, new_hand, new_holds_back}
 use Rattle.hk_core.proofs.kinds.NewFlight.{new_in_frame, new_before_frame, new_will_raise, new_has_raised, new_is_making, new_has_number, new_cycle_in_frame, new_flight_facts}
 
 -- A NEW THAT MAKES NOTHING

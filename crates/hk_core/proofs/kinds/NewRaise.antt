@@ -1,7 +1,7 @@
 -- A New raises W0 by its words and by one object. Where it found room it speaks for these words, and for an entry.
-use Rattle.std.proofs.Common.{◌≡◌, ◌≢◌, ◌⊎◌, ℕ, ◌+◌, ◌*◌, ◌%◌, ◌<◌, ◌≤◌, Bool, true, false, inl, inr, refl, sym, ◌∙◌, ap, arith, Option, Some, None}
-use Rattle.std.proofs.lemmas.Bool.{both_ways, cases_Bool, cases_eq, cases_lt, and_parts, and_from, and_right, leb-true, le-leb, lt-ltb}
-use Rattle.std.specs.Prelude.{nat_le, nat_lt, not, ◌&&◌, if◌then◌else◌}
+use Rattle.std.proofs.Common.{◌≡◌, ◌⊎◌, ℕ, ◌+◌, ◌*◌, ◌%◌, ◌<◌, ◌≤◌, Bool, true, false, inl, inr, refl, sym, ◌∙◌, ap, arith, Option}
+use Rattle.std.proofs.lemmas.Bool.{both_ways, cases_eq, cases_lt, and_parts, and_from, leb-true, le-leb, lt-ltb}
+use Rattle.std.specs.Prelude.{nat_le, not, ◌&&◌}
 use Rattle.hk_words.specs.declared.geometry.Geometry.{Geometry}
 use Rattle.hk_words.specs.declared.shape.Shape.{Shape}
 use Rattle.hk_words.specs.declared.call.Call.{Call}
@@ -20,15 +20,15 @@ use Rattle.hk_core.specs.Counts.{count_below}
 use Rattle.hk_core.specs.View.{Words, Names, Contents}
 use Rattle.hk_core.specs.Flights as f
 use Rattle.hk_core.specs.Flights.{Hand, IsNewInStep}
-use Rattle.hk_core.specs.Colours.{Spaces, spaces_of, Shades, shades_of, Apart, Covers, LiesIn}
+use Rattle.hk_core.specs.Colours.{Spaces, spaces_of, Shades, shades_of, Apart}
 use Rattle.hk_core.specs.Facts as fact
 use Rattle.hk_core.specs.Facts.{IsOwn, IsUnread, FoundRoom, IsRecent, IsSettled}
 use Rattle.hk_core.specs.Lawful.{Facts, FactsOf, hands_of}
 use Rattle.hk_core.proofs.Counts.{count_less}
-use Rattle.hk_core.proofs.kinds.Seats.{FlightFacts, FlightsFacts, facts_of_flight, flights_upd, pass_upd, hands_upd, shades_upd}
+use Rattle.hk_core.proofs.kinds.Seats.{FlightsFacts, flights_upd, pass_upd, hands_upd, shades_upd}
 use Rattle.hk_core.proofs.kinds.Read.{refuted}
 use Rattle.hk_core.proofs.kinds.WriteCell.{SpacesApart}
-use Rattle.hk_core.proofs.kinds.NewFlight.{MakingFacts, MakesWell, MakeApart, MakeApartIf, Settles, SameCounts, CountFacts, counts_set, settled_set, making_set, well_of, apart_of}
+use Rattle.hk_core.proofs.kinds.NewFlight.{MakingFacts, MakesWell, MakeApartIf, SameCounts, CountFacts, counts_set, settled_set, making_set, well_of, apart_of}
 use Rattle.hk_core.proofs.kinds.NewFlight.{new_inside, new_before_object, new_has_item, new_hand, new_holds_back, new_in_frame, new_before_frame, new_will_raise, new_has_raised, new_is_making, new_has_number, new_has_header, new_has_size, new_flight_facts}
 
 -- WHERE THE WORDS OF A NEW ARE

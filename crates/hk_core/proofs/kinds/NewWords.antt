@@ -1,8 +1,8 @@
 -- What the words of a row say after the events of a New, and that these events fit.
-use Rattle.std.proofs.Common.{◌≡◌, ℕ, zero, suc, ◌+◌, ◌*◌, ◌%◌, ◌^◌, ◌<◌, ◌≤◌, true, false, List, length, refl, sym, ◌∙◌, ap, arith}
+use Rattle.std.proofs.Common.{◌≡◌, ℕ, zero, suc, ◌+◌, ◌*◌, ◌^◌, ◌<◌, ◌≤◌, true, List, length, refl, ◌∙◌, ap, arith}
 use Rattle.hk_words.specs.declared.geometry.Geometry.{Geometry}
 use Rattle.hk_words.specs.declared.shape.Shape.{Shape}
-use Rattle.hk_words.specs.Geometry.{tasks, numbers, list_length, space_words, row_length}
+use Rattle.hk_words.specs.Geometry.{tasks, numbers, space_words, row_length}
 use Rattle.hk_words.specs.Shape.{size}
 use Rattle.hk_words.specs.Layout.{IsW0, w0_words, w0_objects, w0_cycle, raise_by, pack_header, words_bits, objects_bits, place_bits}
 use Rattle.hk_words.specs.Row.{word_of, w0_at, header_at, place_at}

@@ -17,3 +17,12 @@ pub mod ClaimWords
 pub mod LoadRead
 pub mod LoadWrite
 pub mod StoreWrite
+pub mod NewFlight
+pub mod NewLoads
+pub mod NewEntry
+pub mod NewRaise
+pub mod NewWords
+pub mod NewHeader
+pub mod NewBorn
+pub mod NewIsBorn
+pub mod NewHistory

@@ -6,26 +6,21 @@
 -- in the middle of, as WorkFacts (`marking_on`). WorkFacts take the line beside the spot. On each line they say what one
 -- record of this file says, `AtFrame`, `AtRegister` and so on: `at_frame` goes from WorkFacts to the record, and
 -- `frame_works` from the record to WorkFacts. So an event takes the record of its line, and gives the record of the next.
-use Rattle.std.proofs.Common.{◌≡◌, ◌≢◌, ◌⊎◌, ℕ, ◌+◌, ◌-◌, ◌*◌, ◌<◌, ◌≤◌, Bool, true, false, inl, inr, refl, sym, ◌∙◌, ap, subst, arith, Option, Some, None}
-use Rattle.std.proofs.lemmas.Bool.{cases_lt, ltb-true, lt-ltb, le-ltb}
+use Rattle.std.proofs.Common.{◌≡◌, ℕ, ◌≤◌, Bool, true, false, inl, inr, refl, sym, ◌∙◌, ap, subst, arith, Option, Some, None}
+use Rattle.std.proofs.lemmas.Bool.{lt-ltb, le-ltb}
 use Rattle.std.specs.Prelude.{nat_lt, if◌then◌else◌}
 use Rattle.hk_words.specs.declared.geometry.Geometry.{Geometry}
-use Rattle.hk_words.specs.Geometry.{tasks, numbers, list_length, space_words}
-use Rattle.hk_words.specs.Layout as layout
+use Rattle.hk_words.specs.Geometry.{tasks, list_length}
 use Rattle.hk_model.specs.View.{upd}
-use Rattle.hk_model.proofs.Updates.{upd_same, upd_other}
 use Rattle.hk_core.specs.declared.flight.Flight.{Flight}
 use Rattle.hk_core.specs.declared.spot.Spot.{Spot}
 use Rattle.hk_core.specs.declared.spot.Line.{Line}
 use Rattle.hk_core.specs.declared.spot.Line.TheVariants as line
-use Rattle.hk_core.specs.declared.spot.Stage.{Stage}
-use Rattle.hk_core.specs.declared.spot.Stage.TheVariants as stage
 use Rattle.hk_core.specs.Collect.{next_list}
-use Rattle.hk_core.specs.Step.{reference_size}
-use Rattle.hk_core.specs.View.{Words, Names, Contents, reference_at}
+use Rattle.hk_core.specs.View.{Words, Names, Contents}
 use Rattle.hk_core.specs.Flights.{Hand, hand_of_flight}
 use Rattle.hk_core.specs.Lines as l
-use Rattle.hk_core.specs.Colours.{Spaces, spaces_of, Shades, shades_of, held_by, kept_by, IsGood, IsNullOrMarked}
+use Rattle.hk_core.specs.Colours.{Spaces, spaces_of, Shades, shades_of, held_by, kept_by}
 use Rattle.hk_core.specs.Facts as fact
 use Rattle.hk_core.specs.Facts.{FrameBehind, ObjectBehind, IsSettled}
 use Rattle.hk_core.specs.Lawful.{Facts, FactsOf, hands_of}

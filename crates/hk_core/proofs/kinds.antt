@@ -26,3 +26,5 @@ pub mod NewHeader
 pub mod NewBorn
 pub mod NewIsBorn
 pub mod NewHistory
+pub mod Spots
+pub mod SpotLines

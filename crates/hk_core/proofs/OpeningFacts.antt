@@ -203,7 +203,7 @@ module _ (g : Geometry) (place mark accessors version frame_accessors frame_cycl
 
   formed : fact.FlightsFormed g idle
   unfolding idle
-  formed s h = record { seated = refl; in_row = omega arith; registers = λ e. never e; no_question = refl }
+  formed s h = record { seated = refl; in_row = omega arith; registers = λ e. never e; no_question = refl; entered_null = λ h. refl }
 
   in_step : fact.NewsInStep g idle
   unfolding idle

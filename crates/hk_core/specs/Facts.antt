@@ -396,13 +396,15 @@ NewsRecent g cycle flight = (s : ℕ) → s < tasks g → f.has_raised (flight s
 
 -- CALLS IN FLIGHT
 
--- A flight is that of its seat; its place is one of the call's row, its registers are those of the geometry, and it is
--- no question. Without it a call would go on past its last place.
+-- A flight is that of its seat; its place is one of the call's row, its registers are those of the geometry, it is no
+-- question, and a call that goes through no object names none. Without it a call would go on past its last place, or one
+-- that only copies a register would seem to hold a white object at the end of the pass.
 pub record IsFormed (g : Geometry) (s : ℕ) (flight : Flight) : Type 0 where
   pub seated : flight.seat ≡ s
   pub in_row : flight.place ≤ places_of flight.call
   pub registers : f.is_flying flight ≡ true → RegistersFit g.registers flight.call
   pub no_question : is_question flight.call ≡ false
+  pub entered_null : f.is_through flight.call ≡ false → flight.entered ≡ 0
 
 abbrev pub FlightsFormed : Geometry → (flight : ℕ → Flight) → Type 0
 FlightsFormed g flight = (s : ℕ) → s < tasks g → IsFormed g s (flight s)

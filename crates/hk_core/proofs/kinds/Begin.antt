@@ -214,6 +214,19 @@ good_first g kept names register begun call can good through =
 
 -- THE FACTS OF THE FIRST FLIGHT
 
+-- a call that goes through no object enters no register
+enters_none : (c : Call) → f.is_through c ≡ false → entered c ≡ None
+unfolding f.is_through
+enters_none (call.Get reg field) e = absurd (cc)
+enters_none (call.Put reg field value) e = absurd (cc)
+enters_none (call.Load dest reg field) e = absurd (cc)
+enters_none (call.Store reg field from) e = absurd (cc)
+enters_none (call.Move dest from) e = refl
+enters_none (call.Clear dest) e = refl
+enters_none (call.New dest shape) e = refl
+enters_none (call.Same a b) e = refl
+enters_none (call.IsNull reg) e = refl
+
 module _ (g : Geometry) (w : Words) (sh : Shades) (names : Names) (s begun : ℕ) (call : Call) (can : CanBegin g (w.register s) begun call) where
   -- what is true of null and of each register of the seat is true of the entered word, and of the copied one
   entered_true : (P : ℕ → Type 0) → P 0 → ((r : ℕ) → r < g.registers → P (w.register s r)) → P (word_in (w.register s) (entered call))
@@ -237,7 +250,7 @@ module _ (g : Geometry) (w : Words) (sh : Shades) (names : Names) (s begun : ℕ
         registers_shown = λ r h. first_shown x r _ start (o.registers_shown r h);
         entered_good = λ a b. good_first g sh.kept names (w.register s) begun call can good a;
         loaded_good = λ h. refuted _ t.has_loaded h;
-        formed = record { seated = refl; in_row = has_first_place call can.no_question; registers = λ h. can.registers; no_question = can.no_question };
+        formed = record { seated = refl; in_row = has_first_place call can.no_question; registers = λ h. can.registers; no_question = can.no_question; entered_null = λ h. rw (enters_none call h) refl };
         in_step = in_step_first call;
         field_there = λ h. can.has_field;
         entered_stays = λ r h e. rw e refl;

@@ -81,7 +81,7 @@ module _ (x : Flight) (q : ℕ) (claimer : Bool) (offset : ℕ) (t : GoesOnInCla
     registers_shown = λ r h. rw (t.same_item.holds_back r) (o.registers_shown r h);
     entered_good = λ a b. o.entered_good a t.goes.flying;
     loaded_good = λ h. o.loaded_good (sym t.same_item.has_loaded ∙ h);
-    formed = record { seated = o.formed.seated; in_row = t.goes.in_row; registers = λ h. o.formed.registers t.goes.flying; no_question = o.formed.no_question };
+    formed = record { seated = o.formed.seated; in_row = t.goes.in_row; registers = λ h. o.formed.registers t.goes.flying; no_question = o.formed.no_question; entered_null = o.formed.entered_null };
     in_step = t.goes.in_step x.full x.raised o.in_step;
     field_there = λ h. o.field_there t.goes.flying;
     entered_stays = λ r h. o.entered_stays r (sym t.goes.register_stays ∙ h);

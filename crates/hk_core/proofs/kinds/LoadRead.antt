@@ -246,7 +246,7 @@ module _ (x : Flight) (dest reg field v : ℕ) (is_load : x.call ≡ call.Load d
     ];
     entered_good = λ a b. o.entered_good a reads_flying;
     loaded_good = λ h. good;
-    formed = record { seated = o.formed.seated; in_row = reads_in_row; registers = λ h. o.formed.registers reads_flying; no_question = o.formed.no_question };
+    formed = record { seated = o.formed.seated; in_row = reads_in_row; registers = λ h. o.formed.registers reads_flying; no_question = o.formed.no_question; entered_null = o.formed.entered_null };
     in_step = reads_in_step o.in_step;
     field_there = λ h. o.field_there reads_flying;
     entered_stays = λ r h. o.entered_stays r reads_stays;

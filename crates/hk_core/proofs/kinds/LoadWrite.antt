@@ -260,7 +260,7 @@ module _ (x : Flight) (dest reg field : ℕ) (is_load : x.call ≡ call.Load des
     registers_shown = λ k h. rw (held_back_after k) (here k h);
     entered_good = λ a b. o.entered_good a writes_flying;
     loaded_good = λ h. o.loaded_good writes_has_loaded;
-    formed = record { seated = o.formed.seated; in_row = writes_in_row; registers = λ h. o.formed.registers writes_flying; no_question = o.formed.no_question };
+    formed = record { seated = o.formed.seated; in_row = writes_in_row; registers = λ h. o.formed.registers writes_flying; no_question = o.formed.no_question; entered_null = o.formed.entered_null };
     in_step = writes_in_step o.in_step;
     field_there = λ h. o.field_there writes_flying;
     entered_stays = λ r h e. o.entered_stays r writes_stays e

@@ -110,7 +110,7 @@ on_facts g w sh names plain s x q n dest shape was after within o =
     let from = was.from in
     let flying : f.is_flying x ≡ true = le-leb 1 x.place (omega arith) in
     new_flight_facts (new_on x q n) dest shape was.is_new g w sh names plain s
-    (record { seated = o.formed.seated; in_row = rw was.is_new within; registers = λ e. o.formed.registers flying; no_question = o.formed.no_question })
+    (record { seated = o.formed.seated; in_row = rw was.is_new within; registers = λ e. o.formed.registers flying; no_question = o.formed.no_question; entered_null = o.formed.entered_null })
     (record { not_full_yet = λ b. absurd (omega arith); not_raised_yet = λ b. absurd (omega arith); raised_by_then = λ b e. was.raised })
     (λ r b. rw (new_holds_back x dest shape was.is_new r) at (o.registers_shown r b))
     (λ e. o.late_in_no_black_frame (new_cycle_in_frame x dest shape was.is_new ∙ made_raised x dest shape was))

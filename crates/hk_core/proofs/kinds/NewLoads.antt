@@ -167,7 +167,7 @@ new_loads g w flight begun t names contents range s dest shape word below is_new
           (λ e. refuted _ (loaded_raised g x dest shape word is_new at_1 step) e);
       apart = λ u b d e. refuted _ (loaded_making g x dest shape word is_new at_1 step) e;
       facts = new_flight_facts y dest shape is_new g w sh names contents.register s
-          (record { seated = formed.seated; in_row = rw is_new (omega arith); registers = λ e. formed.registers flying; no_question = formed.no_question })
+          (record { seated = formed.seated; in_row = rw is_new (omega arith); registers = λ e. formed.registers flying; no_question = formed.no_question; entered_null = formed.entered_null })
           (loaded_step g x dest shape word is_new at_1 step)
           (λ r b. rw (new_holds_back x dest shape is_new r) at (h.registers_shown s r below b))
           (λ e. refuted _ (loaded_raised g x dest shape word is_new at_1 step) e);
@@ -275,7 +275,7 @@ new_rests g w flight begun t names contents range s q m dest shape below is_new 
       well = well_of_nothing g w sh y making number (full_room y dest shape is_new full later seven) (λ e. h.news_recent s below (raised e));
       apart = λ u b d e. refuted _ making e;
       facts = new_flight_facts y dest shape is_new g w sh names contents.register s
-          (record { seated = formed.seated; in_row = rw is_new seven; registers = λ e. formed.registers flying; no_question = formed.no_question })
+          (record { seated = formed.seated; in_row = rw is_new seven; registers = λ e. formed.registers flying; no_question = formed.no_question; entered_null = formed.entered_null })
           (rest_step x q m dest shape is_new full step from within to)
           (λ r b. rw (new_holds_back x dest shape is_new r) at (h.registers_shown s r below b))
           (λ e. h.late_in_no_black_frame s below (new_cycle_in_frame x dest shape is_new ∙ raised e));

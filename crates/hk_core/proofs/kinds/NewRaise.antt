@@ -325,7 +325,7 @@ module _ (g : Geometry) (w : Words) (z : Spaces) (sh : Shades) (flight : ℕ →
       let flies : FlightsFacts g w' sh names contents.register flight = assumption in
       let flights : FlightsFacts g w' sh names contents.register (upd flight s y) = flights_upd g w' sh names contents.register flight s y flies
       (new_flight_facts y dest shape is_new g w' sh names contents.register s
-      (record { seated = formed.seated; in_row = rw is_new (omega arith); registers = λ e. formed.registers flying; no_question = formed.no_question })
+      (record { seated = formed.seated; in_row = rw is_new (omega arith); registers = λ e. formed.registers flying; no_question = formed.no_question; entered_null = formed.entered_null })
       (record { not_full_yet = λ b. absurd (omega arith); not_raised_yet = λ b. absurd (omega arith); raised_by_then = λ b e. refl })
       (λ r b. rw (new_holds_back x dest shape is_new r) at (h.registers_shown s r below b))
       (λ e late. let cycle : layout.w0_cycle word ≡ w.cycle = found.cycle in absurd (omega arith))) in

@@ -462,7 +462,7 @@ module _ (x : Flight) (q at : ℕ) (t : GoesOn x.call x.place q) where
     registers_shown = λ r h. rw (item.holds_back r) (o.registers_shown r h);
     entered_good = λ a b. o.entered_good a t.flying;
     loaded_good = λ h. o.loaded_good (sym item.has_loaded ∙ h);
-    formed = record { seated = o.formed.seated; in_row = t.in_row; registers = λ h. o.formed.registers t.flying; no_question = o.formed.no_question };
+    formed = record { seated = o.formed.seated; in_row = t.in_row; registers = λ h. o.formed.registers t.flying; no_question = o.formed.no_question; entered_null = o.formed.entered_null };
     in_step = t.in_step x.full x.raised o.in_step;
     field_there = λ h. o.field_there t.flying;
     entered_stays = λ r h. o.entered_stays r (sym t.register_stays ∙ h);
@@ -524,7 +524,7 @@ idle_facts g w sh names plain s x back o = record {
   registers_shown = λ r h. idle_shown x r (w.register s r) (shown names (plain s r)) (back r) (o.registers_shown r h);
   entered_good = λ a b. never a;
   loaded_good = λ h. never h;
-  formed = record { seated = o.formed.seated; in_row = omega arith; registers = λ h. never h; no_question = refl };
+  formed = record { seated = o.formed.seated; in_row = omega arith; registers = λ h. never h; no_question = refl; entered_null = λ h. refl };
   in_step = record { not_full = refl; not_raised = refl };
   field_there = λ h. never h;
   entered_stays = λ r h. never h;

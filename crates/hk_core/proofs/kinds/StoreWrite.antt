@@ -477,7 +477,7 @@ module _ (x : Flight) (reg field from : ℕ) (is_store : x.call ≡ call.Store r
     registers_shown = λ r h. rw (rested_holds_nothing_back r) (rw (rest_holds_nothing_back r) at (o.registers_shown r h));
     entered_good = λ a b. o.entered_good a rest_goes.flying;
     loaded_good = λ h. refuted _ rested_has_not_loaded h;
-    formed = record { seated = o.formed.seated; in_row = rest_goes.in_row; registers = λ h. o.formed.registers rest_goes.flying; no_question = o.formed.no_question };
+    formed = record { seated = o.formed.seated; in_row = rest_goes.in_row; registers = λ h. o.formed.registers rest_goes.flying; no_question = o.formed.no_question; entered_null = o.formed.entered_null };
     in_step = rest_goes.in_step x.full x.raised o.in_step;
     field_there = λ h. o.field_there rest_goes.flying;
     entered_stays = λ r h. o.entered_stays r rest_stays;

@@ -17,3 +17,4 @@ pub mod ClaimWords
 pub mod LoadRead
 pub mod LoadWrite
 pub mod StoreWrite
+pub mod ReserveSeats

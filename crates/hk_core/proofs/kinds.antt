@@ -18,3 +18,4 @@ pub mod LoadRead
 pub mod LoadWrite
 pub mod StoreWrite
 pub mod ReserveSeats
+pub mod Link

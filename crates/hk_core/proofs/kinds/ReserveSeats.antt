@@ -1,22 +1,26 @@
--- A Load and a Store that are claimers reserve a place for the object of their reference; those that aren't rest.
-use Rattle.std.proofs.Common.{◌≡◌, ◌≢◌, ℕ, zero, suc, ◌+◌, ◌<◌, ◌≤◌, Bool, true, false, List, [], ◌∷◌, length, get_or, slice_get, inl, inr, refl, sym, ◌∙◌, ap, arith, Option, Some, None}
-use Rattle.std.proofs.lemmas.Bool.{and_parts, and_from}
-use Rattle.std.specs.Prelude.{is_some, unwrap_or, option_map, not, ◌&&◌, nat_eq}
+-- A Load and a Store that are claimers reserve a place for the object of their reference; those that aren't rest. And the steps
+-- of their claim and of their reserve, on the row.
+use Rattle.std.proofs.Common.{◌≡◌, ◌≢◌, ℕ, zero, suc, ◌+◌, ◌<◌, ◌≤◌, Bool, true, false, List, [], ◌∷◌, length, slice_get, inl, inr, refl, sym, ◌∙◌, ap, arith, Option, Some, None}
+use Rattle.std.proofs.lemmas.Bool.{and_parts, and_from, cases_Bool, cases_eq, eq-eqb, ne_eqb}
+use Rattle.std.specs.Prelude.{is_some, unwrap_or, option_map, if◌then◌else◌}
 use Rattle.hk_words.specs.declared.geometry.Geometry.{Geometry}
 use Rattle.hk_words.specs.declared.call.Call.{Call}
 use Rattle.hk_words.specs.declared.call.Call.TheVariants as call
-use Rattle.hk_words.specs.Geometry.{tasks}
-use Rattle.hk_words.specs.Layout as layout
+use Rattle.hk_words.specs.Geometry.{tasks, numbers, row_length}
+use Rattle.hk_words.specs.Row.{w1_at, mark_at}
+use Rattle.hk_words.specs.Row.Slot.{W1, Mark}
 use Rattle.hk_model.specs.View.{upd}
 use Rattle.hk_model.specs.Heap as heap
 use Rattle.hk_model.specs.Heap.{Object, Heap, born, of_object}
-use Rattle.hk_model.specs.History.{History, Legal, after, numbers}
+use Rattle.hk_model.specs.History.{History, Legal, after, numbers as numbers_given}
 use Rattle.hk_model.proofs.Histories.{bearer_is_last, length-numbers_born}
+use Rattle.hk_core.specs.declared.event.Event.TheVariants as event
 use Rattle.hk_core.specs.declared.flight.Flight.{Flight}
 use Rattle.hk_core.specs.declared.spot.Spot.{Spot}
 use Rattle.hk_core.specs.declared.spot.Line.{Line}
-use Rattle.hk_core.specs.Step.{reference_size}
-use Rattle.hk_core.specs.View.{Words, Names, Contents, refs_at, nums_at, size_at, names_of}
+use Rattle.hk_core.specs.Event.{fired_if, learnt}
+use Rattle.hk_core.specs.Step.{reference_size, claims, claim, reserve, load_event, load_took, load_entry_of, store_event, store_took, store_entry, event_at, event_of, took_at, took_of, effect_at, effect_of}
+use Rattle.hk_core.specs.View.{Words, Names, Contents, refs_at, nums_at, size_at, names_of, words_of, decoded}
 use Rattle.hk_core.specs.Flights as f
 use Rattle.hk_core.specs.Flights.{Hand, no_claim, to_reserve, to_link, hand_of_flight}
 use Rattle.hk_core.specs.Colours.{Spaces, spaces_of, Shades, shades_of, IsGood}
@@ -24,10 +28,14 @@ use Rattle.hk_core.specs.Facts as fact
 use Rattle.hk_core.specs.Facts.{HoldsClaim}
 use Rattle.hk_core.specs.Lawful.{Facts, FactsOf, hands_of}
 use Rattle.hk_core.proofs.Update.{upd_own}
+use Rattle.hk_core.proofs.Columns.{fired_if_some, fired_if_none, old_at, raw_mark, raw_w1}
+use Rattle.hk_core.proofs.kinds.Seats.{kept_means}
 use Rattle.hk_core.proofs.kinds.Read.{ShapesFit}
 use Rattle.hk_core.proofs.kinds.WriteCell.{ShadesMean, shades_mean, reference_parts, size_of_reference}
+use Rattle.hk_core.proofs.kinds.Claim.{claim_words}
 use Rattle.hk_core.proofs.kinds.ClaimFlights.{GoesOnInClaim, claim_on, go_on_in_claim, hands_set, hand_of_seat, shades_in_claim}
-use Rattle.hk_core.proofs.kinds.ClaimSeats.{claimed_number, load_item_good, store_item_good}
+use Rattle.hk_core.proofs.kinds.ClaimSeats.{ClaimsAt, claimed_number, claims_facts, claims_rests, load_claims_at, store_claims_at, load_item_good, store_item_good}
+use Rattle.hk_core.proofs.kinds.ClaimWords.{words-claim, words-reserve}
 use Rattle.hk_core.proofs.kinds.Reserve.{CanReserve, reserve_words, reserve_range, reserve_hand, reserve_facts}
 
 -- THE WORDS OF AN OBJECT
@@ -62,12 +70,12 @@ unfolding born heap.opening_of heap.opening
 one_born g = refl
 
 -- along a history each birth that bears a number has a field
-pub bearers_have_fields : (g : Geometry) (history : History) → Legal (heap.opening_of g) history → BearersHaveFields (names_of g history)
+pub bearers_have_fields : (g : Geometry) (past : History) → Legal (heap.opening_of g) past → BearersHaveFields (names_of g past)
 unfolding names_of
-bearers_have_fields g history legal n b e =
-    let within : b < length (numbers history) = ((bearer_is_last history n b).0 e).0 in
-    let births : length (numbers history) ≡ born (after (heap.opening_of g) history) = length-numbers_born (heap.opening_of g) history (one_born g) legal in
-    fields_of_birth (after (heap.opening_of g) history) b (omega arith)
+bearers_have_fields g past legal n b e =
+    let within : b < length (numbers_given past) = ((bearer_is_last past n b).0 e).0 in
+    let births : length (numbers_given past) ≡ born (after (heap.opening_of g) past) = length-numbers_born (heap.opening_of g) past (one_born g) legal in
+    fields_of_birth (after (heap.opening_of g) past) b (omega arith)
 
 -- TABLES
 
@@ -267,3 +275,210 @@ pub store_reserves_none : (g : Geometry) (w : Words) (flight : ℕ → Flight) (
     → FactsOf g w (upd flight s (claim_on (flight s) 5 (flight s).claimer 0)) begun t names contents range
 store_reserves_none g w flight begun t names contents range s reg field from below is_store at_4 late h =
     reserves_rests g w flight begun t names contents range s 5 below (rw (is_store, at_4) (store_reserves_at reg field from)) late h
+
+-- THE ROW OF A CLAIM
+
+nothing_learnt : (row : List ℕ) → learnt row None ≡ 0
+unfolding learnt
+nothing_learnt row = refl
+
+-- a claim finds the mark, and a reserve the words reserved
+pub found-claim : (g : Geometry) (row : List ℕ) (n c : ℕ) → n < numbers g → learnt row (Some (event.Max (mark_at g n) c)) ≡ (words_of g row).mark n
+unfolding words_of decoded learnt
+found-claim g row n c within = old_at g row (event.Max (mark_at g n) c) (Mark n) refl ∙ sym (raw_mark g row n within)
+
+pub found-reserve : (g : Geometry) (row : List ℕ) (size : ℕ) → learnt row (Some (event.Add (w1_at g) size)) ≡ (words_of g row).reserved
+unfolding words_of decoded learnt
+found-reserve g row size = old_at g row (event.Add (w1_at g) size) W1 refl ∙ sym (raw_w1 g row)
+
+-- the event of a claim, a rest where the reference is null, and the flight after it
+pub record ClaimSteps (g : Geometry) (x : Flight) (q : ℕ) : Type 0 where
+  pub event : x.item ≢ 0 → event_of g x ≡ Some (event.Max (mark_at g (claimed_number x)) (f.cycle_of x))
+  pub rest : x.item ≡ 0 → event_of g x ≡ None
+  pub took : (old : ℕ) → took_of g x old ≡ claim_on x q (claims x old) x.offset
+
+-- all facts hold of the row and of the flights after a call has claimed or rested
+pub claims_row : (g : Geometry) (row : List ℕ) (flight : ℕ → Flight) (begun : ℕ → ℕ) (t : Spot) (names : Names) (contents : Contents) (range : ℕ → Option ℕ) (s q : ℕ)
+    → s < tasks g → ClaimsAt (flight s).call (flight s).place q → ClaimSteps g (flight s) q → length row ≡ row_length g
+    → ((flight s).item ≢ 0 → IsGood (shades_of g (words_of g row) flight t.line names).kept names (flight s).item)
+    → FactsOf g (words_of g row) flight begun t names contents range
+    → FactsOf g (words_of g (fired_if row (event_of g (flight s)))) (upd flight s (took_of g (flight s) (learnt row (event_of g (flight s))))) begun t names contents range
+claims_row g row flight begun t names contents range s q below e step whole item h =
+    let x = flight s in
+    let n = claimed_number x in
+    let w = words_of g row in
+    elim (cases_eq x.item 0) [
+      | inl null ↦ rw (step.rest null) (rw (fired_if_none row, nothing_learnt row, step.took 0) (claims_rests g w flight begun t names contents range s q below e null h))
+      | inr some ↦
+          let fires = event.Max (mark_at g n) (f.cycle_of x) in
+          let good : IsGood (shades_of g w flight t.line names).kept names x.item = item some in
+          let within : n < numbers g = (kept_means g w flight t.line names n good.is_kept).within in
+          let words : words_of g (fired_if row (Some fires)) ≡ claim_words w n (f.cycle_of x) = ap (words_of g) (fired_if_some row fires) ∙ words-claim g row whole n (f.cycle_of x) within in
+          let found : learnt row (Some fires) ≡ w.mark n = found-claim g row n (f.cycle_of x) within in
+          rw (step.event some) (rw (words, found, step.took (w.mark n)) (claims_facts g w flight begun t names contents range s q below e some good.is_kept h))
+    ]
+
+module _ (g : Geometry) (x : Flight) (dest reg field : ℕ) (is_load : x.call ≡ call.Load dest reg field) (at_5 : x.place ≡ 5) where
+  -- the event of a Load's claim, and the flight after it; no entry is added
+  pub load_claim_event : x.item ≢ 0 → event_of g x ≡ Some (event.Max (mark_at g (claimed_number x)) (f.cycle_of x))
+  unfolding event_of event_at load_event claim
+  load_claim_event some = rw (is_load, at_5, ne_eqb x.item 0 some) refl
+
+  pub load_claim_rest : x.item ≡ 0 → event_of g x ≡ None
+  unfolding event_of event_at load_event claim
+  load_claim_rest null = rw (is_load, at_5, eq-eqb x.item 0 null) refl
+
+  pub load_claim_took : (old : ℕ) → took_of g x old ≡ claim_on x 6 (claims x old) x.offset
+  unfolding took_of took_at load_took
+  load_claim_took old = rw (is_load, at_5) refl
+
+  pub load_claim_entry : (old : ℕ) → effect_of g x old ≡ None
+  unfolding effect_of effect_at load_entry_of
+  load_claim_entry old = rw (is_load, at_5) refl
+
+module _ (g : Geometry) (x : Flight) (reg field from : ℕ) (is_store : x.call ≡ call.Store reg field from) (at_3 : x.place ≡ 3) where
+  -- that of a Store's claim
+  pub store_claim_event : x.item ≢ 0 → event_of g x ≡ Some (event.Max (mark_at g (claimed_number x)) (f.cycle_of x))
+  unfolding event_of event_at store_event claim
+  store_claim_event some = rw (is_store, at_3, ne_eqb x.item 0 some) refl
+
+  pub store_claim_rest : x.item ≡ 0 → event_of g x ≡ None
+  unfolding event_of event_at store_event claim
+  store_claim_rest null = rw (is_store, at_3, eq-eqb x.item 0 null) refl
+
+  pub store_claim_took : (old : ℕ) → took_of g x old ≡ claim_on x 4 (claims x old) x.offset
+  unfolding took_of took_at store_took
+  store_claim_took old = rw (is_store, at_3) refl
+
+  pub store_claim_entry : (old : ℕ) → effect_of g x old ≡ None
+  unfolding effect_of effect_at store_entry
+  store_claim_entry old = rw (is_store, at_3) refl
+
+-- all facts hold of the row and of the flights after a Load, or a Store, has claimed or rested
+pub load_claims_row : (g : Geometry) (row : List ℕ) (flight : ℕ → Flight) (begun : ℕ → ℕ) (t : Spot) (names : Names) (contents : Contents) (range : ℕ → Option ℕ) (s dest reg field : ℕ)
+    → s < tasks g → (flight s).call ≡ call.Load dest reg field → (flight s).place ≡ 5 → length row ≡ row_length g
+    → FactsOf g (words_of g row) flight begun t names contents range
+    → FactsOf g (words_of g (fired_if row (event_of g (flight s)))) (upd flight s (took_of g (flight s) (learnt row (event_of g (flight s))))) begun t names contents range
+load_claims_row g row flight begun t names contents range s dest reg field below is_load at_5 whole h =
+    claims_row g row flight begun t names contents range s 6 below (rw (is_load, at_5) (load_claims_at dest reg field)) (record {
+      event = load_claim_event g (flight s) dest reg field is_load at_5;
+      rest = load_claim_rest g (flight s) dest reg field is_load at_5;
+      took = load_claim_took g (flight s) dest reg field is_load at_5;
+    }) whole
+    (λ some. load_item_good g (shades_of g (words_of g row) flight t.line names).kept names flight s dest reg field below is_load (rw at_5 refl) some h.loaded_good) h
+
+pub store_claims_row : (g : Geometry) (row : List ℕ) (flight : ℕ → Flight) (begun : ℕ → ℕ) (t : Spot) (names : Names) (contents : Contents) (range : ℕ → Option ℕ) (s reg field from : ℕ)
+    → s < tasks g → (flight s).call ≡ call.Store reg field from → (flight s).place ≡ 3 → length row ≡ row_length g
+    → FactsOf g (words_of g row) flight begun t names contents range
+    → FactsOf g (words_of g (fired_if row (event_of g (flight s)))) (upd flight s (took_of g (flight s) (learnt row (event_of g (flight s))))) begun t names contents range
+store_claims_row g row flight begun t names contents range s reg field from below is_store at_3 whole h =
+    claims_row g row flight begun t names contents range s 4 below (rw (is_store, at_3) (store_claims_at reg field from)) (record {
+      event = store_claim_event g (flight s) reg field from is_store at_3;
+      rest = store_claim_rest g (flight s) reg field from is_store at_3;
+      took = store_claim_took g (flight s) reg field from is_store at_3;
+    }) whole
+    (λ some. store_item_good g (shades_of g (words_of g row) flight t.line names).kept names (words_of g row).register flight s reg field from below is_store (rw at_3 refl) some h.flights_formed h.copied_stays h.registers_good) h
+
+-- THE ROW OF A RESERVE
+
+-- the ranges after the place of a reserve: the claimer has one more
+abbrev pub range_reserved : Flight → (reserved : ℕ) → (range : ℕ → Option ℕ) → ℕ → Option ℕ
+range_reserved x reserved range = if x.claimer then reserve_range range reserved (claimed_number x) else range
+
+range_of_claimer : (x : Flight) (reserved : ℕ) (range : ℕ → Option ℕ) → x.claimer ≡ true → range_reserved x reserved range ≡ reserve_range range reserved (claimed_number x)
+range_of_claimer x reserved range first = rw first refl
+
+range_of_other : (x : Flight) (reserved : ℕ) (range : ℕ → Option ℕ) → x.claimer ≡ false → range_reserved x reserved range ≡ range
+range_of_other x reserved range late = rw late refl
+
+-- the event of a reserve, a rest where the call isn't the claimer, and the flight after it
+pub record ReserveSteps (g : Geometry) (x : Flight) (q : ℕ) : Type 0 where
+  pub event : x.claimer ≡ true → event_of g x ≡ Some (event.Add (w1_at g) (reference_size x.item))
+  pub rest : x.claimer ≡ false → event_of g x ≡ None
+  pub took : (old : ℕ) → took_of g x old ≡ claim_on x q x.claimer old
+
+-- all facts hold of the row and of the flights after a call has reserved or rested
+pub reserves_row : (g : Geometry) (row : List ℕ) (flight : ℕ → Flight) (begun : ℕ → ℕ) (t : Spot) (names : Names) (contents : Contents) (range : ℕ → Option ℕ) (s q : ℕ)
+    → s < tasks g → ReservesAt (flight s).call (flight s).place q → ReserveSteps g (flight s) q → length row ≡ row_length g
+    → ((flight s).item ≢ 0 → IsGood (shades_of g (words_of g row) flight t.line names).kept names (flight s).item) → ShapesFit names → BearersHaveFields names
+    → FactsOf g (words_of g row) flight begun t names contents range
+    → FactsOf g (words_of g (fired_if row (event_of g (flight s)))) (upd flight s (took_of g (flight s) (learnt row (event_of g (flight s))))) begun t names contents
+    (range_reserved (flight s) (words_of g row).reserved range)
+reserves_row g row flight begun t names contents range s q below e step whole item fit fields h =
+    let x = flight s in
+    let w = words_of g row in
+    elim (cases_Bool x.claimer) [
+      | inl first ↦
+          let fires = event.Add (w1_at g) (reference_size x.item) in
+          let words : words_of g (fired_if row (Some fires)) ≡ reserve_words w (reference_size x.item) = ap (words_of g) (fired_if_some row fires) ∙ words-reserve g row whole (reference_size x.item) in
+          let found : learnt row (Some fires) ≡ w.reserved = found-reserve g row (reference_size x.item) in
+          rw (step.event first, range_of_claimer x w.reserved range first) (rw (words, found, step.took w.reserved)
+          (reserves_facts g w flight begun t names contents range s q below e first item fit fields h))
+      | inr late ↦
+          rw (step.rest late, range_of_other x w.reserved range late) (rw (fired_if_none row, nothing_learnt row, step.took 0)
+          (reserves_rests g w flight begun t names contents range s q below e late h))
+    ]
+
+module _ (g : Geometry) (x : Flight) (dest reg field : ℕ) (is_load : x.call ≡ call.Load dest reg field) (at_6 : x.place ≡ 6) where
+  -- the event of a Load's reserve, and the flight after it; no entry is added
+  pub load_reserve_event : x.claimer ≡ true → event_of g x ≡ Some (event.Add (w1_at g) (reference_size x.item))
+  unfolding event_of event_at load_event reserve
+  load_reserve_event first = rw (is_load, at_6, first) refl
+
+  pub load_reserve_rest : x.claimer ≡ false → event_of g x ≡ None
+  unfolding event_of event_at load_event reserve
+  load_reserve_rest late = rw (is_load, at_6, late) refl
+
+  pub load_reserve_took : (old : ℕ) → took_of g x old ≡ claim_on x 7 x.claimer old
+  unfolding took_of took_at load_took
+  load_reserve_took old = rw (is_load, at_6) refl
+
+  pub load_reserve_entry : (old : ℕ) → effect_of g x old ≡ None
+  unfolding effect_of effect_at load_entry_of
+  load_reserve_entry old = rw (is_load, at_6) refl
+
+module _ (g : Geometry) (x : Flight) (reg field from : ℕ) (is_store : x.call ≡ call.Store reg field from) (at_4 : x.place ≡ 4) where
+  -- that of a Store's reserve
+  pub store_reserve_event : x.claimer ≡ true → event_of g x ≡ Some (event.Add (w1_at g) (reference_size x.item))
+  unfolding event_of event_at store_event reserve
+  store_reserve_event first = rw (is_store, at_4, first) refl
+
+  pub store_reserve_rest : x.claimer ≡ false → event_of g x ≡ None
+  unfolding event_of event_at store_event reserve
+  store_reserve_rest late = rw (is_store, at_4, late) refl
+
+  pub store_reserve_took : (old : ℕ) → took_of g x old ≡ claim_on x 5 x.claimer old
+  unfolding took_of took_at store_took
+  store_reserve_took old = rw (is_store, at_4) refl
+
+  pub store_reserve_entry : (old : ℕ) → effect_of g x old ≡ None
+  unfolding effect_of effect_at store_entry
+  store_reserve_entry old = rw (is_store, at_4) refl
+
+-- all facts hold of the row and of the flights after a Load, or a Store, has reserved or rested
+pub load_reserves_row : (g : Geometry) (row : List ℕ) (flight : ℕ → Flight) (begun : ℕ → ℕ) (t : Spot) (names : Names) (contents : Contents) (range : ℕ → Option ℕ) (s dest reg field : ℕ)
+    → s < tasks g → (flight s).call ≡ call.Load dest reg field → (flight s).place ≡ 6 → length row ≡ row_length g → ShapesFit names → BearersHaveFields names
+    → FactsOf g (words_of g row) flight begun t names contents range
+    → FactsOf g (words_of g (fired_if row (event_of g (flight s)))) (upd flight s (took_of g (flight s) (learnt row (event_of g (flight s))))) begun t names contents
+    (range_reserved (flight s) (words_of g row).reserved range)
+load_reserves_row g row flight begun t names contents range s dest reg field below is_load at_6 whole fit fields h =
+    reserves_row g row flight begun t names contents range s 7 below (rw (is_load, at_6) (load_reserves_at dest reg field)) (record {
+      event = load_reserve_event g (flight s) dest reg field is_load at_6;
+      rest = load_reserve_rest g (flight s) dest reg field is_load at_6;
+      took = load_reserve_took g (flight s) dest reg field is_load at_6;
+    }) whole
+    (λ some. load_item_good g (shades_of g (words_of g row) flight t.line names).kept names flight s dest reg field below is_load (rw at_6 refl) some h.loaded_good) fit fields h
+
+pub store_reserves_row : (g : Geometry) (row : List ℕ) (flight : ℕ → Flight) (begun : ℕ → ℕ) (t : Spot) (names : Names) (contents : Contents) (range : ℕ → Option ℕ) (s reg field from : ℕ)
+    → s < tasks g → (flight s).call ≡ call.Store reg field from → (flight s).place ≡ 4 → length row ≡ row_length g → ShapesFit names → BearersHaveFields names
+    → FactsOf g (words_of g row) flight begun t names contents range
+    → FactsOf g (words_of g (fired_if row (event_of g (flight s)))) (upd flight s (took_of g (flight s) (learnt row (event_of g (flight s))))) begun t names contents
+    (range_reserved (flight s) (words_of g row).reserved range)
+store_reserves_row g row flight begun t names contents range s reg field from below is_store at_4 whole fit fields h =
+    reserves_row g row flight begun t names contents range s 5 below (rw (is_store, at_4) (store_reserves_at reg field from)) (record {
+      event = store_reserve_event g (flight s) reg field from is_store at_4;
+      rest = store_reserve_rest g (flight s) reg field from is_store at_4;
+      took = store_reserve_took g (flight s) reg field from is_store at_4;
+    }) whole
+    (λ some. store_item_good g (shades_of g (words_of g row) flight t.line names).kept names (words_of g row).register flight s reg field from below is_store (rw at_4 refl) some h.flights_formed h.copied_stays h.registers_good)
+    fit fields h

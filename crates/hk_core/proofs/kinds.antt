@@ -19,3 +19,4 @@ pub mod LoadWrite
 pub mod StoreWrite
 pub mod ReserveSeats
 pub mod Link
+pub mod LinkSeats

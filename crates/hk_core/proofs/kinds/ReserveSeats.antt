@@ -1,19 +1,22 @@
 -- A Load and a Store that are claimers reserve a place for the object of their reference; those that aren't rest. And the steps
 -- of their claim and of their reserve, on the row.
-use Rattle.std.proofs.Common.{◌≡◌, ◌≢◌, ℕ, zero, suc, ◌+◌, ◌<◌, ◌≤◌, Bool, true, false, List, [], ◌∷◌, length, slice_get, inl, inr, refl, sym, ◌∙◌, ap, arith, Option, Some, None}
+use Rattle.std.proofs.Common.{◌≡◌, ◌≢◌, ℕ, zero, suc, ◌+◌, ◌^◌, ◌<◌, ◌≤◌, Bool, true, false, List, [], ◌∷◌, length, map, filter, slice_get, length-append, inl, inr, refl, sym, ◌∙◌, ap, arith, Option, Some, None}
 use Rattle.std.proofs.lemmas.Bool.{and_parts, and_from, cases_Bool, cases_eq, eq-eqb, ne_eqb}
+use Rattle.std.proofs.lemmas.List.Elements.{filter-append}
 use Rattle.std.specs.Prelude.{is_some, unwrap_or, option_map, if◌then◌else◌}
 use Rattle.hk_words.specs.declared.geometry.Geometry.{Geometry}
 use Rattle.hk_words.specs.declared.call.Call.{Call}
 use Rattle.hk_words.specs.declared.call.Call.TheVariants as call
+use Rattle.hk_words.specs.declared.call.Reply.{Reply}
+use Rattle.hk_words.specs.declared.call.Reply.TheVariants as reply
 use Rattle.hk_words.specs.Geometry.{tasks, numbers, row_length}
 use Rattle.hk_words.specs.Row.{w1_at, mark_at}
 use Rattle.hk_words.specs.Row.Slot.{W1, Mark}
 use Rattle.hk_model.specs.View.{upd}
 use Rattle.hk_model.specs.Heap as heap
 use Rattle.hk_model.specs.Heap.{Object, Heap, born, of_object}
-use Rattle.hk_model.specs.History.{History, Legal, after, numbers as numbers_given}
-use Rattle.hk_model.proofs.Histories.{bearer_is_last, length-numbers_born}
+use Rattle.hk_model.specs.History.{Entry, History, is_birth, births, after_entry, after, numbers as numbers_given}
+use Rattle.hk_model.proofs.Histories.{bearer_is_last, born-heap_after_other, born-heap_after_new}
 use Rattle.hk_core.specs.declared.event.Event.TheVariants as event
 use Rattle.hk_core.specs.declared.flight.Flight.{Flight}
 use Rattle.hk_core.specs.declared.spot.Spot.{Spot}
@@ -69,13 +72,68 @@ one_born : (g : Geometry) → born (heap.opening_of g) ≡ 1
 unfolding born heap.opening_of heap.opening
 one_born g = refl
 
+-- an entry that is a birth adds an object
+object_of_entry : (h : Heap) (seat number : ℕ) (call : Call) (reply : Reply)
+    → born h + length (filter is_birth (record { seat = seat; call = call; reply = reply; number = number } ∷ [])) ≤ born (after_entry h (record { seat = seat; call = call; reply = reply; number = number }))
+unfolding after_entry
+object_of_entry h seat number (call.Get reg field) reply = let e = born-heap_after_other h seat (call.Get reg field) refl in omega arith
+object_of_entry h seat number (call.Put reg field v) reply = let e = born-heap_after_other h seat (call.Put reg field v) refl in omega arith
+object_of_entry h seat number (call.Load dest reg field) reply = let e = born-heap_after_other h seat (call.Load dest reg field) refl in omega arith
+object_of_entry h seat number (call.Store reg field from) reply = let e = born-heap_after_other h seat (call.Store reg field from) refl in omega arith
+object_of_entry h seat number (call.Move dest from) reply = let e = born-heap_after_other h seat (call.Move dest from) refl in omega arith
+object_of_entry h seat number (call.Clear dest) reply = let e = born-heap_after_other h seat (call.Clear dest) refl in omega arith
+object_of_entry h seat number (call.New dest shape) reply.Unit = let e = born-heap_after_new h seat dest shape in omega arith
+object_of_entry h seat number (call.New dest shape) (reply.Num v) = let e = born-heap_after_new h seat dest shape in omega arith
+object_of_entry h seat number (call.New dest shape) reply.Yes = let e = born-heap_after_new h seat dest shape in omega arith
+object_of_entry h seat number (call.New dest shape) reply.No = let e = born-heap_after_new h seat dest shape in omega arith
+object_of_entry h seat number (call.New dest shape) reply.Nil = let e = born-heap_after_new h seat dest shape in omega arith
+object_of_entry h seat number (call.New dest shape) reply.Field = let e = born-heap_after_new h seat dest shape in omega arith
+object_of_entry h seat number (call.New dest shape) reply.Full = omega arith
+object_of_entry h seat number (call.Same a b) reply = let e = born-heap_after_other h seat (call.Same a b) refl in omega arith
+object_of_entry h seat number (call.IsNull reg) reply = let e = born-heap_after_other h seat (call.IsNull reg) refl in omega arith
+
+-- so each birth has its object
+objects_of_births : (start : Heap) (past : History) → born start + length (births past) ≤ born (after start past)
+unfolding after births
+objects_of_births start [] = omega arith
+objects_of_births start (e ∷ later) =
+    let one : born start + length (filter is_birth (e ∷ [])) ≤ born (after_entry start e) = object_of_entry start e.seat e.number e.call e.reply in
+    let more : born (after_entry start e) + length (filter is_birth later) ≤ born (after (after_entry start e) later) = objects_of_births (after_entry start e) later in
+    let parts : length (filter is_birth (e ∷ later)) ≡ length (filter is_birth (e ∷ [])) + length (filter is_birth later) =
+    ap length (filter-append is_birth (e ∷ []) later) ∙ length-append (filter is_birth (e ∷ [])) (filter is_birth later) in
+    omega arith
+
+length_of_numbers : (entries : List Entry) → length (map (λ (e : Entry). e.number) entries) ≡ length entries
+length_of_numbers [] = refl
+length_of_numbers (e ∷ entries) = ap suc (length_of_numbers entries)
+
+objects_of_numbers : (g : Geometry) (past : History) → length (numbers_given past) ≤ born (after (heap.opening_of g) past)
+unfolding numbers_given
+objects_of_numbers g past =
+    let one = one_born g in
+    let each = objects_of_births (heap.opening_of g) past in
+    let same : length (map (λ (e : Entry). e.number) (births past)) ≡ length (births past) = length_of_numbers (births past) in
+    omega arith
+
 -- along a history each birth that bears a number has a field
-pub bearers_have_fields : (g : Geometry) (past : History) → Legal (heap.opening_of g) past → BearersHaveFields (names_of g past)
+pub bearers_have_fields : (g : Geometry) (past : History) → BearersHaveFields (names_of g past)
 unfolding names_of
-bearers_have_fields g past legal n b e =
+bearers_have_fields g past n b e =
     let within : b < length (numbers_given past) = ((bearer_is_last past n b).0 e).0 in
-    let births : length (numbers_given past) ≡ born (after (heap.opening_of g) past) = length-numbers_born (heap.opening_of g) past (one_born g) legal in
+    let some = objects_of_numbers g past in
     fields_of_birth (after (heap.opening_of g) past) b (omega arith)
+
+-- and each birth has a shape whose parts a reference can hold
+small_in : (read : Object → ℕ) → ((o : Object) → read o < 2 ^ 8) → (objects : List Object) (i : ℕ) → unwrap_or (option_map read (slice_get objects i)) 0 < 2 ^ 8
+small_in read small [] i = omega arith
+small_in read small (o ∷ objects) zero = small o
+small_in read small (o ∷ objects) (suc i) = small_in read small objects i
+
+pub shapes_fit : (g : Geometry) (past : History) → ShapesFit (names_of g past)
+unfolding names_of heap.refs heap.nums of_object
+shapes_fit g past b =
+    let objects = (after (heap.opening_of g) past).objects in
+    (small_in (λ o. o.shape.refs) (λ o. let few = o.shape.few in omega arith) objects b, small_in (λ o. o.shape.nums) (λ o. let few = o.shape.few in omega arith) objects b)
 
 -- TABLES
 

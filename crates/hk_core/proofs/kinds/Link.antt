@@ -7,7 +7,7 @@ use Rattle.std.specs.Prelude.{nat_eq, nat_le, not, ◌&&◌}
 use Rattle.hk_words.specs.declared.geometry.Geometry.{Geometry}
 use Rattle.hk_words.specs.declared.call.Call.{Call}
 use Rattle.hk_words.specs.declared.call.Call.TheVariants as call
-use Rattle.hk_words.specs.Geometry.{tasks, numbers, space_words}
+use Rattle.hk_words.specs.Geometry.{tasks, numbers}
 use Rattle.hk_words.specs.Layout as layout
 use Rattle.hk_words.specs.Row.{place_at}
 use Rattle.hk_model.specs.View.{upd}
@@ -30,7 +30,7 @@ use Rattle.hk_core.specs.Lawful.{Facts}
 use Rattle.hk_core.proofs.Update.{upd_cases}
 use Rattle.hk_core.proofs.Counts.{count_kept}
 use Rattle.hk_core.proofs.kinds.Read.{ShapesFit}
-use Rattle.hk_core.proofs.kinds.WriteCell.{ShadesMean, IsGreyIn, WasMoved, IsMoving, CellFacts, cell_words, attempt_moves, loaded_moves, cleared_marks, reference_parts, size_of_reference}
+use Rattle.hk_core.proofs.kinds.WriteCell.{ShadesMean, IsGreyIn, IsMoving, CellFacts, cell_words, attempt_moves, loaded_moves, cleared_marks, reference_parts, size_of_reference}
 use Rattle.hk_core.proofs.kinds.Reserve.{size_some, marking_is_busy, grey_is_marking}
 
 -- what a link asks of whoever holds the claim: the reference is that of the object of its number, and the current space is one

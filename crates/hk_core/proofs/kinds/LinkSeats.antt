@@ -11,13 +11,12 @@ use Rattle.hk_model.specs.View.{upd}
 use Rattle.hk_core.specs.declared.event.Event.TheVariants as event
 use Rattle.hk_core.specs.declared.flight.Flight.{Flight}
 use Rattle.hk_core.specs.declared.spot.Spot.{Spot}
-use Rattle.hk_core.specs.Collect.{current_space}
 use Rattle.hk_core.specs.Event.{fired_if, learnt}
 use Rattle.hk_core.specs.Step.{reference_size, reserved_fits, side_of, link, load_event, load_took, load_entry_of, store_event, store_took, store_entry, event_at, event_of, took_at, took_of, effect_at, effect_of}
 use Rattle.hk_core.specs.View.{Words, Names, Contents, words_of}
 use Rattle.hk_core.specs.Flights as f
 use Rattle.hk_core.specs.Flights.{Hand, no_claim, to_link, hand_of_flight}
-use Rattle.hk_core.specs.Colours.{Spaces, spaces_of, Shades, shades_of, IsGood}
+use Rattle.hk_core.specs.Colours.{spaces_of, shades_of, IsGood}
 use Rattle.hk_core.specs.Facts.{HoldsRange}
 use Rattle.hk_core.specs.Lawful.{Facts, FactsOf, hands_of}
 use Rattle.hk_core.proofs.Update.{upd_own}

@@ -1,6 +1,6 @@
 -- A Load and a Store that are claimers reserve a place for the object of their reference; those that aren't rest. And the steps
 -- of their claim and of their reserve, on the row.
-use Rattle.std.proofs.Common.{◌≡◌, ◌≢◌, ℕ, zero, suc, ◌+◌, ◌^◌, ◌<◌, ◌≤◌, Bool, true, false, List, [], ◌∷◌, length, map, filter, slice_get, length-append, inl, inr, refl, sym, ◌∙◌, ap, arith, Option, Some, None}
+use Rattle.std.proofs.Common.{◌≡◌, ◌≢◌, ℕ, zero, suc, ◌+◌, ◌^◌, ◌<◌, ◌≤◌, true, false, List, [], ◌∷◌, length, map, filter, slice_get, length-append, inl, inr, refl, sym, ◌∙◌, ap, arith, Option, Some, None}
 use Rattle.std.proofs.lemmas.Bool.{and_parts, and_from, cases_Bool, cases_eq, eq-eqb, ne_eqb}
 use Rattle.std.proofs.lemmas.List.Elements.{filter-append}
 use Rattle.std.specs.Prelude.{is_some, unwrap_or, option_map, if◌then◌else◌}
@@ -26,8 +26,7 @@ use Rattle.hk_core.specs.Step.{reference_size, claims, claim, reserve, load_even
 use Rattle.hk_core.specs.View.{Words, Names, Contents, refs_at, nums_at, size_at, names_of, words_of, decoded}
 use Rattle.hk_core.specs.Flights as f
 use Rattle.hk_core.specs.Flights.{Hand, no_claim, to_reserve, to_link, hand_of_flight}
-use Rattle.hk_core.specs.Colours.{Spaces, spaces_of, Shades, shades_of, IsGood}
-use Rattle.hk_core.specs.Facts as fact
+use Rattle.hk_core.specs.Colours.{spaces_of, shades_of, IsGood}
 use Rattle.hk_core.specs.Facts.{HoldsClaim}
 use Rattle.hk_core.specs.Lawful.{Facts, FactsOf, hands_of}
 use Rattle.hk_core.proofs.Update.{upd_own}

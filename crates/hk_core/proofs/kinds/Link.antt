@@ -184,7 +184,7 @@ module _ (g : Geometry) (w : Words) (z : Spaces) (sh : Shades) (flight : ℕ →
       ]
 
   -- the word is in no kept object
-  in_no_object : (j i : ℕ) → sh.kept j ≡ true → i < sh.size j → w.place j + i ≢ z.current + offset
+  pub in_no_object : (j i : ℕ) → sh.kept j ≡ true → i < sh.size j → w.place j + i ≢ z.current + offset
   in_no_object j i kept below e =
       let area = offset_in_area in
       let ahead = not_scanned in

@@ -1,5 +1,5 @@
 -- A Load and a Store that have reserved a place that fits write the link word there; others rest. And this step on the row.
-use Rattle.std.proofs.Common.{◌≡◌, ◌≢◌, ℕ, ◌+◌, ◌*◌, ◌%◌, ◌<◌, ◌≤◌, Bool, true, false, List, length, inl, inr, refl, sym, ◌∙◌, ap, arith, Option, Some, None}
+use Rattle.std.proofs.Common.{◌≡◌, ◌≢◌, ℕ, ◌+◌, ◌-◌, ◌*◌, ◌%◌, ◌<◌, ◌≤◌, Bool, true, false, List, length, inl, inr, refl, sym, ◌∙◌, ap, arith, Option, Some, None}
 use Rattle.std.proofs.lemmas.Bool.{and_parts, and_from, and_right, cases_Bool, leb-true}
 use Rattle.std.specs.Prelude.{◌&&◌}
 use Rattle.hk_words.specs.declared.geometry.Geometry.{Geometry}
@@ -8,6 +8,7 @@ use Rattle.hk_words.specs.declared.call.Call.TheVariants as call
 use Rattle.hk_words.specs.Geometry.{tasks, space_words, row_length}
 use Rattle.hk_words.specs.Row.{place_at, space_at}
 use Rattle.hk_model.specs.View.{upd}
+use Rattle.hk_model.proofs.Updates.{upd_other}
 use Rattle.hk_core.specs.declared.event.Event.TheVariants as event
 use Rattle.hk_core.specs.declared.flight.Flight.{Flight}
 use Rattle.hk_core.specs.declared.spot.Spot.{Spot}
@@ -16,7 +17,7 @@ use Rattle.hk_core.specs.Step.{reference_size, reserved_fits, side_of, link, loa
 use Rattle.hk_core.specs.View.{Words, Names, Contents, words_of}
 use Rattle.hk_core.specs.Flights as f
 use Rattle.hk_core.specs.Flights.{Hand, no_claim, to_link, hand_of_flight}
-use Rattle.hk_core.specs.Colours.{spaces_of, shades_of, IsGood}
+use Rattle.hk_core.specs.Colours.{spaces_of, Shades, shades_of, Covers, IsGood}
 use Rattle.hk_core.specs.Facts.{HoldsRange}
 use Rattle.hk_core.specs.Lawful.{Facts, FactsOf, hands_of}
 use Rattle.hk_core.proofs.Update.{upd_own}
@@ -27,7 +28,8 @@ use Rattle.hk_core.proofs.kinds.WriteCell.{ShadesMean, shades_mean, cell_words, 
 use Rattle.hk_core.proofs.kinds.ClaimFlights.{GoesOnInClaim, claim_on, go_on_in_claim, hands_set, hand_of_seat, shades_in_claim}
 use Rattle.hk_core.proofs.kinds.ClaimSeats.{load_item_good, store_item_good}
 use Rattle.hk_core.proofs.kinds.ClaimWords.{link_place_fits}
-use Rattle.hk_core.proofs.kinds.Link.{CanLink, link_facts}
+use Rattle.hk_core.proofs.kinds.ReserveSeats.{SparesObjects}
+use Rattle.hk_core.proofs.kinds.Link.{CanLink, in_no_object, link_facts}
 
 -- the call has still to write the link word
 abbrev pub links : Geometry → Flight → Bool
@@ -75,6 +77,17 @@ link_place_is g c cycle offset e = rw e (at_first ((cycle % 2) * space_words g) 
 
 -- ALL FACTS
 
+-- what such a call shows of its link
+can_link : (g : Geometry) (w : Words) (flight : ℕ → Flight) (begun : ℕ → ℕ) (t : Spot) (names : Names) (contents : Contents) (range : ℕ → Option ℕ) (s q : ℕ)
+    → s < tasks g → LinksAt (flight s).call (flight s).place q → links g (flight s) ≡ true
+    → ((flight s).item ≢ 0 → IsGood (shades_of g w flight t.line names).kept names (flight s).item)
+    → FactsOf g w flight begun t names contents range
+    → CanLink g w.cycle (spaces_of g w.cycle) names (hands_of g flight t) s (flight s).item (f.cycle_of (flight s)) (flight s).offset
+can_link g w flight begun t names contents range s q below e in_hand item h =
+    let x = flight s in
+    let holds : hands_of g flight t s ≡ to_link x.item (f.cycle_of x) x.offset = hand_of_seat g t flight s below ∙ hand_before_link g x q e in_hand in
+    record { within = omega arith; holds = holds; shows = (item (h.claims_unlinked s x.item (f.cycle_of x) x.offset (omega arith) holds).some).shows; current = refl; live = refl }
+
 -- after the claimer of a good reference has linked
 pub links_facts : (g : Geometry) (w : Words) (flight : ℕ → Flight) (begun : ℕ → ℕ) (t : Spot) (names : Names) (contents : Contents) (range : ℕ → Option ℕ) (s q : ℕ)
     → s < tasks g → LinksAt (flight s).call (flight s).place q → links g (flight s) ≡ true
@@ -90,10 +103,8 @@ links_facts g w flight begun t names contents range s q below e in_hand item fit
     let p = z.current + x.offset in
     let words = cell_words w p x.item in
     let m : ShadesMean g w z sh flight t.line names = shades_mean g w flight t.line names in
-    let holds : hands_of g flight t s ≡ to_link x.item c x.offset = hand_of_seat g t flight s below ∙ hand_before_link g x q e in_hand in
-    let held : HoldsRange z w.cycle sh.grey sh.size w.cell range x.item c x.offset = h.claims_unlinked s x.item c x.offset (omega arith) holds in
-    let good : IsGood sh.kept names x.item = item held.some in
-    let can : CanLink g w.cycle z names (hands_of g flight t) s x.item c x.offset = record { within = omega arith; holds = holds; shows = good.shows; current = refl; live = refl } in
+    let can : CanLink g w.cycle z names (hands_of g flight t) s x.item c x.offset = can_link g w flight begun t names contents range s q below e in_hand item h in
+    let held : HoldsRange z w.cycle sh.grey sh.size w.cell range x.item c x.offset = h.claims_unlinked s x.item c x.offset can.within can.holds in
     let linked : Facts g words z sh flight begun (upd (hands_of g flight t) s no_claim) t names contents range =
     link_facts g w z sh flight begun (hands_of g flight t) t names contents range h m fit s x.item c x.offset can in
     let on : Facts g words z sh (upd flight s y) begun (upd (hands_of g flight t) s no_claim) t names contents range =
@@ -226,6 +237,16 @@ pub record LinkSteps (g : Geometry) (x : Flight) (q : ℕ) : Type 0 where
   pub rest : links g x ≡ false → event_of g x ≡ None
   pub took : (old : ℕ) → took_of g x old ≡ claim_on x q x.claimer x.offset
 
+-- what the words say after a link
+pub words-link : (g : Geometry) (row : List ℕ) → length row ≡ row_length g → (x : Flight) → links g x ≡ true
+    → words_of g (fired_if row (Some (event.Write (space_at g (link_place g x)) x.item))) ≡ cell_words (words_of g row) (link_place g x) x.item
+words-link g row whole x in_hand =
+    let p = link_place g x in
+    let fires = event.Write (space_at g p) x.item in
+    let fits : x.offset + reference_size x.item ≤ g.live = leb-true (x.offset + reference_size x.item) g.live (and_parts x.claimer (reserved_fits g x.offset x.item) in_hand).1 in
+    let within : (0 < p) × (p ≤ 2 * space_words g) = link_place_fits g (f.cycle_of x) x.offset (reference_size x.item) (omega arith) fits in
+    ap (words_of g) (fired_if_some row fires) ∙ words-write_cell g row whole p x.item within.0 within.1
+
 -- all facts hold of the row and of the flights after a call has linked or rested
 pub links_row : (g : Geometry) (row : List ℕ) (flight : ℕ → Flight) (begun : ℕ → ℕ) (t : Spot) (names : Names) (contents : Contents) (range : ℕ → Option ℕ) (s q : ℕ)
     → s < tasks g → LinksAt (flight s).call (flight s).place q → LinkSteps g (flight s) q → length row ≡ row_length g
@@ -239,12 +260,38 @@ links_row g row flight begun t names contents range s q below e step whole item 
     elim (cases_Bool (links g x)) [
       | inl in_hand ↦
           let fires = event.Write (space_at g p) x.item in
-          let fits : x.offset + reference_size x.item ≤ g.live = leb-true (x.offset + reference_size x.item) g.live (and_parts x.claimer (reserved_fits g x.offset x.item) in_hand).1 in
-          let within : (0 < p) × (p ≤ 2 * space_words g) = link_place_fits g (f.cycle_of x) x.offset (reference_size x.item) (omega arith) fits in
-          let words : words_of g (fired_if row (Some fires)) ≡ cell_words w p x.item = ap (words_of g) (fired_if_some row fires) ∙ words-write_cell g row whole p x.item within.0 within.1 in
+          let words : words_of g (fired_if row (Some fires)) ≡ cell_words w p x.item = words-link g row whole x in_hand in
           rw (step.event in_hand) (rw (words, step.took (learnt row (Some fires))) (links_facts g w flight begun t names contents range s q below e in_hand item fit h))
       | inr none ↦ rw (step.rest none) (rw (fired_if_none row, step.took (learnt row None)) (links_rests g w flight begun t names contents range s q below e none h))
     ]
+
+-- the word that a link writes is in no kept object
+pub links_spare : (g : Geometry) (row : List ℕ) (flight : ℕ → Flight) (begun : ℕ → ℕ) (t : Spot) (names : Names) (contents : Contents) (range : ℕ → Option ℕ) (s q : ℕ)
+    → s < tasks g → LinksAt (flight s).call (flight s).place q → LinkSteps g (flight s) q → length row ≡ row_length g
+    → ((flight s).item ≢ 0 → IsGood (shades_of g (words_of g row) flight t.line names).kept names (flight s).item) → ShapesFit names
+    → FactsOf g (words_of g row) flight begun t names contents range
+    → SparesObjects (words_of g row) (words_of g (fired_if row (event_of g (flight s)))) (shades_of g (words_of g row) flight t.line names)
+links_spare g row flight begun t names contents range s q below e step whole item fit h =
+    let x = flight s in
+    let w = words_of g row in
+    let z = spaces_of g w.cycle in
+    let sh = shades_of g w flight t.line names in
+    elim (cases_Bool (links g x)) [
+      | inl in_hand ↦
+          let can : CanLink g w.cycle z names (hands_of g flight t) s x.item (f.cycle_of x) x.offset = can_link g w flight begun t names contents range s q below e in_hand item h in
+          let held : HoldsRange z w.cycle sh.grey sh.size w.cell range x.item (f.cycle_of x) x.offset = h.claims_unlinked s x.item (f.cycle_of x) x.offset can.within can.holds in
+          let place : link_place g x ≡ z.current + x.offset = link_place_is g (f.cycle_of x) w.cycle x.offset held.of_cycle in
+          let apart : (n i : ℕ) → sh.kept n ≡ true → i < sh.size n → w.place n + i ≢ z.current + x.offset =
+          in_no_object g w z sh flight begun (hands_of g flight t) t names contents range h (shades_mean g w flight t.line names) fit s x.item (f.cycle_of x) x.offset can in
+          rw (step.event in_hand) (rw (words-link g row whole x in_hand) (record { place = refl; cells = λ n p kept covers. upd_other w.cell (link_place g x) x.item p (outside w sh n p (link_place g x) covers (λ i within. λ same. apart n i kept within (same ∙ place))) }))
+      | inr none ↦ rw (step.rest none) (rw (fired_if_none row) (record { place = refl; cells = λ n p kept covers. refl }))
+    ]
+  where
+    outside : (w : Words) (sh : Shades) (n p other : ℕ) → Covers (w.place n) (sh.size n) p → ((i : ℕ) → i < sh.size n → w.place n + i ≢ other) → p ≢ other
+    outside w sh n p other covers apart same =
+        let after : w.place n ≤ p = covers.after in
+        let before : p < w.place n + sh.size n = covers.before in
+        apart (p - w.place n) (omega arith) (omega arith)
 
 module _ (g : Geometry) (x : Flight) (dest reg field : ℕ) (is_load : x.call ≡ call.Load dest reg field) (at_7 : x.place ≡ 7) where
   -- the event of a Load's link, and the flight after it; no entry is added
@@ -264,6 +311,9 @@ module _ (g : Geometry) (x : Flight) (dest reg field : ℕ) (is_load : x.call �
   unfolding effect_of effect_at load_entry_of
   load_link_entry old = rw (is_load, at_7) refl
 
+  pub load_link_steps : LinkSteps g x 8
+  load_link_steps = record { event = load_link_event; rest = load_link_rest; took = load_link_took }
+
 module _ (g : Geometry) (x : Flight) (reg field from : ℕ) (is_store : x.call ≡ call.Store reg field from) (at_5 : x.place ≡ 5) where
   -- that of a Store's link
   pub store_link_event : links g x ≡ true → event_of g x ≡ Some (event.Write (space_at g (link_place g x)) x.item)
@@ -282,17 +332,16 @@ module _ (g : Geometry) (x : Flight) (reg field from : ℕ) (is_store : x.call �
   unfolding effect_of effect_at store_entry
   store_link_entry old = rw (is_store, at_5) refl
 
+  pub store_link_steps : LinkSteps g x 6
+  store_link_steps = record { event = store_link_event; rest = store_link_rest; took = store_link_took }
+
 -- all facts hold of the row and of the flights after a Load, or a Store, has linked or rested
 pub load_links_row : (g : Geometry) (row : List ℕ) (flight : ℕ → Flight) (begun : ℕ → ℕ) (t : Spot) (names : Names) (contents : Contents) (range : ℕ → Option ℕ) (s dest reg field : ℕ)
     → s < tasks g → (flight s).call ≡ call.Load dest reg field → (flight s).place ≡ 7 → length row ≡ row_length g → ShapesFit names
     → FactsOf g (words_of g row) flight begun t names contents range
     → FactsOf g (words_of g (fired_if row (event_of g (flight s)))) (upd flight s (took_of g (flight s) (learnt row (event_of g (flight s))))) begun t names contents range
 load_links_row g row flight begun t names contents range s dest reg field below is_load at_7 whole fit h =
-    links_row g row flight begun t names contents range s 8 below (rw (is_load, at_7) (load_links_at dest reg field)) (record {
-      event = load_link_event g (flight s) dest reg field is_load at_7;
-      rest = load_link_rest g (flight s) dest reg field is_load at_7;
-      took = load_link_took g (flight s) dest reg field is_load at_7;
-    }) whole
+    links_row g row flight begun t names contents range s 8 below (rw (is_load, at_7) (load_links_at dest reg field)) (load_link_steps g (flight s) dest reg field is_load at_7) whole
     (λ some. load_item_good g (shades_of g (words_of g row) flight t.line names).kept names flight s dest reg field below is_load (rw at_7 refl) some h.loaded_good) fit h
 
 pub store_links_row : (g : Geometry) (row : List ℕ) (flight : ℕ → Flight) (begun : ℕ → ℕ) (t : Spot) (names : Names) (contents : Contents) (range : ℕ → Option ℕ) (s reg field from : ℕ)
@@ -300,9 +349,22 @@ pub store_links_row : (g : Geometry) (row : List ℕ) (flight : ℕ → Flight) 
     → FactsOf g (words_of g row) flight begun t names contents range
     → FactsOf g (words_of g (fired_if row (event_of g (flight s)))) (upd flight s (took_of g (flight s) (learnt row (event_of g (flight s))))) begun t names contents range
 store_links_row g row flight begun t names contents range s reg field from below is_store at_5 whole fit h =
-    links_row g row flight begun t names contents range s 6 below (rw (is_store, at_5) (store_links_at reg field from)) (record {
-      event = store_link_event g (flight s) reg field from is_store at_5;
-      rest = store_link_rest g (flight s) reg field from is_store at_5;
-      took = store_link_took g (flight s) reg field from is_store at_5;
-    }) whole
+    links_row g row flight begun t names contents range s 6 below (rw (is_store, at_5) (store_links_at reg field from)) (store_link_steps g (flight s) reg field from is_store at_5) whole
+    (λ some. store_item_good g (shades_of g (words_of g row) flight t.line names).kept names (words_of g row).register flight s reg field from below is_store (rw at_5 refl) some h.flights_formed h.copied_stays h.registers_good) fit h
+
+-- and this place leaves every kept object alone
+pub load_links_spare : (g : Geometry) (row : List ℕ) (flight : ℕ → Flight) (begun : ℕ → ℕ) (t : Spot) (names : Names) (contents : Contents) (range : ℕ → Option ℕ) (s dest reg field : ℕ)
+    → s < tasks g → (flight s).call ≡ call.Load dest reg field → (flight s).place ≡ 7 → length row ≡ row_length g → ShapesFit names
+    → FactsOf g (words_of g row) flight begun t names contents range
+    → SparesObjects (words_of g row) (words_of g (fired_if row (event_of g (flight s)))) (shades_of g (words_of g row) flight t.line names)
+load_links_spare g row flight begun t names contents range s dest reg field below is_load at_7 whole fit h =
+    links_spare g row flight begun t names contents range s 8 below (rw (is_load, at_7) (load_links_at dest reg field)) (load_link_steps g (flight s) dest reg field is_load at_7) whole
+    (λ some. load_item_good g (shades_of g (words_of g row) flight t.line names).kept names flight s dest reg field below is_load (rw at_7 refl) some h.loaded_good) fit h
+
+pub store_links_spare : (g : Geometry) (row : List ℕ) (flight : ℕ → Flight) (begun : ℕ → ℕ) (t : Spot) (names : Names) (contents : Contents) (range : ℕ → Option ℕ) (s reg field from : ℕ)
+    → s < tasks g → (flight s).call ≡ call.Store reg field from → (flight s).place ≡ 5 → length row ≡ row_length g → ShapesFit names
+    → FactsOf g (words_of g row) flight begun t names contents range
+    → SparesObjects (words_of g row) (words_of g (fired_if row (event_of g (flight s)))) (shades_of g (words_of g row) flight t.line names)
+store_links_spare g row flight begun t names contents range s reg field from below is_store at_5 whole fit h =
+    links_spare g row flight begun t names contents range s 6 below (rw (is_store, at_5) (store_links_at reg field from)) (store_link_steps g (flight s) reg field from is_store at_5) whole
     (λ some. store_item_good g (shades_of g (words_of g row) flight t.line names).kept names (words_of g row).register flight s reg field from below is_store (rw at_5 refl) some h.flights_formed h.copied_stays h.registers_good) fit h

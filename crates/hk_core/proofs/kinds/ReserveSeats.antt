@@ -26,7 +26,7 @@ use Rattle.hk_core.specs.Step.{reference_size, claims, claim, reserve, load_even
 use Rattle.hk_core.specs.View.{Words, Names, Contents, refs_at, nums_at, size_at, names_of, words_of, decoded}
 use Rattle.hk_core.specs.Flights as f
 use Rattle.hk_core.specs.Flights.{Hand, no_claim, to_reserve, to_link, hand_of_flight}
-use Rattle.hk_core.specs.Colours.{spaces_of, shades_of, IsGood}
+use Rattle.hk_core.specs.Colours.{spaces_of, Shades, shades_of, Covers, IsGood}
 use Rattle.hk_core.specs.Facts.{HoldsClaim}
 use Rattle.hk_core.specs.Lawful.{Facts, FactsOf, hands_of}
 use Rattle.hk_core.proofs.Update.{upd_own}
@@ -335,6 +335,11 @@ store_reserves_none g w flight begun t names contents range s reg field from bel
 
 -- THE ROW OF A CLAIM
 
+-- words after an event by which each kept number stays at its place, and keeps the words of its object
+pub record SparesObjects (before after : Words) (sh : Shades) : Type 0 where
+  pub place : after.place ≡ before.place
+  pub cells : (n p : ℕ) → sh.kept n ≡ true → Covers (before.place n) (sh.size n) p → after.cell p ≡ before.cell p
+
 nothing_learnt : (row : List ℕ) → learnt row None ≡ 0
 unfolding learnt
 nothing_learnt row = refl
@@ -375,6 +380,18 @@ claims_row g row flight begun t names contents range s q below e step whole item
           rw (step.event some) (rw (words, found, step.took (w.mark n)) (claims_facts g w flight begun t names contents range s q below e some good.is_kept h))
     ]
 
+-- a claim leaves every object alone
+pub claims_spare : (g : Geometry) (row : List ℕ) (x : Flight) (q : ℕ) (sh : Shades) → ClaimSteps g x q → length row ≡ row_length g
+    → (x.item ≢ 0 → claimed_number x < numbers g) → SparesObjects (words_of g row) (words_of g (fired_if row (event_of g x))) sh
+claims_spare g row x q sh step whole within = elim (cases_eq x.item 0) [
+  | inl null ↦ rw (step.rest null) (rw (fired_if_none row) (record { place = refl; cells = λ n p kept covers. refl }))
+  | inr some ↦
+      let fires = event.Max (mark_at g (claimed_number x)) (f.cycle_of x) in
+      let words : words_of g (fired_if row (Some fires)) ≡ claim_words (words_of g row) (claimed_number x) (f.cycle_of x) =
+      ap (words_of g) (fired_if_some row fires) ∙ words-claim g row whole (claimed_number x) (f.cycle_of x) (within some) in
+      rw (step.event some) (rw words (record { place = refl; cells = λ n p kept covers. refl }))
+]
+
 module _ (g : Geometry) (x : Flight) (dest reg field : ℕ) (is_load : x.call ≡ call.Load dest reg field) (at_5 : x.place ≡ 5) where
   -- the event of a Load's claim, and the flight after it; no entry is added
   pub load_claim_event : x.item ≢ 0 → event_of g x ≡ Some (event.Max (mark_at g (claimed_number x)) (f.cycle_of x))
@@ -392,6 +409,9 @@ module _ (g : Geometry) (x : Flight) (dest reg field : ℕ) (is_load : x.call �
   pub load_claim_entry : (old : ℕ) → effect_of g x old ≡ None
   unfolding effect_of effect_at load_entry_of
   load_claim_entry old = rw (is_load, at_5) refl
+
+  pub load_claim_steps : ClaimSteps g x 6
+  load_claim_steps = record { event = load_claim_event; rest = load_claim_rest; took = load_claim_took }
 
 module _ (g : Geometry) (x : Flight) (reg field from : ℕ) (is_store : x.call ≡ call.Store reg field from) (at_3 : x.place ≡ 3) where
   -- that of a Store's claim
@@ -411,17 +431,16 @@ module _ (g : Geometry) (x : Flight) (reg field from : ℕ) (is_store : x.call �
   unfolding effect_of effect_at store_entry
   store_claim_entry old = rw (is_store, at_3) refl
 
+  pub store_claim_steps : ClaimSteps g x 4
+  store_claim_steps = record { event = store_claim_event; rest = store_claim_rest; took = store_claim_took }
+
 -- all facts hold of the row and of the flights after a Load, or a Store, has claimed or rested
 pub load_claims_row : (g : Geometry) (row : List ℕ) (flight : ℕ → Flight) (begun : ℕ → ℕ) (t : Spot) (names : Names) (contents : Contents) (range : ℕ → Option ℕ) (s dest reg field : ℕ)
     → s < tasks g → (flight s).call ≡ call.Load dest reg field → (flight s).place ≡ 5 → length row ≡ row_length g
     → FactsOf g (words_of g row) flight begun t names contents range
     → FactsOf g (words_of g (fired_if row (event_of g (flight s)))) (upd flight s (took_of g (flight s) (learnt row (event_of g (flight s))))) begun t names contents range
 load_claims_row g row flight begun t names contents range s dest reg field below is_load at_5 whole h =
-    claims_row g row flight begun t names contents range s 6 below (rw (is_load, at_5) (load_claims_at dest reg field)) (record {
-      event = load_claim_event g (flight s) dest reg field is_load at_5;
-      rest = load_claim_rest g (flight s) dest reg field is_load at_5;
-      took = load_claim_took g (flight s) dest reg field is_load at_5;
-    }) whole
+    claims_row g row flight begun t names contents range s 6 below (rw (is_load, at_5) (load_claims_at dest reg field)) (load_claim_steps g (flight s) dest reg field is_load at_5) whole
     (λ some. load_item_good g (shades_of g (words_of g row) flight t.line names).kept names flight s dest reg field below is_load (rw at_5 refl) some h.loaded_good) h
 
 pub store_claims_row : (g : Geometry) (row : List ℕ) (flight : ℕ → Flight) (begun : ℕ → ℕ) (t : Spot) (names : Names) (contents : Contents) (range : ℕ → Option ℕ) (s reg field from : ℕ)
@@ -429,12 +448,27 @@ pub store_claims_row : (g : Geometry) (row : List ℕ) (flight : ℕ → Flight)
     → FactsOf g (words_of g row) flight begun t names contents range
     → FactsOf g (words_of g (fired_if row (event_of g (flight s)))) (upd flight s (took_of g (flight s) (learnt row (event_of g (flight s))))) begun t names contents range
 store_claims_row g row flight begun t names contents range s reg field from below is_store at_3 whole h =
-    claims_row g row flight begun t names contents range s 4 below (rw (is_store, at_3) (store_claims_at reg field from)) (record {
-      event = store_claim_event g (flight s) reg field from is_store at_3;
-      rest = store_claim_rest g (flight s) reg field from is_store at_3;
-      took = store_claim_took g (flight s) reg field from is_store at_3;
-    }) whole
+    claims_row g row flight begun t names contents range s 4 below (rw (is_store, at_3) (store_claims_at reg field from)) (store_claim_steps g (flight s) reg field from is_store at_3) whole
     (λ some. store_item_good g (shades_of g (words_of g row) flight t.line names).kept names (words_of g row).register flight s reg field from below is_store (rw at_3 refl) some h.flights_formed h.copied_stays h.registers_good) h
+
+-- and this place leaves every kept object alone
+pub load_claims_spare : (g : Geometry) (row : List ℕ) (flight : ℕ → Flight) (begun : ℕ → ℕ) (t : Spot) (names : Names) (contents : Contents) (range : ℕ → Option ℕ) (s dest reg field : ℕ)
+    → s < tasks g → (flight s).call ≡ call.Load dest reg field → (flight s).place ≡ 5 → length row ≡ row_length g → FactsOf g (words_of g row) flight begun t names contents range
+    → SparesObjects (words_of g row) (words_of g (fired_if row (event_of g (flight s)))) (shades_of g (words_of g row) flight t.line names)
+load_claims_spare g row flight begun t names contents range s dest reg field below is_load at_5 whole h =
+    let sh = shades_of g (words_of g row) flight t.line names in
+    claims_spare g row (flight s) 6 sh (load_claim_steps g (flight s) dest reg field is_load at_5) whole
+    (λ some. (kept_means g (words_of g row) flight t.line names (claimed_number (flight s))
+    (load_item_good g sh.kept names flight s dest reg field below is_load (rw at_5 refl) some h.loaded_good).is_kept).within)
+
+pub store_claims_spare : (g : Geometry) (row : List ℕ) (flight : ℕ → Flight) (begun : ℕ → ℕ) (t : Spot) (names : Names) (contents : Contents) (range : ℕ → Option ℕ) (s reg field from : ℕ)
+    → s < tasks g → (flight s).call ≡ call.Store reg field from → (flight s).place ≡ 3 → length row ≡ row_length g → FactsOf g (words_of g row) flight begun t names contents range
+    → SparesObjects (words_of g row) (words_of g (fired_if row (event_of g (flight s)))) (shades_of g (words_of g row) flight t.line names)
+store_claims_spare g row flight begun t names contents range s reg field from below is_store at_3 whole h =
+    let sh = shades_of g (words_of g row) flight t.line names in
+    claims_spare g row (flight s) 4 sh (store_claim_steps g (flight s) reg field from is_store at_3) whole
+    (λ some. (kept_means g (words_of g row) flight t.line names (claimed_number (flight s))
+    (store_item_good g sh.kept names (words_of g row).register flight s reg field from below is_store (rw at_3 refl) some h.flights_formed h.copied_stays h.registers_good).is_kept).within)
 
 -- THE ROW OF A RESERVE
 
@@ -476,6 +510,18 @@ reserves_row g row flight begun t names contents range s q below e step whole it
           (reserves_rests g w flight begun t names contents range s q below e late h))
     ]
 
+-- a reserve leaves every object alone
+pub reserves_spare : (g : Geometry) (row : List ℕ) (x : Flight) (q : ℕ) (sh : Shades) → ReserveSteps g x q → length row ≡ row_length g
+    → SparesObjects (words_of g row) (words_of g (fired_if row (event_of g x))) sh
+reserves_spare g row x q sh step whole = elim (cases_Bool x.claimer) [
+  | inl first ↦
+      let fires = event.Add (w1_at g) (reference_size x.item) in
+      let words : words_of g (fired_if row (Some fires)) ≡ reserve_words (words_of g row) (reference_size x.item) =
+      ap (words_of g) (fired_if_some row fires) ∙ words-reserve g row whole (reference_size x.item) in
+      rw (step.event first) (rw words (record { place = refl; cells = λ n p kept covers. refl }))
+  | inr late ↦ rw (step.rest late) (rw (fired_if_none row) (record { place = refl; cells = λ n p kept covers. refl }))
+]
+
 module _ (g : Geometry) (x : Flight) (dest reg field : ℕ) (is_load : x.call ≡ call.Load dest reg field) (at_6 : x.place ≡ 6) where
   -- the event of a Load's reserve, and the flight after it; no entry is added
   pub load_reserve_event : x.claimer ≡ true → event_of g x ≡ Some (event.Add (w1_at g) (reference_size x.item))
@@ -493,6 +539,9 @@ module _ (g : Geometry) (x : Flight) (dest reg field : ℕ) (is_load : x.call �
   pub load_reserve_entry : (old : ℕ) → effect_of g x old ≡ None
   unfolding effect_of effect_at load_entry_of
   load_reserve_entry old = rw (is_load, at_6) refl
+
+  pub load_reserve_steps : ReserveSteps g x 7
+  load_reserve_steps = record { event = load_reserve_event; rest = load_reserve_rest; took = load_reserve_took }
 
 module _ (g : Geometry) (x : Flight) (reg field from : ℕ) (is_store : x.call ≡ call.Store reg field from) (at_4 : x.place ≡ 4) where
   -- that of a Store's reserve
@@ -512,6 +561,9 @@ module _ (g : Geometry) (x : Flight) (reg field from : ℕ) (is_store : x.call �
   unfolding effect_of effect_at store_entry
   store_reserve_entry old = rw (is_store, at_4) refl
 
+  pub store_reserve_steps : ReserveSteps g x 5
+  store_reserve_steps = record { event = store_reserve_event; rest = store_reserve_rest; took = store_reserve_took }
+
 -- all facts hold of the row and of the flights after a Load, or a Store, has reserved or rested
 pub load_reserves_row : (g : Geometry) (row : List ℕ) (flight : ℕ → Flight) (begun : ℕ → ℕ) (t : Spot) (names : Names) (contents : Contents) (range : ℕ → Option ℕ) (s dest reg field : ℕ)
     → s < tasks g → (flight s).call ≡ call.Load dest reg field → (flight s).place ≡ 6 → length row ≡ row_length g → ShapesFit names → BearersHaveFields names
@@ -519,11 +571,7 @@ pub load_reserves_row : (g : Geometry) (row : List ℕ) (flight : ℕ → Flight
     → FactsOf g (words_of g (fired_if row (event_of g (flight s)))) (upd flight s (took_of g (flight s) (learnt row (event_of g (flight s))))) begun t names contents
     (range_reserved (flight s) (words_of g row).reserved range)
 load_reserves_row g row flight begun t names contents range s dest reg field below is_load at_6 whole fit fields h =
-    reserves_row g row flight begun t names contents range s 7 below (rw (is_load, at_6) (load_reserves_at dest reg field)) (record {
-      event = load_reserve_event g (flight s) dest reg field is_load at_6;
-      rest = load_reserve_rest g (flight s) dest reg field is_load at_6;
-      took = load_reserve_took g (flight s) dest reg field is_load at_6;
-    }) whole
+    reserves_row g row flight begun t names contents range s 7 below (rw (is_load, at_6) (load_reserves_at dest reg field)) (load_reserve_steps g (flight s) dest reg field is_load at_6) whole
     (λ some. load_item_good g (shades_of g (words_of g row) flight t.line names).kept names flight s dest reg field below is_load (rw at_6 refl) some h.loaded_good) fit fields h
 
 pub store_reserves_row : (g : Geometry) (row : List ℕ) (flight : ℕ → Flight) (begun : ℕ → ℕ) (t : Spot) (names : Names) (contents : Contents) (range : ℕ → Option ℕ) (s reg field from : ℕ)
@@ -532,10 +580,15 @@ pub store_reserves_row : (g : Geometry) (row : List ℕ) (flight : ℕ → Fligh
     → FactsOf g (words_of g (fired_if row (event_of g (flight s)))) (upd flight s (took_of g (flight s) (learnt row (event_of g (flight s))))) begun t names contents
     (range_reserved (flight s) (words_of g row).reserved range)
 store_reserves_row g row flight begun t names contents range s reg field from below is_store at_4 whole fit fields h =
-    reserves_row g row flight begun t names contents range s 5 below (rw (is_store, at_4) (store_reserves_at reg field from)) (record {
-      event = store_reserve_event g (flight s) reg field from is_store at_4;
-      rest = store_reserve_rest g (flight s) reg field from is_store at_4;
-      took = store_reserve_took g (flight s) reg field from is_store at_4;
-    }) whole
+    reserves_row g row flight begun t names contents range s 5 below (rw (is_store, at_4) (store_reserves_at reg field from)) (store_reserve_steps g (flight s) reg field from is_store at_4) whole
     (λ some. store_item_good g (shades_of g (words_of g row) flight t.line names).kept names (words_of g row).register flight s reg field from below is_store (rw at_4 refl) some h.flights_formed h.copied_stays h.registers_good)
     fit fields h
+
+-- and this place leaves every kept object alone
+pub load_reserves_spare : (g : Geometry) (row : List ℕ) (x : Flight) (sh : Shades) (dest reg field : ℕ) → x.call ≡ call.Load dest reg field → x.place ≡ 6 → length row ≡ row_length g
+    → SparesObjects (words_of g row) (words_of g (fired_if row (event_of g x))) sh
+load_reserves_spare g row x sh dest reg field is_load at_6 whole = reserves_spare g row x 7 sh (load_reserve_steps g x dest reg field is_load at_6) whole
+
+pub store_reserves_spare : (g : Geometry) (row : List ℕ) (x : Flight) (sh : Shades) (reg field from : ℕ) → x.call ≡ call.Store reg field from → x.place ≡ 4 → length row ≡ row_length g
+    → SparesObjects (words_of g row) (words_of g (fired_if row (event_of g x))) sh
+store_reserves_spare g row x sh reg field from is_store at_4 whole = reserves_spare g row x 5 sh (store_reserve_steps g x reg field from is_store at_4) whole

@@ -18,3 +18,4 @@ pub mod NewHeader
 pub mod NewBorn
 pub mod NewIsBorn
 pub mod NewHistory
+pub mod NewTables

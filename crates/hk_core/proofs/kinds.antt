@@ -19,3 +19,4 @@ pub mod NewBorn
 pub mod NewIsBorn
 pub mod NewHistory
 pub mod NewTables
+pub mod NewSteps

@@ -1,6 +1,7 @@
 -- What each place of a New does to a lawful state: its event, the flight and the entry by the tables, what the words say
 -- after the event, that the history after it is legal, and that all facts hold.
-use Rattle.std.proofs.Common.{◌≡◌, ℕ, ◌+◌, ◌<◌, ◌≤◌, Bool, true, false, [], ◌∷◌, ◌++◌, List, refl, ◌∙◌, ap, arith, Option, Some, None}
+use Rattle.std.proofs.Common.{◌≡◌, ℕ, ◌+◌, ◌<◌, ◌≤◌, Bool, true, false, [], ◌∷◌, ◌++◌, List, ◌≢◌, inl, inr, refl, ◌∙◌, ap, arith, Option, Some, None}
+use Rattle.std.proofs.lemmas.Bool.{cases_Bool, cases_eq, and_parts, not-true}
 use Rattle.std.specs.Prelude.{not, ◌&&◌, option_to_list}
 use Rattle.hk_words.specs.declared.geometry.Geometry.{Geometry}
 use Rattle.hk_words.specs.declared.shape.Shape.{Shape}
@@ -12,6 +13,7 @@ use Rattle.hk_words.specs.Layout as layout
 use Rattle.hk_words.specs.Row.{word_of, w0_at, header_at, frame_at, register_at, entry_at}
 use Rattle.hk_words.specs.Row.Slot.{W0}
 use Rattle.hk_model.specs.View.{upd}
+use Rattle.hk_model.proofs.Updates.{upd_other}
 use Rattle.hk_model.specs.Heap.{opening_of}
 use Rattle.hk_model.specs.History.{Entry, History, Legal}
 use Rattle.hk_core.specs.declared.event.Event.{Event}
@@ -34,7 +36,7 @@ use Rattle.hk_core.proofs.kinds.NewLoads.{new_loaded, new_on, loads_w0, new_load
 use Rattle.hk_core.proofs.kinds.NewEntry.{HasMade, made_room, made_is_making, loads_entry, new_loads_entry}
 use Rattle.hk_core.proofs.kinds.NewRaise.{raised_words, new_raised, new_raises}
 use Rattle.hk_core.proofs.kinds.NewWords.{headed_words, words-raise, words-new_header, used_fits, objects_fit, new_place_fits}
-use Rattle.hk_core.proofs.kinds.NewHeader.{new_writes_header}
+use Rattle.hk_core.proofs.kinds.NewHeader.{new_writes_header, inside_elsewhere}
 use Rattle.hk_core.proofs.kinds.NewIsBorn.{new_is_born}
 use Rattle.hk_core.proofs.kinds.NewHistory.{made, next_birth, is_next, names-born, contents-born, legal-born}
 use Rattle.hk_core.proofs.kinds.NewTables.{NewSays, refused_if, new_says_1, new_says_2, new_says_3, new_says_4, new_says_5, new_says_6, new_says_7, new_rests_2, new_rests_3, new_rests_4, new_rests_5, new_rests_6, new_rests_7}
@@ -349,3 +351,92 @@ module _ (c : State) (history : History) (h : Lawful c history) (s dest : ℕ) (
         legal = legal_still;
         facts = silent (leaving_frame_words w s) (idle x.seat) (leave_frame g w (flight_at c) (begun_at c) c.spot (names_of g history) (contents_of g history) h.range s below leaves busy h.facts);
       }
+
+  -- ANY PLACE
+
+  -- what the step of a New is: what it does, with no word of the spaces changed, and no place of an object that a call is inside
+  pub record NewStep : Type 0 where
+    pub event : Option Event
+    pub flight : Flight
+    pub entry : Option Entry
+    pub words : Words
+    pub does : NewDoes c history s event flight entry words h.range
+    pub cells : words.cell ≡ (words_of c.geometry c.row).cell
+    pub places : (u : ℕ) → u < tasks c.geometry → f.in_object (flight_at c u) ≡ true
+        → words.place (layout.reference_number (flight_at c u).entered) ≡ (words_of c.geometry c.row).place (layout.reference_number (flight_at c u).entered)
+
+  steps_so : {e : Option Event} {x : Flight} {o : Option Entry} {w : Words} → NewDoes c history s e x o w h.range → w.cell ≡ (words_of c.geometry c.row).cell
+      → ((u : ℕ) → u < tasks c.geometry → f.in_object (flight_at c u) ≡ true
+      → w.place (layout.reference_number (flight_at c u).entered) ≡ (words_of c.geometry c.row).place (layout.reference_number (flight_at c u).entered))
+      → NewStep
+  steps_so {e} {x} {o} {w} does cells places = record { event = e; flight = x; entry = o; words = w; does = does; cells = cells; places = places }
+
+  by_place_2 : (flight_at c s).place ≡ 2 → NewStep
+  by_place_2 at = elim (cases_Bool (flight_at c s).full) [
+    | inl full ↦ steps_so (new_rest_does_2 at full) refl (λ u b i. refl)
+    | inr room ↦ steps_so (new_does_2 at room) refl (λ u b i. refl)
+  ]
+
+  by_place_3 : (flight_at c s).place ≡ 3 → NewStep
+  by_place_3 at = elim (cases_Bool (flight_at c s).full) [
+    | inl full ↦ steps_so (new_rest_does_3 at full) refl (λ u b i. refl)
+    | inr room ↦ steps_so (new_does_3 at room) refl (λ u b i. refl)
+  ]
+
+  by_place_4 : (flight_at c s).place ≡ 4 → NewStep
+  by_place_4 at = elim (cases_Bool (flight_at c s).full) [
+    | inl full ↦ steps_so (new_rest_does_4 at full) refl (λ u b i. refl)
+    | inr room ↦ steps_so (new_does_4 at room) refl (λ u b i. refl)
+  ]
+
+  by_place_5 : (flight_at c s).place ≡ 5 → NewStep
+  by_place_5 at = elim (cases_Bool (flight_at c s).full) [
+    | inl full ↦ steps_so (new_rest_does_5 at full) refl (λ u b i. refl)
+    | inr room ↦
+        let numbered : f.has_number (flight_at c s) ≡ true = new_has_number (flight_at c s) dest shape is_new ∙ rw (at, room) refl in
+        steps_so (new_does_5 at room) refl
+        (λ u b i. upd_other (words_of c.geometry c.row).place (flight_at c s).number (new_place c.geometry (flight_at c s)) (layout.reference_number (flight_at c u).entered)
+        (inside_elsewhere c.geometry (words_of c.geometry c.row) (flight_at c) (begun_at c) c.spot (names_of c.geometry history) (contents_of c.geometry history) h.range s u below b numbered i h.facts))
+  ]
+
+  by_place_6 : (flight_at c s).place ≡ 6 → NewStep
+  by_place_6 at = elim (cases_Bool (flight_at c s).full) [
+    | inl full ↦ steps_so (new_rest_does_6 at full) refl (λ u b i. refl)
+    | inr room ↦ steps_so (new_does_6 at room) refl (λ u b i. refl)
+  ]
+
+  by_place_7 : (flight_at c s).place ≡ 7 → NewStep
+  by_place_7 at = elim (cases_Bool ((flight_at c s).full && not (flight_at c s).raised)) [
+    | inl idle' ↦
+        let p = and_parts (flight_at c s).full (not (flight_at c s).raised) idle' in
+        steps_so (new_rest_does_7 at p.0 (not-true (flight_at c s).raised p.1)) refl (λ u b i. refl)
+    | inr busy ↦ steps_so (new_does_7 at busy) refl (λ u b i. refl)
+  ]
+
+  -- a New in flight steps so, at any place
+  pub new_step : 1 ≤ (flight_at c s).place → NewStep
+  new_step some =
+      let x = flight_at c s in
+      let within : x.place ≤ 7 = rw is_new at ((h.facts.flights_formed s below).in_row) in
+      elim (cases_eq x.place 1) [
+        | inl at ↦ steps_so (new_does_1 at) refl (λ u b i. refl)
+        | inr d1 ↦ elim (cases_eq x.place 2) [
+          | inl at ↦ by_place_2 at
+          | inr d2 ↦ elim (cases_eq x.place 3) [
+            | inl at ↦ by_place_3 at
+            | inr d3 ↦ elim (cases_eq x.place 4) [
+              | inl at ↦ by_place_4 at
+              | inr d4 ↦ elim (cases_eq x.place 5) [
+                | inl at ↦ by_place_5 at
+                | inr d5 ↦ elim (cases_eq x.place 6) [
+                  | inl at ↦ by_place_6 at
+                  | inr d6 ↦ by_place_7 (last x.place some within d1 d2 d3 d4 d5 d6)
+                ]
+              ]
+            ]
+          ]
+        ]
+      ]
+    where
+      last : (p : ℕ) → 1 ≤ p → p ≤ 7 → p ≢ 1 → p ≢ 2 → p ≢ 3 → p ≢ 4 → p ≢ 5 → p ≢ 6 → p ≡ 7
+      last p a b c d e k l m = omega arith

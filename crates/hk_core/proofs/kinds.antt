@@ -31,3 +31,5 @@ pub mod SpotLines
 pub mod ReserveSeats
 pub mod Link
 pub mod LinkSeats
+pub mod NewTables
+pub mod NewSteps

@@ -120,6 +120,7 @@ module _ (names : Names) (n b : ℕ) (shape : Shape) (unborn : (m : ℕ) → nam
 module _ (g : Geometry) (w : Words) (z : Spaces) (sh : Shades) (flight : ℕ → Flight) (begun : ℕ → ℕ) (hand : ℕ → Hand) (t : Spot)
     (names : Names) (contents : Contents) (range : ℕ → Option ℕ) (n b : ℕ) (shape : Shape)
     (next : IsNextBirth names contents b) (ready : IsReady g w z sh flight shape n) (h : Facts g w z sh flight begun hand t names contents range) where
+  -- the names and the shades after the birth
   abbrev names' : Names
   names' = born_names names n b shape
 

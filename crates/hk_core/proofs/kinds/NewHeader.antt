@@ -180,6 +180,7 @@ module _ (g : Geometry) (w : Words) (z : Spaces) (sh : Shades) (flight : ℕ →
     (white_else : (m : ℕ) → m ≢ (flight s).number → white' m ≡ sh.white m) (black_else : (m : ℕ) → m ≢ (flight s).number → black' m ≡ sh.black m)
     (white_here : f.cycle_of (flight s) ≡ w.cycle → white' (flight s).number ≡ false)
     (h : Facts g w z sh flight begun hand t names contents range) where
+  -- the number, the place of its object, the places, words and shades after the write, and the flight
   abbrev n : ℕ
   n = (flight s).number
 
@@ -539,3 +540,12 @@ new_writes_header g w flight begun t names contents range s dest shape below is_
     (λ e. white_there g w flight s y t.line names n p (marked ∙ e)) h in
     let all : FactsOf g (record w { place = upd w.place n p }) (upd flight s y) begun t names contents range = rw (hands, shades) facts in
     rw (upd_own w.accessors n 0 (sym own.no_accessors), upd_own w.version n 0 (sym own.no_version)) all
+
+-- a call that is inside an object isn't inside the one that a New is making
+pub inside_elsewhere : (g : Geometry) (w : Words) (flight : ℕ → Flight) (begun : ℕ → ℕ) (t : Spot) (names : Names) (contents : Contents) (range : ℕ → Option ℕ) (s u : ℕ)
+    → s < tasks g → u < tasks g → f.has_number (flight s) ≡ true → f.in_object (flight u) ≡ true → FactsOf g w flight begun t names contents range
+    → layout.reference_number (flight u).entered ≢ (flight s).number
+inside_elsewhere g w flight begun t names contents range s u below other numbered inside h same =
+    let q = object_through (flight u) inside in
+    let kept = (h.entered_good u other q.0 q.1).is_kept in
+    both_ways _ (kept_means g w flight t.line names _ kept).not_held (ap (held_by g flight) same ∙ holder_holds g flight s below numbered)

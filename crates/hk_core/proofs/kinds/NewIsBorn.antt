@@ -175,6 +175,7 @@ module _ (g : Geometry) (w : Words) (z : Spaces) (sh : Shades) (flight : ℕ →
     (next : IsNextBirth names contents b) (mean : SpacesMean g w.cycle z) (not_kept : sh.kept (flight s).number ≡ false)
     (white_there : w.mark (flight s).number ≡ w.cycle → sh.white (flight s).number ≡ false)
     (h : Facts g w z sh flight begun hand t names contents range) where
+  -- the number, the flight and the flights after the write, the reference, and the names and shades after the birth
   abbrev n : ℕ
   n = (flight s).number
 

@@ -139,6 +139,7 @@ module _ (g : Geometry) (w : Words) (z : Spaces) (sh : Shades) (flight : ℕ →
     (names : Names) (contents : Contents) (range : ℕ → Option ℕ) (s dest : ℕ) (shape : Shape) (word : ℕ)
     (below : s < tasks g) (is_new : (flight s).call ≡ call.New dest shape) (at_3 : (flight s).place ≡ 3) (not_full : (flight s).full ≡ false)
     (found : layout.IsW0 word w.used w.objects w.cycle) (m : SpacesMean g w.cycle z) (h : Facts g w z sh flight begun hand t names contents range) where
+  -- the flight and the words after the raise
   abbrev y : Flight
   y = new_raised g (flight s) shape word
 

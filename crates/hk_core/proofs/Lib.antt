@@ -8,3 +8,7 @@ pub mod Counts
 pub mod Columns
 pub mod Encode
 pub mod kinds
+pub mod Next
+pub mod Inside
+pub mod Rows
+pub mod Plain

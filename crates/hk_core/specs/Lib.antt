@@ -14,3 +14,4 @@ pub mod Lawful
 pub mod Reach
 pub mod Stands
 pub mod Fits
+pub mod Handled

@@ -1,12 +1,13 @@
 -- What a call inside an object knows of it: its words are in the spaces, and so is each cell.
-use Rattle.std.proofs.Common.{◌≡◌, ◌≢◌, ℕ, ◌+◌, ◌*◌, ◌^◌, ◌<◌, ◌≤◌, Bool, true, false, inl, inr, refl, sym, ◌∙◌, ap, arith, Option, Some, None}
+use Rattle.std.proofs.Common.{◌≡◌, ◌≢◌, ℕ, zero, suc, ◌+◌, ◌*◌, ◌^◌, ◌<◌, ◌≤◌, Bool, true, false, inl, inr, refl, sym, ◌∙◌, ap, arith, Option, Some, None}
 use Rattle.std.specs.Prelude.{slice_get, unwrap_or, option_map, nat_le, ◌&&◌}
-use Rattle.std.proofs.lemmas.Bool.{ltb-true, and_parts}
+use Rattle.std.proofs.lemmas.Bool.Decides.{nat_tests}
 use Rattle.hk_words.specs.declared.geometry.Geometry.{Geometry}
 use Rattle.hk_words.specs.declared.call.Call.{Call}
 use Rattle.hk_words.specs.declared.call.Call.TheVariants as call
 use Rattle.hk_words.specs.Geometry.{tasks, numbers, space_words}
 use Rattle.hk_words.specs.Layout as layout
+use Rattle.hk_words.specs.Row.{place_at}
 use Rattle.hk_model.specs.Heap as heap
 use Rattle.hk_model.specs.Heap.{Heap, Object, of_object}
 use Rattle.hk_model.specs.History.{History, after}
@@ -14,6 +15,7 @@ use Rattle.hk_core.specs.declared.flight.Flight.{Flight}
 use Rattle.hk_core.specs.declared.spot.Spot.{Spot}
 use Rattle.hk_core.specs.declared.spot.Line.{Line}
 use Rattle.hk_core.specs.Begin.{has_field}
+use Rattle.hk_core.specs.Collect.{current_space, old_space}
 use Rattle.hk_core.specs.Step.{number_cell, reference_cell, reference_size}
 use Rattle.hk_core.specs.View.{Words, Names, Contents, names_of, refs_at, nums_at, size_at, reference_at}
 use Rattle.hk_core.specs.Flights as f
@@ -108,6 +110,13 @@ pub record LiesInSpaces (g : Geometry) (p : ℕ) : Type 0 where
   pub some : 0 < p
   pub within : p ≤ 2 * space_words g
 
+-- a word of an object in one of the two spaces
+in_spaces : (g : Geometry) (space place size k : ℕ) → space < 2 → place_at g space 0 ≤ place → place + size ≤ place_at g space 0 + (g.live + g.alloc) → k < size
+    → LiesInSpaces g (place + k)
+in_spaces g zero place size k two after before less = record { some = omega arith; within = omega arith }
+in_spaces g (suc zero) place size k two after before less = record { some = omega arith; within = omega arith }
+in_spaces g (suc (suc n)) place size k two after before less = absurd (omega arith)
+
 module _ (g : Geometry) (w : Words) (flight : ℕ → Flight) (begun : ℕ → ℕ) (t : Spot) (names : Names) (contents : Contents) (range : ℕ → Option ℕ)
     (h : FactsOf g w flight begun t names contents range) (fit : ShapesFit names) (s : ℕ) (below : s < tasks g) (inside : f.in_object (flight s) ≡ true) where
   -- the reference that the call went through is sound
@@ -126,10 +135,11 @@ module _ (g : Geometry) (w : Words) (flight : ℕ → Flight) (begun : ℕ → �
       let nums : layout.reference_nums (flight s).entered ≡ nums_at names n = entered_sound.nums in
       let size : (shades_of g w flight t.line names).size n ≡ 1 + refs_at names n + nums_at names n = m.size n in
       let stands : (flight s).at ≡ w.place n = h.place_known s below inside in
-      elim (h.objects_in_one_space n kept) [
-        | inl o ↦ let a = o.after in let b = o.before in record { some = omega arith; within = omega arith }
-        | inr o ↦ let a = o.after in let b = o.before in record { some = omega arith; within = omega arith }
-      ]
+      let less' : k < (shades_of g w flight t.line names).size n = omega arith in
+      rw stands (elim (h.objects_in_one_space n kept) [
+        | inl o ↦ in_spaces g (old_space w.cycle) (w.place n) _ k (omega arith) o.after o.before less'
+        | inr o ↦ in_spaces g (current_space w.cycle) (w.place n) _ k (omega arith) o.after o.before less'
+      ])
 
   -- so is the cell of a number field, and that of a reference field
   pub number_in_spaces : (field : ℕ) → field < layout.reference_nums (flight s).entered → LiesInSpaces g (number_cell (flight s) field)

@@ -12,3 +12,4 @@ pub mod Next
 pub mod Inside
 pub mod Rows
 pub mod Plain
+pub mod Fires

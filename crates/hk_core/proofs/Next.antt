@@ -33,6 +33,41 @@ flight_at-next : (c : State) (s : ℕ) → s < length c.flights → flight_at (n
 unfolding next flight_at
 flight_at-next c s below = flight_at-set (record c { row = fired_if c.row (event_by c s) }) s _ below
 
+-- the event, what it finds and the longer history, by the tables
+event_at_place : (c : State) (s : ℕ) (e : Option Event) (y : Flight) (o : Option Entry) → DoesPlace c s e y o → event_by c s ≡ e
+unfolding event_by flight_at
+event_at_place c s e y o does = does.event
+
+found_at_place : (c : State) (s : ℕ) (e : Option Event) (y : Flight) (o : Option Entry) → DoesPlace c s e y o → found_by c s ≡ learnt c.row e
+unfolding found_by
+found_at_place c s e y o does = ap (learnt c.row) (event_at_place c s e y o does)
+
+history_at_place : (c : State) (history : History) (s : ℕ) (e : Option Event) (y : Flight) (o : Option Entry) → DoesPlace c s e y o
+    → history_after c s history ≡ history ++ option_to_list o
+unfolding history_after flight_at
+history_at_place c history s e y o does =
+    let found = found_at_place c s e y o does in
+    ap (λ (k : Option Entry). history ++ option_to_list k) (ap (effect_of c.geometry (flight_at c s)) found ∙ does.entry)
+
+build : (c : State) (history : History) (s : ℕ) (e : Option Event) (w : Words) (range : ℕ → Option ℕ) (longer : History) (flight : ℕ → Flight)
+    → event_by c s ≡ e → flight_at (next c s) ≡ flight → history_after c s history ≡ longer → words_of c.geometry (fired_if c.row e) ≡ w
+    → Lawful c history → Legal (opening_of c.geometry) longer
+    → FactsOf c.geometry w flight (begun_at c) c.spot (names_of c.geometry longer) (contents_of c.geometry longer) range
+    → Lawful (next c s) (history_after c s history)
+unfolding next begun_at
+build c history s e w range longer flight event flights later words h legal facts =
+    let row : length (fired_if c.row (event_by c s)) ≡ length c.row = length-fired_if c.row (event_by c s) in
+    record {
+      sized = record {
+        row = row ∙ h.sized.row;
+        flights = length-set c.flights s _ ∙ h.sized.flights;
+        begun = h.sized.begun;
+      };
+      legal = rw later legal;
+      range = range;
+      facts = rw (later, flights, event, words) facts;
+    }
+
 -- a lawful state is lawful after a step, where the new history is legal and, for some ranges, all facts hold
 pub lawful_next : (c : State) (history : History) (s : ℕ) (e : Option Event) (y : Flight) (o : Option Entry) (w : Words) (range : ℕ → Option ℕ)
     → Lawful c history → s < tasks c.geometry → DoesPlace c s e y o → words_of c.geometry (fired_if c.row e) ≡ w
@@ -46,40 +81,6 @@ lawful_next c history s e y o w range h below does words legal facts =
     let flight : flight_at (next c s) ≡ upd (flight_at c) s y = flight_at-next c s flights ∙ ap (upd (flight_at c) s) (ap (took_of c.geometry (flight_at c s)) found ∙ does.flight) in
     let longer : history_after c s history ≡ history ++ option_to_list o = history_at_place c history s e y o does in
     build c history s e w range (history ++ option_to_list o) (upd (flight_at c) s y) event flight longer words h legal facts
-  where
-    event_at_place : (c : State) (s : ℕ) (e : Option Event) (y : Flight) (o : Option Entry) → DoesPlace c s e y o → event_by c s ≡ e
-    unfolding event_by flight_at
-    event_at_place c s e y o does = does.event
-
-    found_at_place : (c : State) (s : ℕ) (e : Option Event) (y : Flight) (o : Option Entry) → DoesPlace c s e y o → found_by c s ≡ learnt c.row e
-    unfolding found_by
-    found_at_place c s e y o does = ap (learnt c.row) (event_at_place c s e y o does)
-
-    history_at_place : (c : State) (history : History) (s : ℕ) (e : Option Event) (y : Flight) (o : Option Entry) → DoesPlace c s e y o
-        → history_after c s history ≡ history ++ option_to_list o
-    unfolding history_after flight_at
-    history_at_place c history s e y o does =
-        let found = found_at_place c s e y o does in
-        ap (λ (k : Option Entry). history ++ option_to_list k) (ap (effect_of c.geometry (flight_at c s)) found ∙ does.entry)
-
-    build : (c : State) (history : History) (s : ℕ) (e : Option Event) (w : Words) (range : ℕ → Option ℕ) (longer : History) (flight : ℕ → Flight)
-        → event_by c s ≡ e → flight_at (next c s) ≡ flight → history_after c s history ≡ longer → words_of c.geometry (fired_if c.row e) ≡ w
-        → Lawful c history → Legal (opening_of c.geometry) longer
-        → FactsOf c.geometry w flight (begun_at c) c.spot (names_of c.geometry longer) (contents_of c.geometry longer) range
-        → Lawful (next c s) (history_after c s history)
-    unfolding next begun_at
-    build c history s e w range longer flight event flights later words h legal facts =
-        let row : length (fired_if c.row (event_by c s)) ≡ length c.row = length-fired_if c.row (event_by c s) in
-        record {
-          sized = record {
-            row = row ∙ h.sized.row;
-            flights = length-set c.flights s _ ∙ h.sized.flights;
-            begun = h.sized.begun;
-          };
-          legal = rw later legal;
-          range = range;
-          facts = rw (later, flights, event, words) facts;
-        }
 
 append_nil : {A : Type 0} (xs : List A) → xs ++ [] ≡ xs
 append_nil [] = refl

@@ -13,3 +13,5 @@ pub mod Inside
 pub mod Rows
 pub mod Plain
 pub mod Fires
+pub mod Reserved
+pub mod Can

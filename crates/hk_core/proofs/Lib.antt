@@ -15,3 +15,4 @@ pub mod Plain
 pub mod Fires
 pub mod Reserved
 pub mod Can
+pub mod Shown

@@ -16,3 +16,4 @@ pub mod Fires
 pub mod Reserved
 pub mod Can
 pub mod Shown
+pub mod Places

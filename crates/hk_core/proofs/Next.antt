@@ -29,7 +29,7 @@ length-fired_if row None = refl
 length-fired_if row (Some e) = length-set row _ _
 
 -- the flights after a step
-flight_at-next : (c : State) (s : ℕ) → s < length c.flights → flight_at (next c s) ≡ upd (flight_at c) s (took_of c.geometry (flight_at c s) (found_by c s))
+pub flight_at-next : (c : State) (s : ℕ) → s < length c.flights → flight_at (next c s) ≡ upd (flight_at c) s (took_of c.geometry (flight_at c s) (found_by c s))
 unfolding next flight_at
 flight_at-next c s below = flight_at-set (record c { row = fired_if c.row (event_by c s) }) s _ below
 

@@ -15,3 +15,4 @@ pub mod Reach
 pub mod Stands
 pub mod Fits
 pub mod Handled
+pub mod Rows

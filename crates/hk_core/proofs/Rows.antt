@@ -23,7 +23,7 @@ use Rattle.hk_core.specs.Flights as f
 use Rattle.hk_core.specs.Colours.{shades_of}
 use Rattle.hk_core.specs.Lawful.{FactsOf, Lawful}
 use Rattle.hk_core.proofs.Columns.{raw_header, raw_space, fired_if_some}
-use Rattle.hk_core.proofs.Next.{DoesPlace, lawful_next, lawful_next_silent}
+use Rattle.hk_core.proofs.Next.{DoesPlace, StepsTo, steps_to_silent}
 use Rattle.hk_core.proofs.Inside.{shapes_fit, number_in_spaces}
 use Rattle.hk_core.proofs.kinds.Seats.{FlightsFacts, FlightFacts, moved_on, kept_means, facts_of_flight}
 use Rattle.hk_core.proofs.kinds.Enter as enter
@@ -87,7 +87,7 @@ module _ (c : State) (history : History) (s : ℕ) (below : s < tasks c.geometry
   -- a call enters its object
   pub enters_object : (q : ℕ) → EntersObject (flight_at c s).call (flight_at c s).place q
       → TablesSay c.geometry (flight_at c s) (table.enter_object c.geometry (flight_at c s)) (λ old. moved_on (flight_at c s) q (layout.header_place old)) (λ old. None)
-      → Lawful (next c s) (history_after c s history)
+      → StepsTo c history s (entering_words (words_of c.geometry c.row) (object_of (flight_at c s)))
   unfolding table.enter_object f.is_inside f.in_object
   enters_object q e tables =
       let g = c.geometry in
@@ -99,7 +99,7 @@ module _ (c : State) (history : History) (s : ℕ) (below : s < tasks c.geometry
       let fits : n < numbers g = (kept_means g w (flight_at c) c.spot.line names n good.is_kept).within in
       let few = room_in_object g w.accessors (flight_at c) s n below fits (rw e.outside refl) h.facts.accessors_counted in
       let enters = event.Add (header_at g n) layout.entering in
-      lawful_next_silent c history s (Some enters) (moved_on x q (w.place n)) (entering_words w n) h.range h below
+      steps_to_silent c history s (Some enters) (moved_on x q (w.place n)) (entering_words w n) h.range h below
       (does_place c s (Some enters) _ _ (moved_on x q (w.place n)) None tables (ap (moved_on x q) (found_place g c.row n layout.entering fits)) refl)
       (words_some g c.row enters (entering_words w n) (words-enter_object g c.row h.sized.row n fits few))
       (enter.enter_object g w (flight_at c) (begun_at c) c.spot names (contents_of g history) h.range s q below e h.facts)
@@ -107,7 +107,7 @@ module _ (c : State) (history : History) (s : ℕ) (below : s < tasks c.geometry
   -- a call leaves its object, and ends
   pub ends_in_object : EndsInObject (flight_at c s).call (flight_at c s).place
       → TablesSay c.geometry (flight_at c s) (table.leave_object c.geometry (flight_at c s)) (λ old. idle (flight_at c s).seat) (λ old. None)
-      → Lawful (next c s) (history_after c s history)
+      → StepsTo c history s (leaving_words (words_of c.geometry c.row) (object_of (flight_at c s)))
   unfolding table.leave_object f.is_inside f.in_object
   ends_in_object e tables =
       let g = c.geometry in
@@ -119,7 +119,7 @@ module _ (c : State) (history : History) (s : ℕ) (below : s < tasks c.geometry
       let fits : n < numbers g = (kept_means g w (flight_at c) c.spot.line names n good.is_kept).within in
       let some = some_in_object g w.accessors (flight_at c) s n below fits (rw e.inside (eq-eqb n n refl)) h.facts.accessors_counted in
       let leaves = event.Sub (header_at g n) layout.leaving in
-      lawful_next_silent c history s (Some leaves) (idle x.seat) (leaving_words w n) h.range h below
+      steps_to_silent c history s (Some leaves) (idle x.seat) (leaving_words w n) h.range h below
       (does_place c s (Some leaves) _ _ (idle x.seat) None tables refl refl)
       (words_some g c.row leaves (leaving_words w n) (words-leave_object g c.row h.sized.row n fits some))
       (leave.leave_object_last g w (flight_at c) (begun_at c) c.spot names (contents_of g history) h.range s below e h.facts)
@@ -127,7 +127,7 @@ module _ (c : State) (history : History) (s : ℕ) (below : s < tasks c.geometry
   -- a call enters its frame
   pub enters_frame : (q : ℕ) → EntersFrame (flight_at c s).call (flight_at c s).place q → f.is_resting (flight_at c s) ≡ false
       → TablesSay c.geometry (flight_at c s) (Some (event.Add (frame_at c.geometry s) layout.entering)) (λ old. moved_on (flight_at c s) q (flight_at c s).at) (λ old. None)
-      → Lawful (next c s) (history_after c s history)
+      → StepsTo c history s (entering_frame_words (words_of c.geometry c.row) s)
   unfolding f.in_frame
   enters_frame q e busy tables =
       let g = c.geometry in
@@ -135,7 +135,7 @@ module _ (c : State) (history : History) (s : ℕ) (below : s < tasks c.geometry
       let x = flight_at c s in
       let none : w.frame_accessors s ≡ 0 = h.facts.frame_accessors_counted s below ∙ rw e.outside refl in
       let enters = event.Add (frame_at g s) layout.entering in
-      lawful_next_silent c history s (Some enters) (moved_on x q x.at) (entering_frame_words w s) h.range h below
+      steps_to_silent c history s (Some enters) (moved_on x q x.at) (entering_frame_words w s) h.range h below
       (does_place c s (Some enters) _ _ (moved_on x q x.at) None tables refl refl)
       (words_some g c.row enters (entering_frame_words w s) (words-enter_frame g c.row h.sized.row s below (omega arith)))
       (frame.enter_frame g w (flight_at c) (begun_at c) c.spot (names_of g history) (contents_of g history) h.range s q below e busy h.facts)
@@ -143,7 +143,7 @@ module _ (c : State) (history : History) (s : ℕ) (below : s < tasks c.geometry
   -- a call leaves its frame, and ends
   pub ends_in_frame : EndsInFrame (flight_at c s).call (flight_at c s).place → f.is_resting (flight_at c s) ≡ false
       → TablesSay c.geometry (flight_at c s) (Some (event.Sub (frame_at c.geometry s) layout.leaving)) (λ old. idle (flight_at c s).seat) (λ old. None)
-      → Lawful (next c s) (history_after c s history)
+      → StepsTo c history s (leaving_frame_words (words_of c.geometry c.row) s)
   unfolding f.in_frame
   ends_in_frame e busy tables =
       let g = c.geometry in
@@ -151,7 +151,7 @@ module _ (c : State) (history : History) (s : ℕ) (below : s < tasks c.geometry
       let x = flight_at c s in
       let one : w.frame_accessors s ≡ 1 = h.facts.frame_accessors_counted s below ∙ rw (e.inside, busy) refl in
       let leaves = event.Sub (frame_at g s) layout.leaving in
-      lawful_next_silent c history s (Some leaves) (idle x.seat) (leaving_frame_words w s) h.range h below
+      steps_to_silent c history s (Some leaves) (idle x.seat) (leaving_frame_words w s) h.range h below
       (does_place c s (Some leaves) _ _ (idle x.seat) None tables refl refl)
       (words_some g c.row leaves (leaving_frame_words w s) (words-leave_frame g c.row h.sized.row s below (omega arith)))
       (frame.leave_frame g w (flight_at c) (begun_at c) c.spot (names_of g history) (contents_of g history) h.range s below e busy h.facts)

@@ -15,4 +15,5 @@ pub mod Reach
 pub mod Stands
 pub mod Fits
 pub mod Handled
-pub mod Rows
+pub mod Places
+pub mod Inside

@@ -87,7 +87,7 @@ good_sound g w flight ln names word fit good =
 -- CELLS
 
 -- a call inside an object goes through one, and is in flight
-inside_through : (x : Flight) → f.in_object x ≡ true → (f.is_through x.call ≡ true) × (f.is_flying x ≡ true)
+pub inside_through : (x : Flight) → f.in_object x ≡ true → (f.is_through x.call ≡ true) × (f.is_flying x ≡ true)
 unfolding f.in_object f.in_object_at f.is_through
 inside_through x h = each x.call x.place h
   where

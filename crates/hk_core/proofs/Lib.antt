@@ -17,3 +17,5 @@ pub mod Reserved
 pub mod Can
 pub mod Shown
 pub mod Places
+pub mod Registers
+pub mod Apart

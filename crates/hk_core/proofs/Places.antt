@@ -34,33 +34,34 @@ differ a b e = grind (arith, nat_tests)
 pub record IsNextPlace (x y : Flight) : Type 0 where
   pub place : y.place ≡ x.place + 1
   pub call : y.call ≡ x.call
+  pub entered : y.entered ≡ x.entered
 
 -- the place of a test that holds, and the places that tests rule out
-at_place : (x y : Flight) (p : ℕ) → nat_eq x.place p ≡ true → y.place ≡ p + 1 → y.call ≡ x.call → IsNextPlace x y
-at_place x y p e place same = let at = eqb-true x.place p e in record { place = rw at place; call = same }
+at_place : (x y : Flight) (p : ℕ) → nat_eq x.place p ≡ true → y.place ≡ p + 1 → y.call ≡ x.call → y.entered ≡ x.entered → IsNextPlace x y
+at_place x y p e place same through = let at = eqb-true x.place p e in record { place = rw at place; call = same; entered = through }
 
 module _ (g : Geometry) (x : Flight) (old : ℕ) (some : 1 ≤ x.place) where
   get_next : x.place < 3 → IsNextPlace x (table.get_took x old)
   unfolding table.get_took
   get_next few =
-      by_test (IsNextPlace x) (nat_eq x.place 1) _ _ (λ e. at_place x _ 1 e refl refl) (λ n1.
-      by_test (IsNextPlace x) (nat_eq x.place 2) _ _ (λ e. at_place x _ 2 e refl refl) (λ n2.
+      by_test (IsNextPlace x) (nat_eq x.place 1) _ _ (λ e. at_place x _ 1 e refl refl refl) (λ n1.
+      by_test (IsNextPlace x) (nat_eq x.place 2) _ _ (λ e. at_place x _ 2 e refl refl refl) (λ n2.
       by_test (IsNextPlace x) (nat_eq x.place 3) _ _ (λ e. let at = eqb-true x.place 3 e in absurd (omega arith)) (λ n3.
       let d1 = differ x.place 1 n1 in let d2 = differ x.place 2 n2 in let d3 = differ x.place 3 n3 in absurd (omega arith))))
 
   put_next : x.place < 3 → IsNextPlace x (table.put_took x old)
   unfolding table.put_took
   put_next few =
-      by_test (IsNextPlace x) (nat_eq x.place 1) _ _ (λ e. at_place x _ 1 e refl refl) (λ n1.
-      by_test (IsNextPlace x) (nat_eq x.place 2) _ _ (λ e. at_place x _ 2 e refl refl) (λ n2.
+      by_test (IsNextPlace x) (nat_eq x.place 1) _ _ (λ e. at_place x _ 1 e refl refl refl) (λ n1.
+      by_test (IsNextPlace x) (nat_eq x.place 2) _ _ (λ e. at_place x _ 2 e refl refl refl) (λ n2.
       by_test (IsNextPlace x) (nat_eq x.place 3) _ _ (λ e. let at = eqb-true x.place 3 e in absurd (omega arith)) (λ n3.
       let d1 = differ x.place 1 n1 in let d2 = differ x.place 2 n2 in let d3 = differ x.place 3 n3 in absurd (omega arith))))
 
   move_next : x.place < 3 → IsNextPlace x (table.move_took x)
   unfolding table.move_took
   move_next few =
-      by_test (IsNextPlace x) (nat_eq x.place 1) _ _ (λ e. at_place x _ 1 e refl refl) (λ n1.
-      by_test (IsNextPlace x) (nat_eq x.place 2) _ _ (λ e. at_place x _ 2 e refl refl) (λ n2.
+      by_test (IsNextPlace x) (nat_eq x.place 1) _ _ (λ e. at_place x _ 1 e refl refl refl) (λ n1.
+      by_test (IsNextPlace x) (nat_eq x.place 2) _ _ (λ e. at_place x _ 2 e refl refl refl) (λ n2.
       by_test (IsNextPlace x) (nat_eq x.place 3) _ _ (λ e. let at = eqb-true x.place 3 e in absurd (omega arith)) (λ n3.
       let d1 = differ x.place 1 n1 in let d2 = differ x.place 2 n2 in let d3 = differ x.place 3 n3 in absurd (omega arith))))
 
@@ -73,39 +74,39 @@ module _ (g : Geometry) (x : Flight) (old : ℕ) (some : 1 ≤ x.place) where
   load_next : x.place < 10 → IsNextPlace x (table.load_took x old)
   unfolding table.load_took
   load_next few =
-      by_test (IsNextPlace x) (nat_eq x.place 1) _ _ (λ e. at_place x _ 1 e refl refl) (λ n1.
-      by_test (IsNextPlace x) (nat_eq x.place 2) _ _ (λ e. at_place x _ 2 e refl refl) (λ n2.
-      by_test (IsNextPlace x) (nat_eq x.place 3) _ _ (λ e. at_place x _ 3 e refl refl) (λ n3.
-      by_test (IsNextPlace x) (nat_eq x.place 4) _ _ (λ e. at_place x _ 4 e refl refl) (λ n4.
-      by_test (IsNextPlace x) (nat_eq x.place 5) _ _ (λ e. at_place x _ 5 e refl refl) (λ n5.
-      by_test (IsNextPlace x) (nat_eq x.place 6) _ _ (λ e. at_place x _ 6 e refl refl) (λ n6.
-      by_test (IsNextPlace x) (nat_eq x.place 7) _ _ (λ e. at_place x _ 7 e refl refl) (λ n7.
-      by_test (IsNextPlace x) (nat_eq x.place 8) _ _ (λ e. at_place x _ 8 e refl refl) (λ n8.
-      by_test (IsNextPlace x) (nat_eq x.place 9) _ _ (λ e. at_place x _ 9 e refl refl) (λ n9.
+      by_test (IsNextPlace x) (nat_eq x.place 1) _ _ (λ e. at_place x _ 1 e refl refl refl) (λ n1.
+      by_test (IsNextPlace x) (nat_eq x.place 2) _ _ (λ e. at_place x _ 2 e refl refl refl) (λ n2.
+      by_test (IsNextPlace x) (nat_eq x.place 3) _ _ (λ e. at_place x _ 3 e refl refl refl) (λ n3.
+      by_test (IsNextPlace x) (nat_eq x.place 4) _ _ (λ e. at_place x _ 4 e refl refl refl) (λ n4.
+      by_test (IsNextPlace x) (nat_eq x.place 5) _ _ (λ e. at_place x _ 5 e refl refl refl) (λ n5.
+      by_test (IsNextPlace x) (nat_eq x.place 6) _ _ (λ e. at_place x _ 6 e refl refl refl) (λ n6.
+      by_test (IsNextPlace x) (nat_eq x.place 7) _ _ (λ e. at_place x _ 7 e refl refl refl) (λ n7.
+      by_test (IsNextPlace x) (nat_eq x.place 8) _ _ (λ e. at_place x _ 8 e refl refl refl) (λ n8.
+      by_test (IsNextPlace x) (nat_eq x.place 9) _ _ (λ e. at_place x _ 9 e refl refl refl) (λ n9.
       by_test (IsNextPlace x) (nat_eq x.place 10) _ _ (λ e. let at = eqb-true x.place 10 e in absurd (omega arith)) (λ n10.
       let d1 = differ x.place 1 n1 in let d2 = differ x.place 2 n2 in let d3 = differ x.place 3 n3 in let d4 = differ x.place 4 n4 in let d5 = differ x.place 5 n5 in let d6 = differ x.place 6 n6 in let d7 = differ x.place 7 n7 in let d8 = differ x.place 8 n8 in let d9 = differ x.place 9 n9 in let d10 = differ x.place 10 n10 in absurd (omega arith)))))))))))
 
   store_next : x.place < 7 → IsNextPlace x (table.store_took x old)
   unfolding table.store_took
   store_next few =
-      by_test (IsNextPlace x) (nat_eq x.place 1) _ _ (λ e. at_place x _ 1 e refl refl) (λ n1.
-      by_test (IsNextPlace x) (nat_eq x.place 2) _ _ (λ e. at_place x _ 2 e refl refl) (λ n2.
-      by_test (IsNextPlace x) (nat_eq x.place 3) _ _ (λ e. at_place x _ 3 e refl refl) (λ n3.
-      by_test (IsNextPlace x) (nat_eq x.place 4) _ _ (λ e. at_place x _ 4 e refl refl) (λ n4.
-      by_test (IsNextPlace x) (nat_eq x.place 5) _ _ (λ e. at_place x _ 5 e refl refl) (λ n5.
-      by_test (IsNextPlace x) (nat_eq x.place 6) _ _ (λ e. at_place x _ 6 e refl refl) (λ n6.
+      by_test (IsNextPlace x) (nat_eq x.place 1) _ _ (λ e. at_place x _ 1 e refl refl refl) (λ n1.
+      by_test (IsNextPlace x) (nat_eq x.place 2) _ _ (λ e. at_place x _ 2 e refl refl refl) (λ n2.
+      by_test (IsNextPlace x) (nat_eq x.place 3) _ _ (λ e. at_place x _ 3 e refl refl refl) (λ n3.
+      by_test (IsNextPlace x) (nat_eq x.place 4) _ _ (λ e. at_place x _ 4 e refl refl refl) (λ n4.
+      by_test (IsNextPlace x) (nat_eq x.place 5) _ _ (λ e. at_place x _ 5 e refl refl refl) (λ n5.
+      by_test (IsNextPlace x) (nat_eq x.place 6) _ _ (λ e. at_place x _ 6 e refl refl refl) (λ n6.
       by_test (IsNextPlace x) (nat_eq x.place 7) _ _ (λ e. let at = eqb-true x.place 7 e in absurd (omega arith)) (λ n7.
       let d1 = differ x.place 1 n1 in let d2 = differ x.place 2 n2 in let d3 = differ x.place 3 n3 in let d4 = differ x.place 4 n4 in let d5 = differ x.place 5 n5 in let d6 = differ x.place 6 n6 in let d7 = differ x.place 7 n7 in absurd (omega arith))))))))
 
   new_next : (shape : Shape) → x.place < 7 → IsNextPlace x (table.new_took g x shape old)
   unfolding table.new_took
   new_next shape few =
-      by_test (IsNextPlace x) (nat_eq x.place 1) _ _ (λ e. at_place x _ 1 e refl refl) (λ n1.
-      by_test (IsNextPlace x) (nat_eq x.place 2) _ _ (λ e. at_place x _ 2 e refl refl) (λ n2.
-      by_test (IsNextPlace x) (nat_eq x.place 3) _ _ (λ e. by_test (IsNextPlace x) x.full _ _ (λ _. at_place x _ 3 e refl refl) (λ _. at_place x _ 3 e refl refl)) (λ n3.
-      by_test (IsNextPlace x) (nat_eq x.place 4) _ _ (λ e. at_place x _ 4 e refl refl) (λ n4.
-      by_test (IsNextPlace x) (nat_eq x.place 5) _ _ (λ e. at_place x _ 5 e refl refl) (λ n5.
-      by_test (IsNextPlace x) (nat_eq x.place 6) _ _ (λ e. at_place x _ 6 e refl refl) (λ n6.
+      by_test (IsNextPlace x) (nat_eq x.place 1) _ _ (λ e. at_place x _ 1 e refl refl refl) (λ n1.
+      by_test (IsNextPlace x) (nat_eq x.place 2) _ _ (λ e. at_place x _ 2 e refl refl refl) (λ n2.
+      by_test (IsNextPlace x) (nat_eq x.place 3) _ _ (λ e. by_test (IsNextPlace x) x.full _ _ (λ _. at_place x _ 3 e refl refl refl) (λ _. at_place x _ 3 e refl refl refl)) (λ n3.
+      by_test (IsNextPlace x) (nat_eq x.place 4) _ _ (λ e. at_place x _ 4 e refl refl refl) (λ n4.
+      by_test (IsNextPlace x) (nat_eq x.place 5) _ _ (λ e. at_place x _ 5 e refl refl refl) (λ n5.
+      by_test (IsNextPlace x) (nat_eq x.place 6) _ _ (λ e. at_place x _ 6 e refl refl refl) (λ n6.
       by_test (IsNextPlace x) (nat_eq x.place 7) _ _ (λ e. let at = eqb-true x.place 7 e in absurd (omega arith)) (λ n7.
       let d1 = differ x.place 1 n1 in let d2 = differ x.place 2 n2 in let d3 = differ x.place 3 n3 in let d4 = differ x.place 4 n4 in let d5 = differ x.place 5 n5 in let d6 = differ x.place 6 n6 in let d7 = differ x.place 7 n7 in absurd (omega arith))))))))
 
@@ -164,6 +165,7 @@ module _ (c : State) (s : ℕ) where
       record {
         place = ap (λ (y : Flight). y.place) e ∙ t.place;
         call = ap (λ (y : Flight). y.call) e ∙ t.call;
+        entered = ap (λ (y : Flight). y.entered) e ∙ t.entered;
         answers = rw (not_last x.place (places_of x.call) few) refl;
       }
     where

@@ -17,3 +17,4 @@ pub mod Fits
 pub mod Handled
 pub mod Places
 pub mod Inside
+pub mod Laws

@@ -7,10 +7,11 @@ use Rattle.hk_core.specs.declared.outcome.Step.TheVariants.{Going, Ended}
 use Rattle.hk_core.specs.State.{State, flight_of}
 use Rattle.hk_core.specs.Step.{outcome_at}
 
--- the same call stands at its next place, and the step answers that it has places left
+-- the same call stands at its next place and goes through the same object, and the step answers that it has places left
 pub record GoesOn (before after : Flight) (answer : Step) : Type 0 where
   pub place : after.place ≡ before.place + 1
   pub call : after.call ≡ before.call
+  pub entered : after.entered ≡ before.entered
   pub answers : answer ≡ Going
 
 -- the seat is idle, and the step answers how the call ended

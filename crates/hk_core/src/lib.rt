@@ -9,6 +9,8 @@ mod machine;
 mod opening;
 mod outcome;
 mod spot;
+#[cfg(test)]
+mod tests;
 mod took;
 
 pub use event::Event;

@@ -1,10 +1,8 @@
 //! Rows of steps that were worked out by hand, on a machine that is lawful all along.
-ghost use Rattle.std.specs.Prelude.{◌≡◌, ◌<◌};
-ghost use Rattle.hk_core.specs.Lawful.{IsLawful};
-
 use crate::{Core, Fault, Memory, Outcome, Step};
 use hk_words::{Call, Geometry, Reply};
 use std::alloc::Global;
+use std::marker::Model;
 use std::process::Abort;
 use std::test::Fail;
 
@@ -12,7 +10,17 @@ use std::test::Fail;
 #[derive(Drop)]
 struct Machine {
     core: Core,
-    ghost lawful: { IsLawful core },
+}
+
+impl Model for Machine {
+    ghost use Rattle.hk_core.specs.State.{State};
+    ghost use Rattle.hk_core.specs.Lawful.{IsLawful};
+
+    ghost Value = { State };
+
+    ghost view = { λ m. m.core };
+
+    ghost invariant = { λ m. IsLawful m.core };
 }
 
 impl Machine {

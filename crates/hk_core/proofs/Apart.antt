@@ -1,6 +1,6 @@
 -- The object that a call is inside stands apart from all others, and only a call inside it writes its cells.
-use Rattle.std.proofs.Common.{◌≡◌, ◌≢◌, ℕ, ◌+◌, ◌<◌, ◌≤◌, Bool, true, false, inl, inr, refl, sym, ◌∙◌, ap, arith, Option, Some, None}
-use Rattle.std.proofs.lemmas.Bool.{cases_eq, cases_Bool, eqb-true, ltb-true}
+use Rattle.std.proofs.Common.{◌≡◌, ◌≢◌, ℕ, ◌+◌, ◌<◌, ◌≤◌, Bool, true, false, inl, inr, refl, arith, Some, None}
+use Rattle.std.proofs.lemmas.Bool.{cases_eq, eqb-true, ltb-true}
 use Rattle.std.specs.Prelude.{nat_eq, if◌then◌else◌}
 use Rattle.hk_words.specs.declared.call.Call.{Call}
 use Rattle.hk_words.specs.declared.call.Call.TheVariants as call
@@ -11,14 +11,13 @@ use Rattle.hk_core.specs.declared.flight.Flight.{Flight}
 use Rattle.hk_core.specs.State.{State}
 use Rattle.hk_core.specs.Begin.{has_field}
 use Rattle.hk_core.specs.Step.{number_cell, reference_cell, reference_size}
-use Rattle.hk_core.specs.View.{words_of, names_of, contents_of, flight_at, begun_at, refs_at, nums_at, size_at}
+use Rattle.hk_core.specs.View.{words_of, names_of, flight_at, refs_at, nums_at, size_at}
 use Rattle.hk_core.specs.Flights as f
 use Rattle.hk_core.specs.Colours.{shades_of, Apart, Covers}
 use Rattle.hk_core.specs.Inside.{cell_written, cell_written_at, kept_in, size_in, StandsApart}
 use Rattle.hk_core.specs.Lawful.{Lawful}
 use Rattle.hk_core.proofs.Inside.{inside_through, shapes_fit, good_sound}
 use Rattle.hk_core.proofs.kinds.Enter.{object_of}
-use Rattle.hk_core.proofs.kinds.WriteCell.{shades_mean}
 
 -- a cell that a flight writes is one of the words of the object that its call is inside
 pub record WritesThere (x : Flight) (p : ℕ) : Type 0 where
@@ -95,12 +94,14 @@ module _ (c : State) (history : History) (h : Lawful c history) where
       let at : x.at + w.offset ≡ p = w.at in
       let there : w.offset < reference_size x.entered = w.there in
       let after : place n ≤ p = covered.after in
-      let before : p < place n + size_in c history n = covered.before in
-      (w.inside, elim (cases_eq m n) [
-        | inl e ↦ e
-        | inr d ↦ absurd (overlap (place m) (size_in c history m) (place n) (size_in c history n) p (omega arith) (omega arith) after before
-        (objects_apart m n (inside_kept s s_below w.inside) (inside_kept t below inside) d))
-      ])
+      let before : p < place n + size_in c history n = covered.before in (
+        w.inside,
+        elim (cases_eq m n) [
+          | inl e ↦ e
+          | inr d ↦ absurd (overlap (place m) (size_in c history m) (place n) (size_in c history n) p (omega arith) (omega arith) after before
+              (objects_apart m n (inside_kept s s_below w.inside) (inside_kept t below inside) d))
+        ],
+      )
     where
       overlap : (a i b j p : ℕ) → a ≤ p → p < a + i → b ≤ p → p < b + j → Apart a i b j → ⊥
       overlap a i b j p a_from a_to b_from b_to (inl e) = absurd (omega arith)

@@ -1,9 +1,9 @@
 -- In a lawful state a seat in flight can step: its flight fits, its event may be fired, and a New finds a number in its
 -- entry.
-use Rattle.std.proofs.Common.{◌≡◌, ◌≢◌, ℕ, zero, suc, ◌+◌, ◌-◌, ◌*◌, ◌%◌, ◌^◌, ◌<◌, ◌≤◌, ◌⊎◌, Bool, true, false, inl, inr, refl, sym, ◌∙◌, ap, arith, List, Option, Some, None}
+use Rattle.std.proofs.Common.{◌≡◌, ◌≢◌, ℕ, zero, suc, ◌+◌, ◌*◌, ◌^◌, ◌<◌, ◌≤◌, ◌⊎◌, Bool, true, false, inl, inr, refl, sym, ◌∙◌, arith, List, Option, Some, None}
 use Rattle.std.proofs.lemmas.Bool.{cases_Bool, eqb-true, ltb-true, leb-true, le-leb, and_parts}
 use Rattle.std.proofs.lemmas.Bool.Decides.{nat_tests}
-use Rattle.std.specs.Prelude.{nat_eq, nat_le, ◌==◌, not, ◌&&◌, if◌then◌else◌}
+use Rattle.std.specs.Prelude.{nat_eq, nat_le, not, ◌&&◌, if◌then◌else◌}
 use Rattle.hk_words.specs.declared.geometry.Geometry.{Geometry}
 use Rattle.hk_words.specs.declared.call.Call.{Call}
 use Rattle.hk_words.specs.declared.call.Call.TheVariants as call
@@ -16,10 +16,9 @@ use Rattle.hk_words.specs.Shape.{size}
 use Rattle.hk_model.specs.History.{History}
 use Rattle.hk_core.specs.declared.event.Event.{Event}
 use Rattle.hk_core.specs.declared.event.Event.TheVariants as event
-use Rattle.hk_core.specs.declared.flight.Flight.{Flight}
 use Rattle.hk_core.specs.Event.{CanFireIf, learnt, old_of}
 use Rattle.hk_core.specs.State.{State}
-use Rattle.hk_core.specs.Begin.{has_field, copied}
+use Rattle.hk_core.specs.Begin.{copied}
 use Rattle.hk_core.specs.Collect.{last_cycle}
 use Rattle.hk_core.specs.Counts.{count_below}
 use Rattle.hk_core.specs.Facts as fact
@@ -27,7 +26,7 @@ use Rattle.hk_core.specs.Step as table
 use Rattle.hk_core.specs.Step.{number_cell, reference_cell, reference_size, reserved_fits, side_of, event_by, found_by}
 use Rattle.hk_core.specs.View.{words_of, decoded, names_of, contents_of, flight_at, begun_at}
 use Rattle.hk_core.specs.Flights as f
-use Rattle.hk_core.specs.Fits.{NamesNumber, IsInSpaces, CallFits, Fits, FindsNumber, CanStep}
+use Rattle.hk_core.specs.Fits.{NamesNumber, CallFits, FindsNumber, CanStep}
 use Rattle.hk_core.specs.Colours.{shades_of, IsGood, IsNullOrGood}
 use Rattle.hk_core.specs.Lawful.{Lawful}
 use Rattle.hk_core.proofs.Counts.{count_some}
@@ -35,7 +34,6 @@ use Rattle.hk_core.proofs.Columns.{raw_entry}
 use Rattle.hk_core.proofs.Fires.{can_load_w0, can_load_entry, can_read_cell, can_write_cell, can_write_header, can_write_register, can_claim, can_enter_object, can_leave_object, can_enter_frame, can_leave_frame, can_reserve, can_raise}
 use Rattle.hk_core.proofs.Inside.{LiesInSpaces, shapes_fit, good_sound, number_in_spaces, reference_in_spaces}
 use Rattle.hk_core.proofs.Reserved.{reserved_small}
-use Rattle.hk_core.proofs.kinds.Seats.{kept_means}
 use Rattle.hk_core.proofs.kinds.Enter.{object_of}
 use Rattle.hk_core.proofs.kinds.Words.{room_in_object, some_in_object, version_room, frame_version_room}
 
@@ -184,9 +182,9 @@ module _ (c : State) (history : History) (s : ℕ) (below : s < tasks c.geometry
       let g = c.geometry in
       by_test c.row (x.claimer && reserved_fits g x.offset x.item) _ _
       (λ e.
-          let fits : x.offset + reference_size x.item ≤ g.live = leb-true (x.offset + reference_size x.item) g.live (and_parts x.claimer (reserved_fits g x.offset x.item) e).1 in
-          let side : side_of x < 2 = omega arith in
-          can_write_cell g c.row h.sized.row (place_at g (side_of x) x.offset) x.item (omega arith) (in_space g (side_of x) x.offset side (omega arith)))
+      let fits : x.offset + reference_size x.item ≤ g.live = leb-true (x.offset + reference_size x.item) g.live (and_parts x.claimer (reserved_fits g x.offset x.item) e).1 in
+      let side : side_of x < 2 = omega arith in
+      can_write_cell g c.row h.sized.row (place_at g (side_of x) x.offset) x.item (omega arith) (in_space g (side_of x) x.offset side (omega arith)))
       (λ other. tt)
     where
       in_space : (g : Geometry) (side offset : ℕ) → side < 2 → offset < space_words g → place_at g side offset ≤ 2 * space_words g
@@ -390,33 +388,41 @@ module _ (c : State) (history : History) (s : ℕ) (below : s < tasks c.geometry
   call_fits some = each (flight_at c s).call refl
     where
       each : (call : Call) → (flight_at c s).call ≡ call → CallFits c.geometry (flight_at c s) call
-      each (call.Get reg field) e =
-          (entered_names (rw e refl) (le-leb 1 _ some),
-          (λ at. (number_lies (rw (e, at) refl) field (ltb-true field _ (rw e at (h.facts.fields_there s below (rw at refl))))).within))
-      each (call.Put reg field value) e =
-          (entered_names (rw e refl) (le-leb 1 _ some),
-          (λ at. (number_lies (rw (e, at) refl) field (ltb-true field _ (rw e at (h.facts.fields_there s below (rw at refl))))).within))
+      each (call.Get reg field) e = (
+        entered_names (rw e refl) (le-leb 1 _ some),
+        (λ at. (number_lies (rw (e, at) refl) field (ltb-true field _ (rw e at (h.facts.fields_there s below (rw at refl))))).within),
+      )
+      each (call.Put reg field value) e = (
+        entered_names (rw e refl) (le-leb 1 _ some),
+        (λ at. (number_lies (rw (e, at) refl) field (ltb-true field _ (rw e at (h.facts.fields_there s below (rw at refl))))).within),
+      )
       each (call.Load dest reg field) e =
-          let registers : RegistersFit c.geometry.registers (call.Load dest reg field) = rw e at ((h.facts.flights_formed s below).registers (le-leb 1 _ some)) in
-          (registers.0.1, entered_names (rw e refl) (le-leb 1 _ some),
-          (λ at. (reference_lies (rw (e, at) refl) field (ltb-true field _ (rw e at (h.facts.fields_there s below (rw at refl))))).within),
-          (λ at. loaded_names (rw (e, at) refl)))
-      each (call.Store reg field from) e =
-          (entered_names (rw e refl) (le-leb 1 _ some),
-          (λ at. store_item reg field from e (le-leb 1 _ some)),
-          (λ at. (reference_lies (rw (e, at) refl) field (ltb-true field _ (rw e at (h.facts.fields_there s below (rw at refl))))).within))
+          let registers : RegistersFit c.geometry.registers (call.Load dest reg field) = rw e at ((h.facts.flights_formed s below).registers (le-leb 1 _ some)) in (
+            registers.0.1,
+            entered_names (rw e refl) (le-leb 1 _ some),
+            (λ at. (reference_lies (rw (e, at) refl) field (ltb-true field _ (rw e at (h.facts.fields_there s below (rw at refl))))).within),
+            (λ at. loaded_names (rw (e, at) refl)),
+          )
+      each (call.Store reg field from) e = (
+        entered_names (rw e refl) (le-leb 1 _ some),
+        (λ at. store_item reg field from e (le-leb 1 _ some)),
+        (λ at. (reference_lies (rw (e, at) refl) field (ltb-true field _ (rw e at (h.facts.fields_there s below (rw at refl))))).within),
+      )
       each (call.Move dest from) e =
           let registers : RegistersFit c.geometry.registers (call.Move dest from) = rw e at ((h.facts.flights_formed s below).registers (le-leb 1 _ some)) in registers.0.1
       each (call.Clear dest) e =
           let registers : RegistersFit c.geometry.registers (call.Clear dest) = rw e at ((h.facts.flights_formed s below).registers (le-leb 1 _ some)) in registers.1
       each (call.New dest shape) e =
           let registers : RegistersFit c.geometry.registers (call.New dest shape) = rw e at ((h.facts.flights_formed s below).registers (le-leb 1 _ some)) in
-          let size' : 0 < size shape = omega arith in
-          (registers.1,
-          (λ at found. (h.facts.news_found_room s below (new_has_room dest shape e 4 at refl found)).entry),
-          (λ at found. (new_number dest shape e 5 at refl found,
-          (let room = (h.facts.news_found_room s below (new_has_room dest shape e 5 at refl found)).words in let same : f.new_size (flight_at c s) ≡ size shape = new_sized dest shape e in omega arith))),
-          (λ at found. new_number dest shape e 6 at refl found))
+          let size' : 0 < size shape = omega arith in (
+            registers.1,
+            (λ at found. (h.facts.news_found_room s below (new_has_room dest shape e 4 at refl found)).entry),
+            (λ at found. (
+              new_number dest shape e 5 at refl found,
+              (let room = (h.facts.news_found_room s below (new_has_room dest shape e 5 at refl found)).words in let same : f.new_size (flight_at c s) ≡ size shape = new_sized dest shape e in omega arith),
+            )),
+            (λ at found. new_number dest shape e 6 at refl found),
+          )
       each (call.Same a b) e = tt
       each (call.IsNull reg) e = tt
 

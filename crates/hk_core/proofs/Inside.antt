@@ -1,5 +1,5 @@
 -- What a call inside an object knows of it: its words are in the spaces, and so is each cell.
-use Rattle.std.proofs.Common.{◌≡◌, ◌≢◌, ℕ, zero, suc, ◌+◌, ◌*◌, ◌^◌, ◌<◌, ◌≤◌, Bool, true, false, inl, inr, refl, sym, ◌∙◌, ap, arith, Option, Some, None}
+use Rattle.std.proofs.Common.{◌≡◌, ℕ, zero, suc, ◌+◌, ◌*◌, ◌^◌, ◌<◌, ◌≤◌, true, inl, inr, refl, arith, Option, Some, None}
 use Rattle.std.specs.Prelude.{slice_get, unwrap_or, option_map, nat_le, ◌&&◌}
 use Rattle.std.proofs.lemmas.Bool.Decides.{nat_tests}
 use Rattle.hk_words.specs.declared.geometry.Geometry.{Geometry}
@@ -14,14 +14,13 @@ use Rattle.hk_model.specs.History.{History, after}
 use Rattle.hk_core.specs.declared.flight.Flight.{Flight}
 use Rattle.hk_core.specs.declared.spot.Spot.{Spot}
 use Rattle.hk_core.specs.declared.spot.Line.{Line}
-use Rattle.hk_core.specs.Begin.{has_field}
 use Rattle.hk_core.specs.Collect.{current_space, old_space}
 use Rattle.hk_core.specs.Step.{number_cell, reference_cell, reference_size}
 use Rattle.hk_core.specs.View.{Words, Names, Contents, names_of, refs_at, nums_at, size_at, reference_at}
 use Rattle.hk_core.specs.Flights as f
-use Rattle.hk_core.specs.Colours.{Shades, shades_of, spaces_of, IsGood}
+use Rattle.hk_core.specs.Colours.{shades_of, IsGood}
 use Rattle.hk_core.specs.Lawful.{FactsOf}
-use Rattle.hk_core.proofs.kinds.Seats.{KeptMeans, kept_means}
+use Rattle.hk_core.proofs.kinds.Seats.{kept_means}
 use Rattle.hk_core.proofs.kinds.Enter.{object_of}
 use Rattle.hk_core.proofs.kinds.Read.{ShapesFit}
 use Rattle.hk_core.proofs.kinds.WriteCell.{shades_mean}
@@ -41,9 +40,10 @@ of_object_small read bound h birth some small = each (slice_get h.objects birth)
 pub shapes_fit : (g : Geometry) (history : History) → ShapesFit (names_of g history)
 unfolding names_of heap.refs heap.nums
 shapes_fit g history b =
-    let h = after (heap.opening_of g) history in
-    (of_object_small (λ o. o.shape.refs) (2 ^ 8) h b (omega arith) (λ o. let few = o.shape.few in omega arith),
-    of_object_small (λ o. o.shape.nums) (2 ^ 8) h b (omega arith) (λ o. let few = o.shape.few in omega arith))
+    let h = after (heap.opening_of g) history in (
+      of_object_small (λ o. o.shape.refs) (2 ^ 8) h b (omega arith) (λ o. let few = o.shape.few in omega arith),
+      of_object_small (λ o. o.shape.nums) (2 ^ 8) h b (omega arith) (λ o. let few = o.shape.few in omega arith),
+    )
 
 pub refs_small : (names : Names) (n : ℕ) → ShapesFit names → refs_at names n < 2 ^ 8
 unfolding refs_at

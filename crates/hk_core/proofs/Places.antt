@@ -1,18 +1,16 @@
 -- How a step moves a flight along the places of its call's row.
-use Rattle.std.proofs.Common.{◌≡◌, ◌≢◌, ℕ, ◌+◌, ◌<◌, ◌≤◌, Bool, true, false, length, length-set, refl, sym, ◌∙◌, ap, arith, Option, Some, None}
+use Rattle.std.proofs.Common.{◌≡◌, ◌≢◌, ℕ, ◌+◌, ◌<◌, ◌≤◌, Bool, true, false, length, refl, ◌∙◌, ap, arith, Option, Some, None}
 use Rattle.std.proofs.lemmas.Bool.{eqb-true, eq-eqb}
 use Rattle.std.proofs.lemmas.Bool.Decides.{nat_tests}
-use Rattle.std.specs.Prelude.{nat_eq, ◌==◌, if◌then◌else◌}
+use Rattle.std.specs.Prelude.{nat_eq, if◌then◌else◌}
 use Rattle.hk_words.specs.declared.geometry.Geometry.{Geometry}
 use Rattle.hk_words.specs.declared.call.Call.{Call}
 use Rattle.hk_words.specs.declared.call.Call.TheVariants as call
 use Rattle.hk_words.specs.declared.shape.Shape.{Shape}
-use Rattle.hk_model.specs.View.{upd}
 use Rattle.hk_model.proofs.Updates.{upd_same, upd_other}
 use Rattle.hk_core.specs.declared.flight.Flight.{Flight}
 use Rattle.hk_core.specs.declared.outcome.Fault.{Fault}
-use Rattle.hk_core.specs.declared.outcome.Step.TheVariants.{Going, Ended}
-use Rattle.hk_core.specs.State.{State, IsSized, idle, flight_of}
+use Rattle.hk_core.specs.State.{State, idle, flight_of}
 use Rattle.hk_core.specs.Begin.{refusal, first_flight, accepted, after_begin, begun_or}
 use Rattle.hk_core.specs.Step as table
 use Rattle.hk_core.specs.Step.{places_of, outcome_at, took_of, step_of, found_by, answer_by, next}

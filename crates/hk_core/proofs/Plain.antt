@@ -1,16 +1,14 @@
 -- The rows of Get, Put, Move and Clear: at each of their places a step keeps a lawful state lawful.
-use Rattle.std.proofs.Common.{◌≡◌, ◌≢◌, ℕ, ◌<◌, ◌≤◌, ◌⊎◌, Bool, true, false, inl, inr, [], ◌∷◌, ◌++◌, refl, sym, ◌∙◌, ap, arith, Option, Some, None}
-use Rattle.std.proofs.lemmas.Bool.{cases_eq, ltb-true, both_ways}
-use Rattle.std.specs.Prelude.{option_to_list}
+use Rattle.std.proofs.Common.{◌≡◌, ◌≢◌, ℕ, ◌<◌, ◌≤◌, ◌⊎◌, true, false, inl, inr, refl, sym, ap, arith, Some, None}
+use Rattle.std.proofs.lemmas.Bool.{cases_eq, ltb-true}
 use Rattle.hk_words.specs.declared.geometry.Geometry.{Geometry}
 use Rattle.hk_words.specs.declared.call.Call.{Call}
 use Rattle.hk_words.specs.declared.call.Call.TheVariants as call
-use Rattle.hk_words.specs.declared.call.Reply.TheVariants as reply
 use Rattle.hk_words.specs.Geometry.{tasks}
 use Rattle.hk_words.specs.Calls.{RegistersFit}
 use Rattle.hk_words.specs.Layout as layout
 use Rattle.hk_words.specs.Row.{frame_at, register_at, space_at}
-use Rattle.hk_model.specs.History.{Entry, History}
+use Rattle.hk_model.specs.History.{History}
 use Rattle.hk_model.proofs.Updates.{upd_other}
 use Rattle.hk_core.specs.declared.event.Event.TheVariants as event
 use Rattle.hk_core.specs.declared.flight.Flight.{Flight}
@@ -26,11 +24,11 @@ use Rattle.hk_core.specs.Inside.{cell_written}
 use Rattle.hk_core.proofs.Next.{StepsWell, steps_to, steps_well}
 use Rattle.hk_core.proofs.Inside.{shapes_fit, number_in_spaces}
 use Rattle.hk_core.proofs.Rows.{TablesSay, says_so, does_place, flights_facts, words_some, found_cell, enters_object, ends_in_object, enters_frame, ends_in_frame}
-use Rattle.hk_core.proofs.kinds.Seats.{FlightFacts, moved_on, kept_means, facts_of_flight}
+use Rattle.hk_core.proofs.kinds.Seats.{moved_on, kept_means, facts_of_flight}
 use Rattle.hk_core.proofs.kinds.Enter.{get_enters, put_enters}
 use Rattle.hk_core.proofs.kinds.Leave.{get_leaves, put_leaves}
 use Rattle.hk_core.proofs.kinds.Frame.{move_enters, move_leaves}
-use Rattle.hk_core.proofs.kinds.Read.{Knows, read_on, get_reads, object_known, number_read, read_number, got, names-got, contents-got, legal-got}
+use Rattle.hk_core.proofs.kinds.Read.{read_on, get_reads, object_known, number_read, read_number, got, names-got, contents-got, legal-got}
 use Rattle.hk_core.proofs.kinds.Words.{words-load, words-write_register, words-write_cell}
 use Rattle.hk_core.proofs.kinds.WriteRegister.{writing_words, move_writes, clear_writes}
 use Rattle.hk_core.proofs.kinds.WriteCell.{cell_words, put_writes, put_knows, bearers_numbered, put_entry, names-put, contents-put, legal-put}

@@ -1,10 +1,10 @@
 -- The words reserved for evacuation are few: ranges tile them, and no number has two.
 use Rattle.std.proofs.Common.{◌≡◌, ◌≢◌, ℕ, zero, suc, ◌+◌, ◌*◌, ◌^◌, ◌<◌, ◌≤◌, Bool, true, false, inl, inr, refl, sym, ◌∙◌, ap, arith, Option, Some, None}
-use Rattle.std.proofs.lemmas.Bool.{both_ways, cases_Bool, cases_eq, cases_lt, and_parts, and_from, leb-true, le-leb, eqb-true, eq-eqb, ltb-true, lt-ltb}
+use Rattle.std.proofs.lemmas.Bool.{cases_Bool, cases_eq, cases_lt, and_parts, and_from, leb-true, le-leb, eqb-true, eq-eqb, ltb-true, lt-ltb}
 use Rattle.std.specs.Prelude.{nat_eq, nat_le, nat_lt, ◌&&◌}
-use Rattle.hk_words.specs.Geometry.{tasks, numbers}
+use Rattle.hk_words.specs.Geometry.{numbers}
 use Rattle.hk_model.specs.History.{History}
-use Rattle.hk_core.specs.Counts.{count_below, any_below}
+use Rattle.hk_core.specs.Counts.{count_below}
 use Rattle.hk_core.specs.Facts as fact
 use Rattle.hk_core.specs.State.{State}
 use Rattle.hk_core.specs.View.{words_of, names_of, flight_at, size_at}
@@ -12,7 +12,6 @@ use Rattle.hk_core.specs.Colours.{shades_of}
 use Rattle.hk_core.specs.Lawful.{Lawful}
 use Rattle.hk_core.proofs.Counts.{one_if, count_some, count_bounded}
 use Rattle.hk_core.proofs.Inside.{shapes_fit, refs_small, nums_small}
-use Rattle.hk_core.proofs.kinds.Seats.{kept_means}
 use Rattle.hk_core.proofs.kinds.WriteCell.{shades_mean}
 
 -- COUNTS

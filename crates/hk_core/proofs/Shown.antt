@@ -1,8 +1,7 @@
 -- The registers of an idle seat show those of the plain heap, so questions about them have its answers.
 use Rattle.std.proofs.Common.{◌≡◌, ◌≢◌, ℕ, ◌+◌, ◌^◌, ◌<◌, Bool, true, false, inl, inr, refl, sym, ◌∙◌, ap, arith, Option, Some, None}
-use Rattle.std.proofs.lemmas.Bool.{cases_Bool, both_ways, eqb-true, eq-eqb}
-use Rattle.std.specs.Prelude.{◌↔◌, IsTrue, nat_eq, is_none}
-use Rattle.hk_words.specs.declared.geometry.Geometry.{Geometry}
+use Rattle.std.proofs.lemmas.Bool.{eqb-true, eq-eqb}
+use Rattle.std.specs.Prelude.{◌↔◌, IsTrue, is_none}
 use Rattle.hk_words.specs.declared.call.Call.{Call}
 use Rattle.hk_words.specs.declared.call.Call.TheVariants as call
 use Rattle.hk_words.specs.Geometry.{tasks, numbers}
@@ -13,11 +12,10 @@ use Rattle.hk_model.specs.Replies.{reply_of, said, is_same}
 use Rattle.hk_model.proofs.Replies.{reply_of-same, reply_of-is_null}
 use Rattle.hk_core.specs.declared.flight.Flight.{Flight}
 use Rattle.hk_core.specs.Begin.{register_word}
-use Rattle.hk_core.specs.Facts as fact
 use Rattle.hk_core.specs.State.{State}
 use Rattle.hk_core.specs.View.{Names, decoded, words_of, names_of, contents_of, shown, flight_at}
 use Rattle.hk_core.specs.Flights as f
-use Rattle.hk_core.specs.Colours.{Shades, shades_of, IsNullOrKept, IsKeptBirth}
+use Rattle.hk_core.specs.Colours.{shades_of, IsNullOrKept, IsKeptBirth}
 use Rattle.hk_core.specs.Lawful.{Lawful}
 use Rattle.hk_core.proofs.Columns.{raw_register}
 use Rattle.hk_core.proofs.kinds.Seats.{kept_means}
@@ -94,12 +92,13 @@ module _ (c : State) (history : History) (s : ℕ) (below : s < tasks c.geometry
       let of_a : IsKeptBirth (shades_of g (words_of g c.row) (flight_at c) c.spot.line names).kept names a = birth_kept a k in
       let of_b : IsKeptBirth (shades_of g (words_of g c.row) (flight_at c) c.spot.line names).kept names b = birth_kept b l in
       let fits_a : names.number a < numbers g = (kept_means g (words_of g c.row) (flight_at c) c.spot.line names (names.number a) of_a.is_kept).within in
-      let fits_b : names.number b < numbers g = (kept_means g (words_of g c.row) (flight_at c) c.spot.line names (names.number b) of_b.is_kept).within in
-      ((λ e. let same : a ≡ b = eqb-true a b e in rw same refl),
-      (λ e.
-          let number : names.number a ≡ names.number b = packed_number (names.number a) (names.number b) _ _ _ _ (omega arith) (omega arith) e in
-          let borne : Some a ≡ Some b = sym of_a.bears ∙ ap names.bearer number ∙ of_b.bears in
-          eq-eqb a b (let x : a ≡ b = cc in x)))
+      let fits_b : names.number b < numbers g = (kept_means g (words_of g c.row) (flight_at c) c.spot.line names (names.number b) of_b.is_kept).within in (
+        (λ e. let same : a ≡ b = eqb-true a b e in rw same refl),
+        (λ e.
+            let number : names.number a ≡ names.number b = packed_number (names.number a) (names.number b) _ _ _ _ (omega arith) (omega arith) e in
+            let borne : Some a ≡ Some b = sym of_a.bears ∙ ap names.bearer number ∙ of_b.bears in
+            eq-eqb a b (let x : a ≡ b = cc in x)),
+      )
     where
       birth_kept : (d : ℕ) → IsNullOrKept (shades_of c.geometry (words_of c.geometry c.row) (flight_at c) c.spot.line (names_of c.geometry history)).kept (names_of c.geometry history) (Some d)
           → IsKeptBirth (shades_of c.geometry (words_of c.geometry c.row) (flight_at c) c.spot.line (names_of c.geometry history)).kept (names_of c.geometry history) d

@@ -1,5 +1,5 @@
 -- Laws of the machine, over its definitions alone.
-use Rattle.std.specs.Prelude.{◌≡◌, ◌≢◌, ◌↔◌, ℕ, ◌<◌, ◌≤◌, true, false, Option, Some, None}
+use Rattle.std.specs.Prelude.{◌≡◌, ◌↔◌, ℕ, ◌<◌, ◌≤◌, true, false, Some, None}
 use Rattle.hk_words.specs.declared.call.Call.{Call}
 use Rattle.hk_words.specs.Geometry.{tasks}
 use Rattle.hk_words.specs.Layout.{reference_number}
@@ -11,7 +11,7 @@ use Rattle.hk_core.specs.Step.{places_of, next, answer_by, history_after}
 use Rattle.hk_core.specs.Begin.{refusal, first_flight, after_begin}
 use Rattle.hk_core.specs.Run.{registers_fit}
 use Rattle.hk_core.specs.Fits.{CanStep}
-use Rattle.hk_core.specs.View.{words_of, flight_at}
+use Rattle.hk_core.specs.View.{words_of}
 use Rattle.hk_core.specs.Flights.{in_object}
 use Rattle.hk_core.specs.Colours.{Covers}
 use Rattle.hk_core.specs.Lawful.{Lawful}

@@ -1,6 +1,5 @@
 -- How a seat goes along the places of its call's row.
 use Rattle.std.specs.Prelude.{◌≡◌, ◌≢◌, ℕ, ◌+◌}
-use Rattle.hk_words.specs.declared.call.Call.{Call}
 use Rattle.hk_core.specs.declared.flight.Flight.{Flight}
 use Rattle.hk_core.specs.declared.outcome.Step.{Step}
 use Rattle.hk_core.specs.declared.outcome.Step.TheVariants.{Going, Ended}

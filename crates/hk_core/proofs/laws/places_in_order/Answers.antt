@@ -1,4 +1,4 @@
-use Rattle.std.proofs.Common.{◌≡◌, ℕ, ◌<◌, length, arith}
+use Rattle.std.proofs.Common.{ℕ, ◌<◌, length, arith}
 use Rattle.hk_words.specs.Geometry.{tasks}
 use Rattle.hk_core.specs.State.{State, IsSized}
 use Rattle.hk_core.specs.View.{flight_at}

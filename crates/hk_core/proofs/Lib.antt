@@ -19,3 +19,5 @@ pub mod Shown
 pub mod Places
 pub mod Registers
 pub mod Apart
+pub mod RowOfLoad
+pub mod RowOfStore

@@ -107,6 +107,18 @@ steps_to_silent c history s e y w range h below does words facts =
     let same : history ++ [] ≡ history = append_nil history in
     steps_to c history s e y None w range h below does words (rw same h.legal) (rw same facts)
 
+-- and where the facts are said of the row after its event, and of the flight that its place leads to
+pub steps_on_row : (c : State) (history : History) (s : ℕ) (o : Option Entry) (range : ℕ → Option ℕ)
+    → Lawful c history → s < tasks c.geometry → effect_of c.geometry (flight_at c s) (learnt c.row (event_of c.geometry (flight_at c s))) ≡ o
+    → Legal (opening_of c.geometry) (history ++ option_to_list o)
+    → FactsOf c.geometry (words_of c.geometry (fired_if c.row (event_of c.geometry (flight_at c s))))
+    (upd (flight_at c) s (took_of c.geometry (flight_at c s) (learnt c.row (event_of c.geometry (flight_at c s))))) (begun_at c) c.spot
+    (names_of c.geometry (history ++ option_to_list o)) (contents_of c.geometry (history ++ option_to_list o)) range
+    → StepsTo c history s (words_of c.geometry (fired_if c.row (event_of c.geometry (flight_at c s))))
+steps_on_row c history s o range h below entry legal facts =
+    steps_to c history s (event_of c.geometry (flight_at c s)) (took_of c.geometry (flight_at c s) (learnt c.row (event_of c.geometry (flight_at c s)))) o _ range h below
+    (record { event = refl; flight = refl; entry = entry }) refl legal facts
+
 -- A STEP AND WHAT CALLS ARE INSIDE
 
 -- a step leads to a lawful state, and leaves every object alone that a call is inside

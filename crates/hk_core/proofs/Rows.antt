@@ -4,7 +4,7 @@ use Rattle.std.proofs.lemmas.Bool.{eq-eqb}
 use Rattle.hk_words.specs.declared.geometry.Geometry.{Geometry}
 use Rattle.hk_words.specs.Geometry.{tasks, numbers, space_words}
 use Rattle.hk_words.specs.Layout as layout
-use Rattle.hk_words.specs.Row.{header_at, frame_at, space_at}
+use Rattle.hk_words.specs.Row.{w0_at, header_at, frame_at, space_at}
 use Rattle.hk_model.specs.History.{Entry, History}
 use Rattle.hk_core.specs.declared.event.Event.{Event}
 use Rattle.hk_core.specs.declared.event.Event.TheVariants as event
@@ -18,16 +18,17 @@ use Rattle.hk_core.specs.View.{Words, Names, Contents, decoded, words_of, names_
 use Rattle.hk_core.specs.Flights as f
 use Rattle.hk_core.specs.Colours.{shades_of}
 use Rattle.hk_core.specs.Lawful.{FactsOf, Lawful}
-use Rattle.hk_core.proofs.Columns.{raw_header, raw_space, fired_if_some}
+use Rattle.hk_core.proofs.Columns.{raw_w0, raw_header, raw_space, fired_if_some}
 use Rattle.hk_core.proofs.Next.{DoesPlace, StepsTo, steps_to_silent}
 use Rattle.hk_core.proofs.kinds.Seats.{FlightsFacts, moved_on, kept_means}
 use Rattle.hk_core.proofs.kinds.Enter as enter
 use Rattle.hk_core.proofs.kinds.Enter.{EntersObject, entering_words, object_of, get_enters, put_enters}
 use Rattle.hk_core.proofs.kinds.Leave as leave
-use Rattle.hk_core.proofs.kinds.Leave.{EndsInObject, leaving_words, get_leaves, put_leaves}
+use Rattle.hk_core.proofs.kinds.Leave.{EndsInObject, LeavesAndGoesOn, leaving_words}
+use Rattle.hk_core.proofs.kinds.LoadCycle.{LoadsCycle, loaded_on, load_cycle}
 use Rattle.hk_core.proofs.kinds.Frame as frame
 use Rattle.hk_core.proofs.kinds.Frame.{EntersFrame, EndsInFrame, entering_frame_words, leaving_frame_words, move_enters, move_leaves}
-use Rattle.hk_core.proofs.kinds.Words.{words-enter_object, words-leave_object, words-enter_frame, words-leave_frame, room_in_object, some_in_object}
+use Rattle.hk_core.proofs.kinds.Words.{words-load, words-enter_object, words-leave_object, words-enter_frame, words-leave_frame, room_in_object, some_in_object}
 
 -- WHAT A PLACE SHOWS
 
@@ -71,6 +72,10 @@ pub found_cell : (g : Geometry) (row : List ℕ) (p : ℕ) → 0 < p → p ≤ 2
 unfolding learnt old_of words_of decoded
 found_cell g row p some within = sym (raw_space g row p some within)
 
+pub found_w0 : (g : Geometry) (row : List ℕ) → layout.w0_cycle (learnt row (Some (event.Load (w0_at g)))) ≡ (words_of g row).cycle
+unfolding learnt old_of words_of decoded
+found_w0 g row = ap layout.w0_cycle (sym (raw_w0 g row))
+
 -- THE PLACES OF EACH KIND
 
 module _ (c : State) (history : History) (s : ℕ) (below : s < tasks c.geometry) (h : Lawful c history) where
@@ -113,6 +118,42 @@ module _ (c : State) (history : History) (s : ℕ) (below : s < tasks c.geometry
       (does_place c s (Some leaves) _ _ (idle x.seat) None tables refl refl)
       (words_some g c.row leaves (leaving_words w n) (words-leave_object g c.row h.sized.row n fits some))
       (leave.leave_object_last g w (flight_at c) (begun_at c) c.spot names (contents_of g history) h.range s below e h.facts)
+
+  -- a call leaves its object, and goes on
+  pub leaves_object : (q : ℕ) → LeavesAndGoesOn (flight_at c s).call (flight_at c s).place q
+      → TablesSay c.geometry (flight_at c s) (table.leave_object c.geometry (flight_at c s)) (λ old. moved_on (flight_at c s) q (flight_at c s).at) (λ old. None)
+      → StepsTo c history s (leaving_words (words_of c.geometry c.row) (object_of (flight_at c s)))
+  unfolding table.leave_object f.is_inside f.in_object
+  leaves_object q e tables =
+      let g = c.geometry in
+      let w = words_of g c.row in
+      let x = flight_at c s in
+      let n = object_of x in
+      let names = names_of g history in
+      let good = h.facts.entered_good s below e.through e.goes.flying in
+      let fits : n < numbers g = (kept_means g w (flight_at c) c.spot.line names n good.is_kept).within in
+      let some = some_in_object g w.accessors (flight_at c) s n below fits (rw e.inside (eq-eqb n n refl)) h.facts.accessors_counted in
+      let leaves = event.Sub (header_at g n) layout.leaving in
+      steps_to_silent c history s (Some leaves) (moved_on x q x.at) (leaving_words w n) h.range h below
+      (does_place c s (Some leaves) _ _ (moved_on x q x.at) None tables refl refl)
+      (words_some g c.row leaves (leaving_words w n) (words-leave_object g c.row h.sized.row n fits some))
+      (leave.leave_object g w (flight_at c) (begun_at c) c.spot names (contents_of g history) h.range s q below e h.facts)
+
+  -- a call inside its object loads W0
+  pub loads_cycle : (q : ℕ) → LoadsCycle (flight_at c s).call (flight_at c s).place q
+      → TablesSay c.geometry (flight_at c s) (table.load_w0 c.geometry) (λ old. loaded_on (flight_at c s) q old) (λ old. None)
+      → StepsTo c history s (words_of c.geometry c.row)
+  unfolding table.load_w0
+  loads_cycle q e tables =
+      let g = c.geometry in
+      let w = words_of g c.row in
+      let x = flight_at c s in
+      let loads = event.Load (w0_at g) in
+      let found = learnt c.row (Some loads) in
+      steps_to_silent c history s (Some loads) (loaded_on x q found) w h.range h below
+      (does_place c s (Some loads) _ _ (loaded_on x q found) None tables refl refl)
+      (words_some g c.row loads w (words-load g c.row (w0_at g)))
+      (load_cycle g w (flight_at c) (begun_at c) c.spot (names_of g history) (contents_of g history) h.range s q found below e (found_w0 g c.row) h.facts)
 
   -- a call enters its frame
   pub enters_frame : (q : ℕ) → EntersFrame (flight_at c s).call (flight_at c s).place q → f.is_resting (flight_at c s) ≡ false

@@ -57,7 +57,7 @@ fn begin(rt: &impl Abort, core: &mut Core, seat: u8, call: Call) -> Result<(), F
     assert!(rt; call.registers_fit(core.geometry().registers()));
     match call {
         Call::Same { .. } | Call::IsNull { .. } => panic!(rt; "a question"),
-        _ => core.start(seat, call),
+        _ => core.begin(seat, call),
     }
 }
 

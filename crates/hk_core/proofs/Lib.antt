@@ -8,3 +8,16 @@ pub mod Counts
 pub mod Columns
 pub mod Encode
 pub mod kinds
+pub mod Next
+pub mod Inside
+pub mod Rows
+pub mod Plain
+pub mod Fires
+pub mod Reserved
+pub mod Can
+pub mod Shown
+pub mod Places
+pub mod Registers
+pub mod Apart
+pub mod RowOfLoad
+pub mod RowOfStore

@@ -138,3 +138,7 @@ pub record Lawful (c : State) (history : History) : Type 0 where
   pub range : ℕ → Option ℕ
   pub facts : FactsOf c.geometry (words_of c.geometry c.row) (flight_at c) (begun_at c) c.spot
       (names_of c.geometry history) (contents_of c.geometry history) range
+
+-- a state is lawful where it is so for some history
+abbrev pub IsLawful : State → Type 0
+IsLawful c = (history : History) × Lawful c history

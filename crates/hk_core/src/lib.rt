@@ -4,15 +4,19 @@
 mod decide;
 mod event;
 mod flight;
+mod laws;
 mod machine;
 mod opening;
 mod outcome;
 mod spot;
+#[cfg(test)]
+mod tests;
 mod took;
 
 pub use event::Event;
 pub use flight::{Flight, reference_size, reserved_fits};
 pub use hk_model::Memory;
+pub use laws::{inside_an_object, lawful_states, places_in_order};
 pub use machine::{Core, MAX_CALLS};
 pub use outcome::{Fault, Outcome, Step};
 pub use spot::{Line, Spot, Stage, Work};

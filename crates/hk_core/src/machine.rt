@@ -1,15 +1,19 @@
-ghost use Rattle.std.specs.Prelude.{◌≡◌, ◌↔◌, ◌<◌, [], length, IsTrue, false, IfNone, IfOk, MatchResult, slice_index};
+ghost use Rattle.std.specs.Prelude.{◌≡◌, ◌↔◌, ◌<◌, ◌≤◌, [], length, IsTrue, true, false, IfNone, IfOk, MatchResult, slice_index};
 ghost use Rattle.hk_words.specs.Geometry.{tasks};
 ghost use Rattle.hk_words.specs.Layout.{w0_words, w0_cycle};
 ghost use Rattle.hk_words.specs.Row.{W0, W1, IsRegister, word_of};
 ghost use Rattle.hk_words.specs.Calls.{RegistersFit};
-ghost use Rattle.hk_model.specs.History.{is_question};
+ghost use Rattle.hk_words.specs.declared.call.Call.TheVariants.{Same, IsNull};
+ghost use Rattle.hk_model.specs.Heap.{opening_of};
+ghost use Rattle.hk_model.specs.History.{History, after, is_question};
+ghost use Rattle.hk_model.specs.Replies.{reply_of, said};
 ghost use Rattle.hk_core.specs.Event.{CanFire, CanFireIf, fired, fired_if, old_of, learnt};
 ghost use Rattle.hk_core.specs.State.{State, IsSized, opening, flight_of};
-ghost use Rattle.hk_core.specs.Step.{next, answer_by};
+ghost use Rattle.hk_core.specs.Step.{next, answer_by, history_after};
 ghost use Rattle.hk_core.specs.Begin.{most_calls, register_word, entered_word, copied_word, has_field, first_flight, after_begin, refusal};
 ghost use Rattle.hk_core.specs.Fits.{CanStep};
-ghost use Rattle.hk_core.specs.Lawful.{Lawful};
+ghost use Rattle.hk_core.specs.Lawful.{Lawful, IsLawful};
+ghost use Rattle.hk_core.specs.Handled.{is_handled};
 
 use crate::opening::{opening_begun, opening_flights, opening_row, opening_spot};
 use crate::{Event, Fault, Flight, Spot, Step};
@@ -112,19 +116,24 @@ impl Core {
         self.row[self.geometry.register_at(seat, reg) as usize]
     }
 
-    /// The register of the seat is null.
+    /// The register of the seat is null. For an idle seat of a lawful machine this is what the plain heap answers.
     pub fn is_null(&self, seat: u8, reg: u8) -> bool
         requires { IsRegister self.now.geometry seat reg }
-        ensures { IsTrue result ↔ (register_word self.now seat reg ≡ 0) }
+        ensures word { IsTrue result ↔ (register_word self.now seat reg ≡ 0) }
+        ensures plain { (history : History) → Lawful self.now history → (flight_of self.now.flights seat).place ≡ 0
+            → reply_of (after (opening_of self.now.geometry) history) seat (IsNull reg) ≡ said result }
     {
         self.register(seat, reg) == 0
     }
 
-    /// Two registers of the seat refer to one object, or are both null.
+    /// Two registers of the seat refer to one object, or are both null. For an idle seat of a lawful machine this is what
+    /// the plain heap answers.
     pub fn same(&self, seat: u8, a: u8, b: u8) -> bool
         requires first { IsRegister self.now.geometry seat a }
         requires second { IsRegister self.now.geometry seat b }
-        ensures { IsTrue result ↔ (register_word self.now seat a ≡ register_word self.now seat b) }
+        ensures word { IsTrue result ↔ (register_word self.now seat a ≡ register_word self.now seat b) }
+        ensures plain { (history : History) → Lawful self.now history → (flight_of self.now.flights seat).place ≡ 0
+            → reply_of (after (opening_of self.now.geometry) history) seat (Same a b) ≡ said result }
     {
         self.register(seat, a) == self.register(seat, b)
     }
@@ -200,9 +209,37 @@ impl Core {
         step
     }
 
-    /// Begins a call of a seat: it does no event. A call that is refused changes nothing.
+    /// Does the next place of a call in flight. The machine is lawful for each history for which it was, with the entry of
+    /// the place at its end where the place is the call's effect.
+    pub fn step(&mut self, seat: u8) -> Step
+        requires seat { seat < tasks self.old.geometry }
+        requires flying { 1 ≤ (flight_of self.old.flights seat).place }
+        requires lawful { IsLawful self.old }
+        requires call { is_handled (flight_of self.old.flights seat).call ≡ true }
+        ensures next { self.new ≡ next self.old seat }
+        ensures step { result ≡ answer_by self.old seat }
+        ensures lawful { (history : History) → Lawful self.old history → Lawful self.new (history_after self.old seat history) }
+    {
+        self.advance(seat)
+    }
+
+    /// Begins a call of a seat: it does no event. A call that is refused, for the first of the three reasons that holds,
+    /// changes nothing. The machine is lawful for each history for which it was.
+    pub fn begin(&mut self, seat: u8, call: Call) -> Result<(), Fault>
+        requires seat { seat < tasks self.old.geometry }
+        requires idle { (flight_of self.old.flights seat).place ≡ 0 }
+        requires question { is_question call ≡ false }
+        requires registers { RegistersFit self.old.geometry.registers call }
+        ensures state { self.new ≡ after_begin self.old seat call }
+        ensures answer { MatchResult result (λ _. refusal self.old seat call ≡ None) (λ fault. refusal self.old seat call ≡ Some fault) }
+        ensures lawful { (history : History) → Lawful self.old history → Lawful self.new history }
+    {
+        self.start(seat, call)
+    }
+
+    /// Puts a call in flight, where it isn't refused.
     #[tactic(auto, unfolding(crate::specs::Begin::after_begin, crate::specs::Begin::accepted))]
-    pub fn start(&mut self, seat: u8, call: Call) -> Result<(), Fault>
+    fn start(&mut self, seat: u8, call: Call) -> Result<(), Fault>
         requires seat { seat < tasks self.old.geometry }
         requires idle { (flight_of self.old.flights seat).place ≡ 0 }
         requires question { is_question call ≡ false }

@@ -1,0 +1,13 @@
+use Rattle.hk_core.specs.View.{flight_at}
+use Rattle.hk_core.proofs.Can.{can_step}
+use Rattle.hk_core.proofs.Plain.{handled_steps}
+use Rattle.hk_core.proofs.machine.Core.step.Goals as goal
+
+pub advance-requires-clause-can_step : goal.advance-requires-clause-can_step
+unfolding flight_at
+advance-requires-clause-can_step c = can_step c.args.self.now c.requires.lawful.0 c.args.seat c.requires.seat c.requires.lawful.1 c.requires.flying
+
+pub returns-clause-lawful : goal.returns-clause-lawful
+unfolding flight_at
+returns-clause-lawful c = λ history h.
+    rw c.advance.ensures.next (handled_steps c.args.self.now history c.args.seat c.requires.seat c.requires.flying c.requires.call h).lawful

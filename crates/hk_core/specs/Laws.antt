@@ -1,0 +1,103 @@
+-- Laws of the machine, over its definitions alone.
+use Rattle.std.specs.Prelude.{◌≡◌, ◌↔◌, ℕ, ◌<◌, ◌≤◌, true, false, Some, None}
+use Rattle.hk_words.specs.declared.call.Call.{Call}
+use Rattle.hk_words.specs.Geometry.{tasks}
+use Rattle.hk_words.specs.Layout.{reference_number}
+use Rattle.hk_words.specs.Calls.{RegistersFit}
+use Rattle.hk_model.specs.History.{History, is_question}
+use Rattle.hk_core.specs.declared.outcome.Fault.{Fault}
+use Rattle.hk_core.specs.State.{State, IsSized, flight_of}
+use Rattle.hk_core.specs.Step.{places_of, next, answer_by, history_after}
+use Rattle.hk_core.specs.Begin.{refusal, first_flight, after_begin}
+use Rattle.hk_core.specs.Run.{registers_fit}
+use Rattle.hk_core.specs.Fits.{CanStep}
+use Rattle.hk_core.specs.View.{words_of}
+use Rattle.hk_core.specs.Flights.{in_object}
+use Rattle.hk_core.specs.Colours.{Covers}
+use Rattle.hk_core.specs.Lawful.{Lawful}
+use Rattle.hk_core.specs.Handled.{is_handled}
+use Rattle.hk_core.specs.Places.{GoesOn, Ends, KeepsOthers}
+use Rattle.hk_core.specs.Inside.{cell_written, IsLeftAlone, size_in, StandsApart}
+
+-- LAWFUL STATES
+
+-- a begin keeps a lawful state lawful, for the same history
+abbrev pub BeginKeepsLawful : Type 0
+BeginKeepsLawful = (c : State) (history : History) (seat : ℕ) (call : Call) → seat < tasks c.geometry → (flight_of c.flights seat).place ≡ 0
+    → is_question call ≡ false → RegistersFit c.geometry.registers call → Lawful c history → Lawful (after_begin c seat call) history
+
+-- a step keeps it lawful, for the history with the entry of its place
+abbrev pub StepKeepsLawful : Type 0
+StepKeepsLawful = (c : State) (history : History) (seat : ℕ) → seat < tasks c.geometry → 1 ≤ (flight_of c.flights seat).place
+    → is_handled (flight_of c.flights seat).call ≡ true → Lawful c history → Lawful (next c seat) (history_after c seat history)
+
+-- in a lawful state each seat in flight can step, whatever its call
+abbrev pub LawfulCanStep : Type 0
+LawfulCanStep = (c : State) (history : History) (seat : ℕ) → seat < tasks c.geometry → 1 ≤ (flight_of c.flights seat).place → Lawful c history
+    → CanStep c seat
+
+-- PLACES
+
+-- a begin that is refused changes nothing
+abbrev pub RefusedChangesNothing : Type 0
+RefusedChangesNothing = (c : State) (seat : ℕ) (call : Call) (fault : Fault) → refusal c seat call ≡ Some fault → after_begin c seat call ≡ c
+
+-- after one that isn't, the seat has the call's first flight, which stands at place 1; no other flight is changed
+abbrev pub BeginsAtFirst : Type 0
+BeginsAtFirst = (c : State) (seat : ℕ) (call : Call) → IsSized c → seat < tasks c.geometry → refusal c seat call ≡ None
+    → flight_of (after_begin c seat call).flights seat ≡ first_flight c seat call
+
+abbrev pub BeginsAlone : Type 0
+BeginsAlone = (c : State) (seat : ℕ) (call : Call) → IsSized c → seat < tasks c.geometry → KeepsOthers c (after_begin c seat call) seat
+
+-- no flight of a lawful state is past the last place of its row
+abbrev pub StaysInRow : Type 0
+StaysInRow = (c : State) (history : History) (seat : ℕ) → seat < tasks c.geometry → Lawful c history
+    → (flight_of c.flights seat).place ≤ places_of (flight_of c.flights seat).call
+
+-- a step before the last place of the row leads to the next place, and one at the last place ends the call; no other
+-- flight is changed
+abbrev pub StepGoesOn : Type 0
+StepGoesOn = (c : State) (seat : ℕ) → IsSized c → seat < tasks c.geometry → 1 ≤ (flight_of c.flights seat).place
+    → (flight_of c.flights seat).place < places_of (flight_of c.flights seat).call
+    → GoesOn (flight_of c.flights seat) (flight_of (next c seat).flights seat) (answer_by c seat)
+
+abbrev pub StepEnds : Type 0
+StepEnds = (c : State) (seat : ℕ) → IsSized c → seat < tasks c.geometry → 1 ≤ (flight_of c.flights seat).place
+    → (flight_of c.flights seat).place ≡ places_of (flight_of c.flights seat).call
+    → Ends (flight_of c.flights seat) (flight_of (next c seat).flights seat) (answer_by c seat)
+
+abbrev pub StepsAlone : Type 0
+StepsAlone = (c : State) (seat : ℕ) → IsSized c → seat < tasks c.geometry → KeepsOthers c (next c seat) seat
+
+-- a test of the registers of a call says that they fit
+abbrev pub RegistersTested : Type 0
+RegistersTested = (registers : ℕ) (call : Call) → (registers_fit registers call ≡ true) ↔ RegistersFit registers call
+
+-- OBJECTS THAT CALLS ARE INSIDE
+
+-- no step changes the place in the header of an object that a call is inside, or a word of it, but for the cell that the
+-- step writes
+abbrev pub StepsLeaveAlone : Type 0
+StepsLeaveAlone = (c : State) (history : History) (seat inside : ℕ) → seat < tasks c.geometry → inside < tasks c.geometry
+    → 1 ≤ (flight_of c.flights seat).place → is_handled (flight_of c.flights seat).call ≡ true → in_object (flight_of c.flights inside) ≡ true → Lawful c history
+    → let n = reference_number (flight_of c.flights inside).entered in
+    IsLeftAlone (words_of c.geometry c.row) (words_of c.geometry (next c seat).row) (size_in c history n) (cell_written (flight_of c.flights seat)) n
+
+-- such an object stands apart from those of all other kept numbers, so none of these has its place
+abbrev pub InsideStandsApart : Type 0
+InsideStandsApart = (c : State) (history : History) (inside : ℕ) → inside < tasks c.geometry → in_object (flight_of c.flights inside) ≡ true → Lawful c history
+    → StandsApart c history (reference_number (flight_of c.flights inside).entered)
+
+-- the call knows its place
+abbrev pub InsideKnowsPlace : Type 0
+InsideKnowsPlace = (c : State) (history : History) (inside : ℕ) → inside < tasks c.geometry → in_object (flight_of c.flights inside) ≡ true → Lawful c history
+    → (flight_of c.flights inside).at ≡ (words_of c.geometry c.row).place (reference_number (flight_of c.flights inside).entered)
+
+-- and a cell of it is written only by a call that is inside it too
+abbrev pub WritesOwn : Type 0
+WritesOwn = (c : State) (history : History) (seat inside p : ℕ) → seat < tasks c.geometry → inside < tasks c.geometry
+    → in_object (flight_of c.flights inside) ≡ true → Lawful c history
+    → let n = reference_number (flight_of c.flights inside).entered in
+    cell_written (flight_of c.flights seat) ≡ Some p → Covers ((words_of c.geometry c.row).place n) (size_in c history n) p
+    → (in_object (flight_of c.flights seat) ≡ true) × (reference_number (flight_of c.flights seat).entered ≡ n)

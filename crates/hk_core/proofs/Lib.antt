@@ -21,3 +21,4 @@ pub mod Registers
 pub mod Apart
 pub mod RowOfLoad
 pub mod RowOfStore
+pub mod Linked

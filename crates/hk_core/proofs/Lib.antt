@@ -22,3 +22,4 @@ pub mod Apart
 pub mod RowOfLoad
 pub mod RowOfStore
 pub mod Linked
+pub mod Actions

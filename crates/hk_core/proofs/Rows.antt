@@ -1,4 +1,5 @@
--- The rows of the calls: at each place of Get, Put, Move and Clear a step keeps a lawful state lawful.
+-- The places that several calls have: a call enters its object or its frame, leaves it, or loads W0. At each of them a
+-- step leads to a lawful state.
 use Rattle.std.proofs.Common.{◌≡◌, ℕ, ◌*◌, ◌<◌, ◌≤◌, false, List, refl, sym, ◌∙◌, ap, arith, Option, Some, None}
 use Rattle.std.proofs.lemmas.Bool.{eq-eqb}
 use Rattle.hk_words.specs.declared.geometry.Geometry.{Geometry}

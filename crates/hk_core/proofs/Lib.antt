@@ -21,3 +21,5 @@ pub mod Registers
 pub mod Apart
 pub mod RowOfLoad
 pub mod RowOfStore
+pub mod Linked
+pub mod Actions

@@ -5,6 +5,7 @@ use Rattle.std.proofs.Common.{◌≡◌, ◌≢◌, ℕ, ◌<◌, true, [], ◌�
 use Rattle.std.specs.Prelude.{option_to_list}
 use Rattle.hk_words.specs.Geometry.{tasks}
 use Rattle.hk_model.specs.View.{upd}
+use Rattle.hk_model.proofs.Updates.{upd_other}
 use Rattle.hk_model.specs.Heap.{opening_of}
 use Rattle.hk_model.specs.History.{Entry, History, Legal}
 use Rattle.hk_core.specs.declared.event.Event.{Event}
@@ -14,9 +15,11 @@ use Rattle.hk_core.specs.State.{State}
 use Rattle.hk_core.specs.Step.{event_of, took_of, effect_of, event_by, found_by, next, history_after}
 use Rattle.hk_core.specs.View.{Words, words_of, names_of, contents_of, flight_at, begun_at, size_at}
 use Rattle.hk_core.specs.Flights as f
-use Rattle.hk_core.specs.Inside.{cell_written, IsLeftAlone}
+use Rattle.hk_core.specs.Inside.{cell_written, IsLeftAlone, kept_in, size_in}
 use Rattle.hk_core.specs.Lawful.{FactsOf, Lawful}
 use Rattle.hk_core.proofs.Encode.{flight_at-set}
+use Rattle.hk_core.specs.Colours.{Covers}
+use Rattle.hk_core.proofs.Inside.{inside_through}
 use Rattle.hk_core.proofs.kinds.Enter.{object_of}
 
 -- what the tables say of a seat's place: its event, the flight after it, and the entry that it adds
@@ -138,3 +141,29 @@ steps_well c history s w step places cells = record {
     words = λ p covered other. rw step.words (cells p other);
   };
 }
+
+-- so does one that changes no place of a kept number and no word of a kept object but the cell that it writes
+pub steps_well_kept : (c : State) (history : History) (s : ℕ) (w : Words) → Lawful c history → StepsTo c history s w
+    → ((n : ℕ) → kept_in c history n ≡ true → w.place n ≡ (words_of c.geometry c.row).place n)
+    → ((n p : ℕ) → kept_in c history n ≡ true → Covers ((words_of c.geometry c.row).place n) (size_in c history n) p → cell_written (flight_at c s) ≢ Some p
+    → w.cell p ≡ (words_of c.geometry c.row).cell p)
+    → StepsWell c history s
+steps_well_kept c history s w h step places cells = record {
+  lawful = step.lawful;
+  alone = λ t below inside.
+      let through = inside_through (flight_at c t) inside in
+      let kept : kept_in c history (object_of (flight_at c t)) ≡ true = (h.facts.entered_good t below through.0 through.1).is_kept in
+      record {
+        place = rw step.words (places (object_of (flight_at c t)) kept);
+        words = λ p covered other. rw step.words (cells (object_of (flight_at c t)) p kept covered other);
+      };
+}
+
+-- so does one that writes a word of no kept object
+pub steps_well_beside : (c : State) (history : History) (s : ℕ) (w : Words) (q v : ℕ) → Lawful c history → StepsTo c history s w
+    → w.place ≡ (words_of c.geometry c.row).place → w.cell ≡ upd (words_of c.geometry c.row).cell q v
+    → ((n : ℕ) → kept_in c history n ≡ true → ¬ Covers ((words_of c.geometry c.row).place n) (size_in c history n) q)
+    → StepsWell c history s
+steps_well_beside c history s w q v h step places cells beside =
+    steps_well_kept c history s w h step (λ n kept. ap (λ (f : ℕ → ℕ). f n) places)
+    (λ n p kept covered other. ap (λ (f : ℕ → ℕ). f p) cells ∙ upd_other (words_of c.geometry c.row).cell q v p (λ e. beside n kept (rw e at covered)))

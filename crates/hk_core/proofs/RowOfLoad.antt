@@ -1,9 +1,7 @@
 -- The row of a Load: the places at which it enters and leaves its frame and its object and loads W0. The other places are
 -- given.
-use Rattle.std.proofs.Common.{◌≡◌, ◌≢◌, ◌⊎◌, ℕ, suc, ◌<◌, ◌≤◌, Bool, true, false, inl, inr, refl, sym, ◌∙◌, ap, arith, Option, Some, None}
-use Rattle.std.proofs.lemmas.Bool.{cases_eq, cases_Bool}
-use Rattle.std.proofs.lemmas.Bool.Decides.{nat_tests}
-use Rattle.std.specs.Prelude.{nat_eq}
+use Rattle.std.proofs.Common.{◌≡◌, ℕ, suc, ◌<◌, ◌≤◌, false, inl, inr, refl, arith, Some, None}
+use Rattle.std.proofs.lemmas.Bool.{cases_eq}
 use Rattle.hk_words.specs.declared.geometry.Geometry.{Geometry}
 use Rattle.hk_words.specs.declared.call.Call.TheVariants as call
 use Rattle.hk_words.specs.Geometry.{tasks}
@@ -18,11 +16,11 @@ use Rattle.hk_core.specs.View.{flight_at}
 use Rattle.hk_core.specs.Flights as f
 use Rattle.hk_core.specs.Lawful.{Lawful}
 use Rattle.hk_core.proofs.Next.{StepsWell, steps_well}
-use Rattle.hk_core.proofs.Rows.{TablesSay, says_so, enters_object, ends_in_object, leaves_object, loads_cycle, enters_frame, ends_in_frame}
+use Rattle.hk_core.proofs.Rows.{TablesSay, says_so, enters_object, leaves_object, loads_cycle, enters_frame, ends_in_frame}
 use Rattle.hk_core.proofs.kinds.Seats.{moved_on}
-use Rattle.hk_core.proofs.kinds.LoadCycle.{loaded_on, load_loads_cycle, store_loads_cycle}
-use Rattle.hk_core.proofs.kinds.Enter.{load_enters, store_enters}
-use Rattle.hk_core.proofs.kinds.Leave.{load_leaves, store_leaves}
+use Rattle.hk_core.proofs.kinds.LoadCycle.{loaded_on, load_loads_cycle}
+use Rattle.hk_core.proofs.kinds.Enter.{load_enters}
+use Rattle.hk_core.proofs.kinds.Leave.{load_leaves}
 use Rattle.hk_core.proofs.kinds.Frame.{load_enters_frame, load_leaves_frame}
 
 module _ (g : Geometry) (x : Flight) (dest reg field : ℕ) (is_load : x.call ≡ call.Load dest reg field) where

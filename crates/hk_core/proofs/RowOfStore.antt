@@ -1,29 +1,24 @@
 -- The row of a Store: the places at which it enters and leaves its object and loads W0. The other places are given.
-use Rattle.std.proofs.Common.{◌≡◌, ◌≢◌, ◌⊎◌, ℕ, ◌<◌, ◌≤◌, Bool, true, false, inl, inr, refl, sym, ◌∙◌, ap, arith, Option, Some, None}
+use Rattle.std.proofs.Common.{◌≡◌, ℕ, ◌<◌, ◌≤◌, false, inl, inr, refl, arith, None}
 use Rattle.std.proofs.lemmas.Bool.{cases_Bool, eqb-true}
-use Rattle.std.proofs.lemmas.Bool.Decides.{nat_tests}
 use Rattle.std.specs.Prelude.{nat_eq}
 use Rattle.hk_words.specs.declared.geometry.Geometry.{Geometry}
 use Rattle.hk_words.specs.declared.call.Call.TheVariants as call
 use Rattle.hk_words.specs.Geometry.{tasks}
 use Rattle.hk_words.specs.Layout as layout
-use Rattle.hk_words.specs.Row.{frame_at}
 use Rattle.hk_model.specs.History.{History}
-use Rattle.hk_core.specs.declared.event.Event.TheVariants as event
 use Rattle.hk_core.specs.declared.flight.Flight.{Flight}
 use Rattle.hk_core.specs.State.{State, idle}
 use Rattle.hk_core.specs.Step as table
 use Rattle.hk_core.specs.View.{flight_at}
-use Rattle.hk_core.specs.Flights as f
 use Rattle.hk_core.specs.Lawful.{Lawful}
 use Rattle.hk_core.proofs.Next.{StepsWell, steps_well}
 use Rattle.hk_core.proofs.RowOfLoad.{choose}
-use Rattle.hk_core.proofs.Rows.{TablesSay, says_so, enters_object, ends_in_object, leaves_object, loads_cycle, enters_frame, ends_in_frame}
+use Rattle.hk_core.proofs.Rows.{TablesSay, enters_object, ends_in_object, loads_cycle}
 use Rattle.hk_core.proofs.kinds.Seats.{moved_on}
-use Rattle.hk_core.proofs.kinds.LoadCycle.{loaded_on, load_loads_cycle, store_loads_cycle}
-use Rattle.hk_core.proofs.kinds.Enter.{load_enters, store_enters}
-use Rattle.hk_core.proofs.kinds.Leave.{load_leaves, store_leaves}
-use Rattle.hk_core.proofs.kinds.Frame.{load_enters_frame, load_leaves_frame}
+use Rattle.hk_core.proofs.kinds.LoadCycle.{loaded_on, store_loads_cycle}
+use Rattle.hk_core.proofs.kinds.Enter.{store_enters}
+use Rattle.hk_core.proofs.kinds.Leave.{store_leaves}
 
 module _ (g : Geometry) (x : Flight) (reg field from : ℕ) (is_store : x.call ≡ call.Store reg field from) where
   store_says_1 : x.place ≡ 1 → TablesSay g x (table.enter_object g x) (λ old. moved_on x 2 (layout.header_place old)) (λ old. None)

@@ -1,10 +1,12 @@
--- The rows of the calls: at each place of Get, Put, Move and Clear a step keeps a lawful state lawful.
+-- The places that several calls have: a call enters its object or its frame, leaves it, or loads W0. At each of them a
+-- step leads to a lawful state.
 use Rattle.std.proofs.Common.{◌≡◌, ℕ, ◌*◌, ◌<◌, ◌≤◌, false, List, refl, sym, ◌∙◌, ap, arith, Option, Some, None}
 use Rattle.std.proofs.lemmas.Bool.{eq-eqb}
 use Rattle.hk_words.specs.declared.geometry.Geometry.{Geometry}
 use Rattle.hk_words.specs.Geometry.{tasks, numbers, space_words}
 use Rattle.hk_words.specs.Layout as layout
 use Rattle.hk_words.specs.Row.{w0_at, header_at, frame_at, space_at}
+use Rattle.hk_model.specs.View.{upd}
 use Rattle.hk_model.specs.History.{Entry, History}
 use Rattle.hk_core.specs.declared.event.Event.{Event}
 use Rattle.hk_core.specs.declared.event.Event.TheVariants as event
@@ -18,7 +20,7 @@ use Rattle.hk_core.specs.View.{Words, Names, Contents, decoded, words_of, names_
 use Rattle.hk_core.specs.Flights as f
 use Rattle.hk_core.specs.Colours.{shades_of}
 use Rattle.hk_core.specs.Lawful.{FactsOf, Lawful}
-use Rattle.hk_core.proofs.Columns.{raw_w0, raw_header, raw_space, fired_if_some}
+use Rattle.hk_core.proofs.Columns.{raw_w0, raw_header, raw_space, fired_if_some, fired_if_none}
 use Rattle.hk_core.proofs.Next.{DoesPlace, StepsTo, steps_to_silent}
 use Rattle.hk_core.proofs.kinds.Seats.{FlightsFacts, moved_on, kept_means}
 use Rattle.hk_core.proofs.kinds.Enter as enter
@@ -186,3 +188,11 @@ module _ (c : State) (history : History) (s : ℕ) (below : s < tasks c.geometry
       (does_place c s (Some leaves) _ _ (idle x.seat) None tables refl refl)
       (words_some g c.row leaves (leaving_frame_words w s) (words-leave_frame g c.row h.sized.row s below (omega arith)))
       (frame.leave_frame g w (flight_at c) (begun_at c) c.spot (names_of g history) (contents_of g history) h.range s below e busy h.facts)
+
+  -- a call rests: no word changes
+  pub rests : (y : Flight) → TablesSay c.geometry (flight_at c s) None (λ old. y) (λ old. None)
+      → FactsOf c.geometry (words_of c.geometry c.row) (upd (flight_at c) s y) (begun_at c) c.spot (names_of c.geometry history) (contents_of c.geometry history) h.range
+      → StepsTo c history s (words_of c.geometry c.row)
+  rests y tables facts =
+      steps_to_silent c history s None y (words_of c.geometry c.row) h.range h below (does_place c s None (λ old. y) (λ old. None) y None tables refl refl)
+      (ap (words_of c.geometry) (fired_if_none c.row)) facts

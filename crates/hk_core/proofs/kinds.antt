@@ -33,3 +33,4 @@ pub mod Link
 pub mod LinkSeats
 pub mod SpotRanges
 pub mod SpotLoads
+pub mod SpotSettled

@@ -33,3 +33,6 @@ pub mod Link
 pub mod LinkSeats
 pub mod NewTables
 pub mod NewSteps
+pub mod SpotRanges
+pub mod SpotLoads
+pub mod SpotSettled

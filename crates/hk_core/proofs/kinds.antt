@@ -34,3 +34,4 @@ pub mod LinkSeats
 pub mod SpotRanges
 pub mod SpotLoads
 pub mod SpotSettled
+pub mod SpotLoadsScan

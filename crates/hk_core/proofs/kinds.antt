@@ -35,3 +35,4 @@ pub mod SpotRanges
 pub mod SpotLoads
 pub mod SpotSettled
 pub mod SpotLoadsScan
+pub mod SpotLoadsCells

@@ -36,3 +36,4 @@ pub mod SpotLoads
 pub mod SpotSettled
 pub mod SpotLoadsScan
 pub mod SpotLoadsCells
+pub mod SpotLoadsPass

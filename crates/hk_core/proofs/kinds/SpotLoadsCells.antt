@@ -1,7 +1,7 @@
 -- The collector loads the header and the cells of the object that is moved, and loses an exchange of the header. A cell is
 -- good also where the header isn't the loaded one any more: the object is kept, and stands where the loaded header says.
-use Rattle.std.proofs.Common.{◌≡◌, ◌≢◌, ◌⊎◌, ℕ, ◌+◌, ◌*◌, ◌<◌, ◌≤◌, Bool, true, false, inl, inr, refl, sym, ◌∙◌, ap, arith, Option, Some, None}
-use Rattle.std.proofs.lemmas.Bool.{cases_Bool, cases_lt, eqb-true, eqb-false, ltb-true, ltb-false, lt-ltb, and_parts, and_from, not_from_false}
+use Rattle.std.proofs.Common.{◌≡◌, ◌≢◌, ℕ, ◌+◌, ◌*◌, ◌<◌, ◌≤◌, Bool, true, false, inl, inr, refl, sym, ◌∙◌, ap, arith, Option, Some, None}
+use Rattle.std.proofs.lemmas.Bool.{cases_Bool, eqb-true, eqb-false, ltb-true, ltb-false, lt-ltb, and_parts, and_from, not_from_false}
 use Rattle.std.specs.Prelude.{nat_eq, nat_lt, not, ◌&&◌, is_some, if◌then◌else◌}
 use Rattle.hk_words.specs.declared.geometry.Geometry.{Geometry}
 use Rattle.hk_words.specs.Layout as layout
@@ -13,16 +13,16 @@ use Rattle.hk_core.specs.Collect.{spot_took, took_at_line, look_took, cell_took,
 use Rattle.hk_core.specs.Step.{reference_size}
 use Rattle.hk_core.specs.View.{Words, Names, Contents, shown, refs_at, size_at, reference_at}
 use Rattle.hk_core.specs.Lines as l
-use Rattle.hk_core.specs.Colours.{Spaces, spaces_of, Shades, shades_of, held_by, IsGood, IsNullOrGood, IsNullOrKept, IsNullOrMarked}
+use Rattle.hk_core.specs.Colours.{Spaces, spaces_of, Shades, shades_of, held_by, IsGood, IsNullOrGood, IsNullOrKept}
 use Rattle.hk_core.specs.Facts.{ObjectBehind}
 use Rattle.hk_core.specs.Lawful.{FactsOf}
-use Rattle.hk_core.proofs.kinds.Seats.{IsKept, kept_means}
+use Rattle.hk_core.proofs.kinds.Seats.{kept_means}
 use Rattle.hk_core.proofs.kinds.Read.{ShapesFit, refuted}
 use Rattle.hk_core.proofs.kinds.LoadRead.{shown_good}
 use Rattle.hk_core.proofs.kinds.WriteCell.{reference_parts, size_of_reference}
 use Rattle.hk_core.proofs.kinds.ReserveSeats.{BearersHaveFields, two_words}
 use Rattle.hk_core.proofs.kinds.SpotLines.{AtItem, InObject, AtCell, AtObjectTrade, at_look, at_cell, at_object_trade, look_works, cell_works}
-use Rattle.hk_core.proofs.kinds.SpotLoads.{WorkAt, work_at, goes_on, took_at}
+use Rattle.hk_core.proofs.kinds.SpotLoads.{work_at, goes_on, took_at}
 
 never : {A : Type 0} → false ≡ true → A
 never e = absurd (cc)

@@ -1,7 +1,7 @@
 -- The pass loads the mark of a number, and its header where it was claimed. A number that isn't grey is past; a grey one
 -- sends the collector back to the scan. Where the last number is past, the state is settled.
 use Rattle.std.proofs.Common.{◌≡◌, ◌≢◌, ◌⊎◌, ℕ, ◌+◌, ◌<◌, ◌≤◌, Bool, true, false, inl, inr, refl, sym, ◌∙◌, ap, arith, Option}
-use Rattle.std.proofs.lemmas.Bool.{cases_eq, cases_Bool, both_ways, eqb-true, eqb-false, eq-eqb, ne_eqb, lt-ltb, le-leb, and_from}
+use Rattle.std.proofs.lemmas.Bool.{cases_eq, cases_Bool, eqb-true, eqb-false, lt-ltb, le-leb, and_from}
 use Rattle.std.specs.Prelude.{nat_eq, nat_lt, if◌then◌else◌}
 use Rattle.hk_words.specs.declared.geometry.Geometry.{Geometry}
 use Rattle.hk_words.specs.Geometry.{numbers, space_words}
@@ -11,7 +11,7 @@ use Rattle.hk_core.specs.declared.flight.Flight.{Flight}
 use Rattle.hk_core.specs.declared.spot.Spot.{Spot}
 use Rattle.hk_core.specs.declared.spot.Line.TheVariants as line
 use Rattle.hk_core.specs.declared.spot.Stage.TheVariants as stage
-use Rattle.hk_core.specs.Collect.{spot_took, took_at_line, pass_took, pass_head_took, after_pass, is_old, is_in_space, old_space}
+use Rattle.hk_core.specs.Collect.{spot_took, took_at_line, pass_took, pass_head_took, after_pass, is_old, old_space}
 use Rattle.hk_core.specs.View.{Words, Names, Contents}
 use Rattle.hk_core.specs.Lines as l
 use Rattle.hk_core.specs.Colours.{spaces_of, Shades, shades_of}
@@ -33,7 +33,7 @@ module _ (g : Geometry) (w : Words) (sh : Shades) (flight : ℕ → Flight) (n :
     meets = elim o.meets [
       | inl found ↦ elim (cases_eq found.0 n) [
         | inl here ↦ refuted (sh.grey found.0) (ap sh.grey here ∙ not_grey) found.3
-        | inr ahead ↦ inl (found.0, (let from : n ≤ found.0 = found.1 in let next : n + 1 ≤ found.0 = omega arith in next), found.2, found.3)
+        | inr ahead ↦ let from : n ≤ found.0 = found.1 in inl (found.0, (omega arith), found.2, found.3)
       ]
       | inr settled ↦ inr settled
     ];
@@ -71,8 +71,8 @@ module _ (g : Geometry) (w : Words) (flight : ℕ → Flight) (begun : ℕ → �
         let first : place_at g (old_space t.cycle) 0 ≡ z.old = ap (λ cycle. place_at g (old_space cycle) 0) same in
         let end : place_at g (old_space t.cycle) (space_words g) ≡ z.old + (z.live + z.alloc) = ap (λ cycle. place_at g (old_space cycle) (space_words g)) same ∙ ends (old_space w.cycle) in
         let stays : is_old g t old ≡ true = and_from _ _
-            (le-leb (place_at g (old_space t.cycle) 0) (layout.header_place old) (omega arith))
-            (lt-ltb (layout.header_place old) (place_at g (old_space t.cycle) (space_words g)) (omega arith)) in
+        (le-leb (place_at g (old_space t.cycle) 0) (layout.header_place old) (omega arith))
+        (lt-ltb (layout.header_place old) (place_at g (old_space t.cycle) (space_words g)) (omega arith)) in
         refuted (is_old g t old) moved stays
     | inr light ↦ light
   ]

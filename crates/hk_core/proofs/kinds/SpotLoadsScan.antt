@@ -1,7 +1,7 @@
 -- The collector loads W1, and the link word at the scan offset. Where more is reserved than the scan offset a range begins
 -- there; else the pass begins, with a grey number ahead or in a settled state.
-use Rattle.std.proofs.Common.{◌≡◌, ◌≢◌, ◌⊎◌, ℕ, ◌+◌, ◌<◌, ◌≤◌, Bool, true, false, inl, inr, refl, sym, ◌∙◌, ap, arith, Option}
-use Rattle.std.proofs.lemmas.Bool.{eqb-true, eqb-false, ltb-true, ltb-false}
+use Rattle.std.proofs.Common.{◌≡◌, ℕ, ◌+◌, ◌<◌, ◌≤◌, Bool, true, false, inl, inr, refl, sym, ap, arith, Option}
+use Rattle.std.proofs.lemmas.Bool.{eqb-false, ltb-true, ltb-false}
 use Rattle.std.specs.Prelude.{nat_eq, nat_lt, if◌then◌else◌}
 use Rattle.hk_words.specs.declared.geometry.Geometry.{Geometry}
 use Rattle.hk_words.specs.Geometry.{numbers}
@@ -12,14 +12,13 @@ use Rattle.hk_core.specs.Collect.{spot_took, took_at_line, scan_took, link_took,
 use Rattle.hk_core.specs.View.{Words, Names, Contents}
 use Rattle.hk_core.specs.Lines as l
 use Rattle.hk_core.specs.Colours.{spaces_of, shades_of}
-use Rattle.hk_core.specs.Facts.{IsSettled}
 use Rattle.hk_core.specs.Lawful.{FactsOf, hands_of}
 use Rattle.hk_core.proofs.kinds.LoadRead.{colours_mean}
 use Rattle.hk_core.proofs.kinds.WriteCell.{shades_mean}
-use Rattle.hk_core.proofs.kinds.SpotLines.{AllBlack, AtRange, AtItem, AtPass, at_scan, at_link, link_works, look_works, scan_works, pass_works}
-use Rattle.hk_core.proofs.kinds.SpotRanges.{RangeAt, Reaches, reaches}
+use Rattle.hk_core.proofs.kinds.SpotLines.{AllBlack, AtRange, AtPass, at_scan, at_link, link_works, look_works, scan_works, pass_works}
+use Rattle.hk_core.proofs.kinds.SpotRanges.{RangeAt, reaches}
 use Rattle.hk_core.proofs.kinds.SpotSettled.{some_or_none, settled_when_none_grey}
-use Rattle.hk_core.proofs.kinds.SpotLoads.{WorkAt, work_at, goes_on, took_at}
+use Rattle.hk_core.proofs.kinds.SpotLoads.{work_at, goes_on, took_at}
 
 module _ (g : Geometry) (w : Words) (flight : ℕ → Flight) (begun : ℕ → ℕ) (t : Spot) (names : Names) (contents : Contents) (range : ℕ → Option ℕ)
     (at : t.line ≡ line.Scan) (h : FactsOf g w flight begun t names contents range) where
@@ -46,7 +45,7 @@ module _ (g : Geometry) (w : Words) (flight : ℕ → Flight) (begun : ℕ → �
   scan_finds fits below =
       let sh = shades_of g w flight t.line names in
       let found : RangeAt range t.scan = (reaches g w (spaces_of g w.cycle) sh flight begun (hands_of g flight t) t names contents range h
-          (shades_mean g w flight t.line names)).at_range below in
+      (shades_mean g w flight t.line names)).at_range below in
       let within : t.scan + sh.size found.0 ≤ w.reserved = h.ranges_within t.scan found.0 found.1 in
       record { all_black = scanned_black; found = (found.0, found.1, (omega arith)) }
 

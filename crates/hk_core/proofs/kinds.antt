@@ -37,3 +37,4 @@ pub mod SpotSettled
 pub mod SpotLoadsScan
 pub mod SpotLoadsCells
 pub mod SpotLoadsPass
+pub mod SpotLoadsRow

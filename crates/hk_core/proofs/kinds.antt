@@ -36,3 +36,7 @@ pub mod NewSteps
 pub mod SpotRanges
 pub mod SpotLoads
 pub mod SpotSettled
+pub mod SpotLoadsScan
+pub mod SpotLoadsCells
+pub mod SpotLoadsPass
+pub mod SpotLoadsRow

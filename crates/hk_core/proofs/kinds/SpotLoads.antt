@@ -1,7 +1,7 @@
 -- The collector loads a word while it looks for objects. No word changes, no flight and no history, nor a claim in hand;
 -- the spot goes on. This page has the frames: an attempt begins, goes past its registers, and is lost.
-use Rattle.std.proofs.Common.{◌≡◌, ◌≢◌, ◌⊎◌, ℕ, ◌+◌, ◌*◌, ◌<◌, ◌≤◌, Bool, true, false, inl, inr, refl, sym, ◌∙◌, ap, subst, arith, Option}
-use Rattle.std.proofs.lemmas.Bool.{cases_eq, eqb-true, eqb-false, ne_eqb, ltb-true, ltb-false}
+use Rattle.std.proofs.Common.{◌≡◌, ◌≢◌, ℕ, ◌+◌, ◌*◌, ◌<◌, ◌≤◌, Bool, true, false, inl, inr, refl, sym, ◌∙◌, ap, arith, Option}
+use Rattle.std.proofs.lemmas.Bool.{cases_eq, eqb-true, eqb-false, ltb-true, ltb-false}
 use Rattle.std.specs.Prelude.{nat_eq, nat_lt, if◌then◌else◌}
 use Rattle.hk_words.specs.declared.geometry.Geometry.{Geometry}
 use Rattle.hk_words.specs.Layout as layout
@@ -14,7 +14,7 @@ use Rattle.hk_core.specs.Collect.{spot_took, took_at_line, frame_took, register_
 use Rattle.hk_core.specs.View.{Words, Names, Contents}
 use Rattle.hk_core.specs.Flights.{no_claim}
 use Rattle.hk_core.specs.Lines as l
-use Rattle.hk_core.specs.Colours.{spaces_of, Shades, shades_of, IsGood, IsNullOrGood, IsNullOrMarked}
+use Rattle.hk_core.specs.Colours.{spaces_of, Shades, shades_of, IsGood}
 use Rattle.hk_core.specs.Facts.{FrameBehind}
 use Rattle.hk_core.specs.Lawful.{FactsOf, hands_of}
 use Rattle.hk_core.proofs.kinds.Spots.{WorkFacts, on_spot, work_facts, marking_on}
@@ -51,7 +51,7 @@ module _ (g : Geometry) (w : Words) (flight : ℕ → Flight) (begun : ℕ → �
       let none : l.hand_of_spot t ≡ no_claim = ap (l.hand_at_line t) at ∙ o.from.no_hand in
       on_spot g w flight begun t other names contents range (o.to.no_hand ∙ sym none) (o.to.marking ∙ sym marking) h
       (marking_on g w (spaces_of g w.cycle) (shades_of g w flight t.line names) flight begun (hands_of g flight t) t names contents range h other
-        (record { from = marking; to = o.to.marking; cycle = o.cycle; scan = o.scan; entries = o.entries }) work)
+      (record { from = marking; to = o.to.marking; cycle = o.cycle; scan = o.scan; entries = o.entries }) work)
 
 -- what the spot takes at its line
 pub took_at : (g : Geometry) (t : Spot) (ln : Line) (old : ℕ) → t.line ≡ ln → spot_took g t old ≡ took_at_line g t old ln

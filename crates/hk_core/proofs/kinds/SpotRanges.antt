@@ -1,6 +1,6 @@
 -- What the ranges say of the scan offset: where something is reserved behind it, a range begins there. So where no number
 -- is grey, nothing is.
-use Rattle.std.proofs.Common.{◌≡◌, ◌≢◌, ℕ, zero, suc, ◌+◌, ◌<◌, ◌≤◌, Bool, true, false, inl, inr, refl, subst, arith, Option, Some, None}
+use Rattle.std.proofs.Common.{◌≡◌, ◌≢◌, ℕ, zero, suc, ◌+◌, ◌<◌, ◌≤◌, Bool, false, inl, inr, refl, subst, arith, Option, Some, None}
 use Rattle.std.proofs.lemmas.Bool.{cases_eq, cases_lt, both_ways}
 use Rattle.hk_words.specs.declared.geometry.Geometry.{Geometry}
 use Rattle.hk_words.specs.Geometry.{numbers}
@@ -52,7 +52,7 @@ pub reaches : (g : Geometry) (w : Words) (z : Spaces) (sh : Shades) (flight : �
     → ShadesMean g w z sh flight t.line names → Reaches g t.scan w.reserved sh.grey range
 reaches g w z sh flight begun hand t names contents range h m =
     let at_range : t.scan < w.reserved → RangeAt range t.scan = range_at_scan sh.size range t.scan w.reserved (λ n. some_words names sh.size n (m.size n))
-        h.ranges_join h.first_range (λ x n there below. (h.ranges_below_moved x n there below).ends) in
+    h.ranges_join h.first_range (λ x n there below. (h.ranges_below_moved x n there below).ends) in
     record {
       at_range = at_range;
       all_scanned = λ none. elim (cases_lt t.scan w.reserved) [

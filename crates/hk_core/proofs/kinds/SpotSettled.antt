@@ -1,24 +1,22 @@
 -- When the collector has come to the end of what is reserved, all frames are black. If then no number is grey, the state is
 -- settled: what registers and calls in flight hold is null or black.
-use Rattle.std.proofs.Common.{◌≡◌, ◌≢◌, ◌⊎◌, ℕ, zero, suc, ◌+◌, ◌<◌, ◌≤◌, Bool, true, false, inl, inr, refl, sym, ◌∙◌, ap, subst, arith, Option, Some}
-use Rattle.std.proofs.lemmas.Bool.{cases_eq, cases_lt, cases_Bool, both_ways, and_parts, or_right}
+use Rattle.std.proofs.Common.{◌≡◌, ◌⊎◌, ℕ, zero, suc, ◌<◌, ◌≤◌, Bool, true, false, inl, inr, refl, sym, ◌∙◌, ap, subst, arith, Option, Some}
+use Rattle.std.proofs.lemmas.Bool.{cases_eq, cases_Bool, and_parts, or_right}
 use Rattle.std.proofs.lemmas.Bool.Decides.{nat_tests}
-use Rattle.std.specs.Prelude.{nat_le, ◌&&◌, ◌||◌}
+use Rattle.std.specs.Prelude.{nat_le, ◌&&◌}
 use Rattle.hk_words.specs.declared.geometry.Geometry.{Geometry}
 use Rattle.hk_words.specs.declared.call.Call.{Call}
 use Rattle.hk_words.specs.declared.call.Call.TheVariants as call
 use Rattle.hk_words.specs.Geometry.{tasks, numbers}
-use Rattle.hk_words.specs.Calls.{RegistersFit, entered, target}
+use Rattle.hk_words.specs.Calls.{RegistersFit, entered}
 use Rattle.hk_words.specs.Layout as layout
 use Rattle.hk_core.specs.declared.flight.Flight.{Flight}
 use Rattle.hk_core.specs.declared.spot.Spot.{Spot}
 use Rattle.hk_core.specs.Begin.{copied}
-use Rattle.hk_core.specs.Step.{places_of}
 use Rattle.hk_core.specs.View.{Words, Names, Contents}
 use Rattle.hk_core.specs.Flights as f
 use Rattle.hk_core.specs.Flights.{Hand}
 use Rattle.hk_core.specs.Colours.{Spaces, Shades, IsGood, NamesNoWhite}
-use Rattle.hk_core.specs.Facts as fact
 use Rattle.hk_core.specs.Facts.{IsSettled}
 use Rattle.hk_core.specs.Lawful.{Facts}
 use Rattle.hk_core.proofs.kinds.Seats.{FlightFacts, CallsFacts, facts_of_flight}
@@ -37,13 +35,13 @@ NoneBelow test count = (n : ℕ) → n < count → test n ≡ false
 pub some_or_none : (test : ℕ → Bool) (count : ℕ) → SomeBelow test count ⊎ NoneBelow test count
 some_or_none test zero = inr (λ n below. absurd (omega arith))
 some_or_none test (suc count) = elim (cases_Bool (test count)) [
-  | inl passes ↦ inl (count, (let at : count < suc count = omega arith in at), passes)
+  | inl passes ↦ inl (count, (omega arith), passes)
   | inr fails ↦ elim (some_or_none test count) [
-    | inl found ↦ inl (found.0, (let below : found.0 < count = found.1 in let at : found.0 < suc count = omega arith in at), found.2)
+    | inl found ↦ let below : found.0 < count = found.1 in inl (found.0, (omega arith), found.2)
     | inr none ↦ inr (λ n below. elim (cases_eq n count) [
-        | inl last ↦ ap test last ∙ fails
-        | inr before ↦ none n (omega arith)
-      ])
+      | inl last ↦ ap test last ∙ fails
+      | inr before ↦ none n (omega arith)
+    ])
   ]
 ]
 

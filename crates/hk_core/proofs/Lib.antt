@@ -23,3 +23,4 @@ pub mod RowOfLoad
 pub mod RowOfStore
 pub mod Linked
 pub mod Actions
+pub mod Seven

@@ -15,7 +15,6 @@ use Rattle.hk_core.specs.View.{words_of}
 use Rattle.hk_core.specs.Flights.{in_object}
 use Rattle.hk_core.specs.Colours.{Covers}
 use Rattle.hk_core.specs.Lawful.{Lawful}
-use Rattle.hk_core.specs.Handled.{is_handled}
 use Rattle.hk_core.specs.Places.{GoesOn, Ends, KeepsOthers}
 use Rattle.hk_core.specs.Inside.{cell_written, IsLeftAlone, size_in, StandsApart}
 
@@ -29,7 +28,7 @@ BeginKeepsLawful = (c : State) (history : History) (seat : ℕ) (call : Call) �
 -- a step keeps it lawful, for the history with the entry of its place
 abbrev pub StepKeepsLawful : Type 0
 StepKeepsLawful = (c : State) (history : History) (seat : ℕ) → seat < tasks c.geometry → 1 ≤ (flight_of c.flights seat).place
-    → is_handled (flight_of c.flights seat).call ≡ true → Lawful c history → Lawful (next c seat) (history_after c seat history)
+    → Lawful c history → Lawful (next c seat) (history_after c seat history)
 
 -- in a lawful state each seat in flight can step, whatever its call
 abbrev pub LawfulCanStep : Type 0
@@ -80,7 +79,7 @@ RegistersTested = (registers : ℕ) (call : Call) → (registers_fit registers c
 -- step writes
 abbrev pub StepsLeaveAlone : Type 0
 StepsLeaveAlone = (c : State) (history : History) (seat inside : ℕ) → seat < tasks c.geometry → inside < tasks c.geometry
-    → 1 ≤ (flight_of c.flights seat).place → is_handled (flight_of c.flights seat).call ≡ true → in_object (flight_of c.flights inside) ≡ true → Lawful c history
+    → 1 ≤ (flight_of c.flights seat).place → in_object (flight_of c.flights inside) ≡ true → Lawful c history
     → let n = reference_number (flight_of c.flights inside).entered in
     IsLeftAlone (words_of c.geometry c.row) (words_of c.geometry (next c seat).row) (size_in c history n) (cell_written (flight_of c.flights seat)) n
 

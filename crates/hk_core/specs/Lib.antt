@@ -14,7 +14,6 @@ pub mod Lawful
 pub mod Reach
 pub mod Stands
 pub mod Fits
-pub mod Handled
 pub mod Places
 pub mod Inside
 pub mod Laws

@@ -13,7 +13,6 @@ ghost use Rattle.hk_core.specs.Step.{next, answer_by, history_after};
 ghost use Rattle.hk_core.specs.Begin.{most_calls, register_word, entered_word, copied_word, has_field, first_flight, after_begin, refusal};
 ghost use Rattle.hk_core.specs.Fits.{CanStep};
 ghost use Rattle.hk_core.specs.Lawful.{Lawful, IsLawful};
-ghost use Rattle.hk_core.specs.Handled.{is_handled};
 
 use crate::opening::{opening_begun, opening_flights, opening_row, opening_spot};
 use crate::{Event, Fault, Flight, Spot, Step};
@@ -215,7 +214,6 @@ impl Core {
         requires seat { seat < tasks self.old.geometry }
         requires flying { 1 ≤ (flight_of self.old.flights seat).place }
         requires lawful { IsLawful self.old }
-        requires call { is_handled (flight_of self.old.flights seat).call ≡ true }
         ensures next { self.new ≡ next self.old seat }
         ensures step { result ≡ answer_by self.old seat }
         ensures lawful { (history : History) → Lawful self.old history → Lawful self.new (history_after self.old seat history) }

@@ -1,12 +1,12 @@
 use Rattle.hk_core.specs.View.{flight_at}
 use Rattle.hk_core.proofs.Apart.{stands_apart, writes_own}
-use Rattle.hk_core.proofs.Plain.{handled_steps}
+use Rattle.hk_core.proofs.Seven.{seat_steps}
 use Rattle.hk_core.proofs.laws.inside_an_object.Goals as goal
 
 pub returns-clause-alone : goal.returns-clause-alone
 unfolding flight_at
-returns-clause-alone c = λ state history seat inside below inside_below flying handled is_inside h.
-    (handled_steps state history seat below flying handled h).alone inside inside_below is_inside
+returns-clause-alone c = λ state history seat inside below inside_below flying is_inside h.
+    (seat_steps state history seat below h flying).alone inside inside_below is_inside
 
 pub returns-clause-apart : goal.returns-clause-apart
 unfolding flight_at

@@ -1,6 +1,6 @@
 use Rattle.hk_core.specs.View.{flight_at}
 use Rattle.hk_core.proofs.Can.{can_step}
-use Rattle.hk_core.proofs.Plain.{handled_steps}
+use Rattle.hk_core.proofs.Seven.{seat_steps}
 use Rattle.hk_core.proofs.kinds.Begin.{lawful_after_begin}
 use Rattle.hk_core.proofs.laws.lawful_states.Goals as goal
 
@@ -10,7 +10,7 @@ returns-clause-begin c = lawful_after_begin
 
 pub returns-clause-step : goal.returns-clause-step
 unfolding flight_at
-returns-clause-step c = λ state history seat below flying handled h. (handled_steps state history seat below flying handled h).lawful
+returns-clause-step c = λ state history seat below flying h. (seat_steps state history seat below h flying).lawful
 
 pub returns-clause-can_step : goal.returns-clause-can_step
 unfolding flight_at

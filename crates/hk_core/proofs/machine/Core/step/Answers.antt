@@ -1,6 +1,6 @@
 use Rattle.hk_core.specs.View.{flight_at}
 use Rattle.hk_core.proofs.Can.{can_step}
-use Rattle.hk_core.proofs.Plain.{handled_steps}
+use Rattle.hk_core.proofs.Seven.{seat_steps}
 use Rattle.hk_core.proofs.machine.Core.step.Goals as goal
 
 pub advance-requires-clause-can_step : goal.advance-requires-clause-can_step
@@ -10,4 +10,4 @@ advance-requires-clause-can_step c = can_step c.args.self.now c.requires.lawful.
 pub returns-clause-lawful : goal.returns-clause-lawful
 unfolding flight_at
 returns-clause-lawful c = λ history h.
-    rw c.advance.ensures.next (handled_steps c.args.self.now history c.args.seat c.requires.seat c.requires.flying c.requires.call h).lawful
+    rw c.advance.ensures.next (seat_steps c.args.self.now history c.args.seat c.requires.seat h c.requires.flying).lawful

@@ -4,6 +4,7 @@ mod OpeningRow
 mod OpeningFacts
 pub mod OpeningLawful
 pub mod Update
+pub mod Waiting
 pub mod Counts
 pub mod Columns
 pub mod Encode

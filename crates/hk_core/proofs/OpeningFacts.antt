@@ -305,6 +305,8 @@ module _ (g : Geometry) (place mark accessors version frame_accessors frame_cycl
     claims_unreserved = λ k item c h e. no_hand k item c e;
     claims_unlinked = λ k item c offset h e. no_link_hand k item c offset e;
     claims_apart = λ j k a c d item other e. no_item j item e;
+    grey_waits = λ n below e. absurd (both_ways _ (none_grey n below) e);
+    unlinked_waits = λ x n e. never_some e;
     unread_free = unread_free;
     unread_distinct = unread_distinct;
     own_entries = λ s a e. no_making s e;

@@ -287,6 +287,26 @@ ClaimsApart g hand = (j k : ℕ) → j ≤ tasks g → k ≤ tasks g → j ≢ k
     → f.item_in (hand j) ≡ Some item → f.item_in (hand k) ≡ Some other
     → layout.reference_number item ≢ layout.reference_number other
 
+-- A grey number has a range, or somebody who claimed it has still to reserve. Without it the pass could meet a grey number
+-- though no call is in flight.
+abbrev pub HasRange : (range : ℕ → Option ℕ) → ℕ → Type 0
+HasRange range n = (x : ℕ) × (range x ≡ Some n)
+
+abbrev pub IsHeld : Geometry → (hand : ℕ → Hand) → ℕ → Type 0
+IsHeld g hand n = (k item item_cycle : ℕ) × (k ≤ tasks g) × (hand k ≡ to_reserve item item_cycle) × (layout.reference_number item ≡ n)
+
+abbrev pub GreyWaits : Geometry → (grey : ℕ → Bool) → (range : ℕ → Option ℕ) → (hand : ℕ → Hand) → Type 0
+GreyWaits g grey range hand = (n : ℕ) → n < numbers g → grey n ≡ true → HasRange range n ⊎ IsHeld g hand n
+
+-- The link word of a range that fits is 0 only while somebody has still to write it. Without it the collector could wait
+-- for a link word though no call is in flight.
+abbrev pub IsLinking : Geometry → (hand : ℕ → Hand) → (offset : ℕ) → Type 0
+IsLinking g hand offset = (k item item_cycle : ℕ) × (k ≤ tasks g) × (hand k ≡ to_link item item_cycle offset)
+
+abbrev pub UnlinkedWaits : Geometry → Spaces → (size cell : ℕ → ℕ) → (range : ℕ → Option ℕ) → (hand : ℕ → Hand) → Type 0
+UnlinkedWaits g z size cell range hand = (x n : ℕ) → range x ≡ Some n → x + size n ≤ z.live → cell (z.current + x) ≡ 0
+    → IsLinking g hand x
+
 -- LISTS. The unread rest of the cycle's list are its entries from the objects made on. A New that has raised W0 speaks
 -- for the entry that it was given, on the list of its own cycle, until its effect.
 

@@ -74,6 +74,8 @@ pub record Facts (g : Geometry) (w : Words) (z : Spaces) (sh : Shades) (flight :
   pub claims_unreserved : fact.ClaimsUnreserved g w.cycle sh.grey range hand
   pub claims_unlinked : fact.ClaimsUnlinked g z w.cycle sh.grey sh.size w.cell range hand
   pub claims_apart : fact.ClaimsApart g hand
+  pub grey_waits : fact.GreyWaits g sh.grey range hand
+  pub unlinked_waits : fact.UnlinkedWaits g z sh.size w.cell range hand
   -- lists
   pub unread_free : fact.UnreadFree g w.cycle w.objects w.accessors w.place w.version w.mark (w.entry (current_space w.cycle))
   pub unread_distinct : fact.UnreadDistinct g w.objects (w.entry (current_space w.cycle))

@@ -23,6 +23,7 @@ use Rattle.hk_core.specs.Colours.{Spaces, spaces_of, Shades, shades_of, held_by,
 use Rattle.hk_core.specs.Facts as fact
 use Rattle.hk_core.specs.Facts.{IsRecent, IsUnread, IsOwn, IsMoved, IsSettled, HoldsClaim, HoldsRange}
 use Rattle.hk_core.specs.Lawful.{Facts}
+use Rattle.hk_core.proofs.Waiting.{held_else, linking_else, free_not_reserving, free_not_linking}
 use Rattle.hk_core.proofs.Update.{upd_cases, upd_own}
 use Rattle.hk_core.proofs.Counts.{count_more}
 use Rattle.hk_core.proofs.kinds.Seats.{NewsFacts, own_not_kept, kept_means}
@@ -298,6 +299,19 @@ module _ (g : Geometry) (w : Words) (z : Spaces) (sh : Shades) (flight : ℕ →
       ]
     ]
 
+    raise_grey_waits : fact.GreyWaits g (upd sh.grey n true) range (upd hand k (to_reserve item w.cycle))
+    raise_grey_waits j below e = elim (upd_cases sh.grey n true j) [
+      | inl (same, u) ↦ inr (k, item, w.cycle, within, upd_same hand k (to_reserve item w.cycle), is ∙ sym same)
+      | inr (differ, u) ↦ elim (h.grey_waits j below (sym u ∙ e)) [
+        | inl there ↦ inl there
+        | inr other ↦ inr (held_else g hand k (to_reserve item w.cycle) j (free_not_reserving (hand k) free) other)
+      ]
+    ]
+
+    raise_unlinked_waits : fact.UnlinkedWaits g z sh.size w.cell range (upd hand k (to_reserve item w.cycle))
+    raise_unlinked_waits x j there fits e =
+        linking_else g hand k (to_reserve item w.cycle) x (free_not_linking (hand k) free x) (h.unlinked_waits x j there fits e)
+
     -- all facts hold after a white number was claimed
     pub raise_facts : Facts g (marked_words w n) z (greyed sh n) flight begun (upd hand k (to_reserve item w.cycle)) t names contents range
     raise_facts =
@@ -323,6 +337,8 @@ module _ (g : Geometry) (w : Words) (z : Spaces) (sh : Shades) (flight : ℕ →
         let e' = raise_unreserved in
         let i' = raise_unlinked in
         let j' = raise_apart in
+        let q' = raise_grey_waits in
+        let r' = raise_unlinked_waits in
         let p' : fact.SweepInStep g w.cycle t.entries (upd w.mark n w.cycle) (w.entry (next_list w.cycle)) t.line =
         in_step_kept _ w.cycle t.entries w.mark (upd w.mark n w.cycle) (w.entry (next_list w.cycle)) t.line marking h.sweep_in_step in
         assumption

@@ -27,6 +27,7 @@ use Rattle.hk_core.specs.Colours.{Spaces, Shades, IsNullOrMarked}
 use Rattle.hk_core.specs.Facts as fact
 use Rattle.hk_core.specs.Facts.{HoldsRange, ObjectBehind, FoundRoom}
 use Rattle.hk_core.specs.Lawful.{Facts}
+use Rattle.hk_core.proofs.Waiting.{held_else, linking_else, linking_not_reserving, linking_not_elsewhere}
 use Rattle.hk_core.proofs.Update.{upd_cases}
 use Rattle.hk_core.proofs.Counts.{count_kept}
 use Rattle.hk_core.proofs.kinds.Read.{ShapesFit}
@@ -298,6 +299,22 @@ module _ (g : Geometry) (w : Words) (z : Spaces) (sh : Shades) (flight : ℕ →
         }
   ]
 
+  link_waits : fact.UnlinkedWaits g z sh.size (upd w.cell (z.current + offset) item) range (upd hand k no_claim)
+  link_waits x j there fits e = elim (cases_eq x offset) [
+    | inl same ↦
+        let written : upd w.cell (z.current + offset) item (z.current + x) ≡ item = ap (λ y. upd w.cell (z.current + offset) item (z.current + y)) same ∙ upd_same w.cell (z.current + offset) item in
+        absurd (held.some (sym written ∙ e))
+    | inr differ ↦
+        let before : w.cell (z.current + x) ≡ 0 = sym (upd_other w.cell (z.current + offset) item (z.current + x) (λ q. differ (omega arith))) ∙ e in
+        linking_else g hand k no_claim x (linking_not_elsewhere (hand k) item c offset x o.holds differ) (h.unlinked_waits x j there fits before)
+  ]
+
+  link_grey : fact.GreyWaits g sh.grey range (upd hand k no_claim)
+  link_grey j within is = elim (h.grey_waits j within is) [
+    | inl there ↦ inl there
+    | inr other ↦ inr (held_else g hand k no_claim j (linking_not_reserving (hand k) item c offset o.holds) other)
+  ]
+
   link_cells : CellFacts g w z sh flight (upd hand k no_claim) t names range (upd w.cell (z.current + offset) item)
   link_cells =
       let p = z.current + offset in
@@ -311,6 +328,7 @@ module _ (g : Geometry) (w : Words) (z : Spaces) (sh : Shades) (flight : ℕ →
         cleared_is_zero = λ i below. absurd (both_ways _ (cleared_marks g t t.line i h.spot_formed below).0 marking);
         ranges_linked = link_linked;
         claims_unlinked = link_unlinked;
+        unlinked_waits = link_waits;
         news_clean = λ s i below makes within. unwritten w.cell p item (new_place g (flight s) + i) (λ a. a ≡ 0) (in_no_new s i below makes within) (h.news_clean s i below makes within);
         item_is_linked = λ e. let linked = h.item_is_linked e in (linked.0, upd_other w.cell p item (z.current + t.scan) (in_no_scan e) ∙ linked.1);
         cells_passed = λ passed i e same below fits.
@@ -358,4 +376,5 @@ module _ (g : Geometry) (w : Words) (z : Spaces) (sh : Shades) (flight : ℕ →
       let e = link_few in
       let i = link_unreserved in
       let j = link_apart in
+      let p = link_grey in
       assumption

@@ -350,5 +350,6 @@ module _ (g : Geometry) (w : Words) (z : Spaces) (sh : Shades) (flight : ℕ →
       let unlinked : fact.ClaimsUnlinked g z w.cycle sh.grey sh'.size w.cell range hand = λ k item cycle offset a e.
       let o : HoldsRange z w.cycle sh.grey sh.size w.cell range item cycle offset = h.claims_unlinked k item cycle offset a e in
       record { some = o.some; of_cycle = o.of_cycle; is_grey = o.is_grey; has_range = o.has_range; fits = rw (size_in_range offset (layout.reference_number item) o.has_range) o.fits; unlinked = o.unlinked } in
+      let waits : fact.UnlinkedWaits g z sh'.size w.cell range hand = λ x k there fits e. h.unlinked_waits x k there (rw (size_in_range x k there) at fits) e in
       let scans : fact.ScanAtRange z t.line t.scan sh'.size range = λ e. let o = h.scan_at_range e in (o.0, o.1, rw (size_in_range t.scan o.0 o.1) o.2) in
       assumption

@@ -1,7 +1,7 @@
 -- Whoever has claimed an object reserves its place: the words reserved grow by the object's, and a range of its number begins
 -- where they ended. Where the range fits, its link word is still to be written.
 use Rattle.std.proofs.Common.{◌≡◌, ◌≢◌, ◌⊎◌, ℕ, ◌+◌, ◌*◌, ◌<◌, ◌≤◌, Bool, true, false, inl, inr, refl, sym, ◌∙◌, ap, arith, Option, Some, None}
-use Rattle.std.proofs.lemmas.Bool.{both_ways, cases_Bool, leb-true}
+use Rattle.std.proofs.lemmas.Bool.{cases_eq, le-leb, both_ways, cases_Bool, leb-true}
 use Rattle.std.specs.Prelude.{nat_eq, if◌then◌else◌}
 use Rattle.hk_words.specs.declared.geometry.Geometry.{Geometry}
 use Rattle.hk_words.specs.Geometry.{tasks, numbers}
@@ -22,6 +22,7 @@ use Rattle.hk_core.specs.Colours.{Spaces, Shades}
 use Rattle.hk_core.specs.Facts as fact
 use Rattle.hk_core.specs.Facts.{IsMoved, IsSettled, HoldsClaim, HoldsRange}
 use Rattle.hk_core.specs.Lawful.{Facts}
+use Rattle.hk_core.proofs.Waiting.{linking_else, reserving_not_linking}
 use Rattle.hk_core.proofs.Update.{upd_cases}
 use Rattle.hk_core.proofs.Counts.{count_less}
 use Rattle.hk_core.proofs.kinds.WriteCell.{ShadesMean}
@@ -336,6 +337,34 @@ module _ (g : Geometry) (w : Words) (z : Spaces) (sh : Shades) (flight : ℕ →
         }
   ]
 
+  -- what fits is held to be linked
+  reserved_to_link : w.reserved + sh.size n ≤ z.live → reserve_hand g item c w.reserved ≡ to_link item c w.reserved
+  reserved_to_link fits =
+      let size : reference_size item ≡ sh.size n = o.size in
+      let live : z.live ≡ g.live = o.live in
+      rw (le-leb (w.reserved + reference_size item) g.live (omega arith)) refl
+
+  reserve_grey : fact.GreyWaits g sh.grey (upd range w.reserved (Some n)) (upd hand k (reserve_hand g item c w.reserved))
+  reserve_grey j below e = elim (h.grey_waits j below e) [
+    | inl (x, there) ↦ inl (x, grown x j there)
+    | inr (i, other, d, inside, holds, is) ↦ elim (cases_eq i k) [
+      | inl same ↦
+          let one : other ≡ item = let q : to_reserve other d ≡ to_reserve item c = sym holds ∙ ap hand same ∙ o.holds in cc in
+          let number : j ≡ n = sym is ∙ ap (λ v. layout.reference_number v) one ∙ o.number in
+          inl (w.reserved, upd_same range w.reserved (Some n) ∙ ap Some (sym number))
+      | inr differ ↦ inr (i, other, d, inside, upd_other hand k (reserve_hand g item c w.reserved) i differ ∙ holds, is)
+    ]
+  ]
+
+  reserve_waits : fact.UnlinkedWaits g z sh.size w.cell (upd range w.reserved (Some n)) (upd hand k (reserve_hand g item c w.reserved))
+  reserve_waits x j there fits e = elim (back x j there) [
+    | inl (here, number) ↦
+        let fit : w.reserved + sh.size n ≤ z.live = let same : sh.size n ≡ sh.size j = ap sh.size number in omega arith in
+        (k, item, c, o.within, upd_same hand k (reserve_hand g item c w.reserved) ∙ reserved_to_link fit ∙ ap (to_link item c) (sym here))
+    | inr (differ, before) ↦
+        linking_else g hand k (reserve_hand g item c w.reserved) x (reserving_not_linking (hand k) item c o.holds x) (h.unlinked_waits x j before fits e)
+  ]
+
   -- all facts hold after a reserve, for whoever holds the claim
   pub reserve_facts : Facts g (reserve_words w (reference_size item)) z sh flight begun (upd hand k (reserve_hand g item c w.reserved)) t names contents (reserve_range range w.reserved n)
   reserve_facts =
@@ -356,4 +385,6 @@ module _ (g : Geometry) (w : Words) (z : Spaces) (sh : Shades) (flight : ℕ →
       let a' = reserve_claims_apart in
       let b' = reserve_claims in
       let d' = reserve_unlinked in
+      let e' = reserve_grey in
+      let i' = reserve_waits in
       assumption

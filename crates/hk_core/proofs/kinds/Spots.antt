@@ -69,6 +69,8 @@ pub record HandFacts (g : Geometry) (w : Words) (z : Spaces) (sh : Shades) (hand
   pub claims_unreserved : fact.ClaimsUnreserved g w.cycle sh.grey range hand
   pub claims_unlinked : fact.ClaimsUnlinked g z w.cycle sh.grey sh.size w.cell range hand
   pub claims_apart : fact.ClaimsApart g hand
+  pub grey_waits : fact.GreyWaits g sh.grey range hand
+  pub unlinked_waits : fact.UnlinkedWaits g z sh.size w.cell range hand
 
 module _ (g : Geometry) (w : Words) (z : Spaces) (sh : Shades) (flight : ℕ → Flight) (begun : ℕ → ℕ) (hand : ℕ → Hand) (t : Spot)
     (names : Names) (contents : Contents) (range : ℕ → Option ℕ) (h : Facts g w z sh flight begun hand t names contents range) where

@@ -398,6 +398,7 @@ pub record CellFacts (g : Geometry) (w : Words) (z : Spaces) (sh : Shades) (flig
   pub cleared_is_zero : fact.ClearedIsZero z (l.cleared g t.line) cell
   pub ranges_linked : fact.RangesLinked z sh.size cell (reference_at names) range
   pub claims_unlinked : fact.ClaimsUnlinked g z w.cycle sh.grey sh.size cell range hand
+  pub unlinked_waits : fact.UnlinkedWaits g z sh.size cell range hand
   pub news_clean : fact.NewsClean g cell flight
   pub item_is_linked : fact.ItemIsLinked z t.line t.scan t.item cell
   pub cells_passed : fact.CellsPassed t t.line w.cycle t.first t.item w.version w.mark cell
@@ -436,6 +437,7 @@ module _ (g : Geometry) (w : Words) (z : Spaces) (sh : Shades) (flight : ℕ →
               fits = r.fits;
               unlinked = unwritten w.cell p v (z.current + offset) (λ c. c ≡ 0) (linked offset (layout.reference_number claimed) r.has_range r.fits) r.unlinked;
             };
+        unlinked_waits = λ x k there fits e. h.unlinked_waits x k there fits (sym (upd_other w.cell p v (z.current + x) (linked x k there fits)) ∙ e);
         news_clean = λ s i below making within. unwritten w.cell p v (new_place g (flight s) + i) (λ c. c ≡ 0)
             (λ e. let after : w.place n < p = o.after in let before : p < w.place n + sh.size n = o.before in
             elim (h.objects_apart_from_new s n below making o.is_kept) [ inl a ↦ omega arith | inr a ↦ omega arith ]) (h.news_clean s i below making within);

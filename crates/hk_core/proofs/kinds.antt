@@ -28,3 +28,6 @@ pub mod NewIsBorn
 pub mod NewHistory
 pub mod Spots
 pub mod SpotLines
+pub mod ReserveSeats
+pub mod Link
+pub mod LinkSeats

@@ -31,3 +31,4 @@ pub mod SpotLines
 pub mod ReserveSeats
 pub mod Link
 pub mod LinkSeats
+pub mod SpotTrade

@@ -32,3 +32,4 @@ pub mod ReserveSeats
 pub mod Link
 pub mod LinkSeats
 pub mod SpotTrade
+pub mod SpotCopy

@@ -247,3 +247,142 @@ module _ (g : Geometry) (w : Words) (z : Spaces) (sh : Shades) (flight : ℕ →
       let b = copy_values in
       let d = copy_cells in
       assumption
+
+-- THE WRITE OF A CELL
+
+cell_marks : (ln : Line) (i : ℕ) → ln ≡ line.Cell i stage.Write → l.is_marking ln ≡ true
+unfolding l.is_marking
+cell_marks ln i e = ap l.is_marking e
+
+-- the spot after the write
+abbrev pub copied_spot : Spot → ℕ → Spot
+copied_spot t i = record t { line = after_cell t i; spent = t.spent + 1 }
+
+copied_hand : (t : Spot) (i : ℕ) → t.line ≡ line.Cell i stage.Write → l.hand_of_spot (copied_spot t i) ≡ l.hand_of_spot t
+unfolding l.hand_of_spot l.hand_at_line l.hand_at
+copied_hand t i e = by_last (nat_lt (i + 2) (reference_size t.item)) ∙ sym (ap (l.hand_at_line t) e)
+  where
+    by_last : (more : Bool) → l.hand_at_line (copied_spot t i) (if more then line.Cell (i + 1) stage.Read else line.ObjectTrade) ≡ l.hand_at_line t (line.Cell i stage.Write)
+    by_last true = refl
+    by_last false = refl
+
+copied_marks : (t : Spot) (i : ℕ) → l.is_marking (after_cell t i) ≡ true
+unfolding l.is_marking
+copied_marks t i = by_last (nat_lt (i + 2) (reference_size t.item))
+  where
+    by_last : (more : Bool) → l.is_marking (if more then line.Cell (i + 1) stage.Read else line.ObjectTrade) ≡ true
+    by_last true = refl
+    by_last false = refl
+
+not_low : (a b : ℕ) → nat_lt a b ≡ false → b ≤ a
+not_low a b e = grind (arith, nat_tests)
+
+no_work : {A : Type 0} → l.is_in_work stage.Read ≡ true → A
+unfolding l.is_in_work
+no_work e = absurd (cc)
+
+none_written : {A : Type 0} (i j : ℕ) → l.written_at i stage.Read ≡ Some j → A
+unfolding l.written_at
+none_written i j e = absurd (cc)
+
+none_loaded : {A : Type 0} (i j : ℕ) → l.loaded_at i stage.Read ≡ Some j → A
+unfolding l.loaded_at
+none_loaded i j e = absurd (cc)
+
+loaded_now : (i : ℕ) → l.loaded_at i stage.Write ≡ Some i
+unfolding l.loaded_at
+loaded_now i = refl
+
+written_now : (i : ℕ) → l.written_at i stage.Write ≡ Some i
+unfolding l.written_at
+written_now i = refl
+
+read_rank : l.stage_rank stage.Read ≡ 0
+unfolding l.stage_rank
+read_rank = refl
+
+write_rank : l.stage_rank stage.Write ≡ 4
+unfolding l.stage_rank
+write_rank = refl
+
+-- the cell that was written is past
+cell_past : (g : Geometry) (w : Words) (z : Spaces) (sh : Shades) (t : Spot) (names : Names) (range : ℕ → Option ℕ) (i : ℕ) → AtCell g w z sh t names range i stage.Write
+    → w.cell (z.current + t.scan + 1 + i) ≡ t.cell → InObject g w z sh (copied_spot t i) range (i + 1)
+cell_past g w z sh t names range i o written =
+    let item = o.in_object.at_item in
+    let same_cell : w.version (layout.reference_number t.item) ≡ layout.header_version t.first → t.cell ≡ w.cell (layout.header_place t.first + 1 + i) = o.loaded i (loaded_now i) in
+    record {
+      at_item = record { at_range = record { all_black = item.at_range.all_black; found = item.at_range.found }; some = item.some; linked = item.linked };
+      behind = o.in_object.behind;
+      passed = λ j same below fits. elim (cases_eq j i) [
+        | inl e ↦
+            let marked : IsNullOrMarked w.cycle w.mark t.cell = o.claimed i (written_now i) (omega arith) in
+            subst (λ (word : ℕ). IsNullOrMarked w.cycle w.mark word) (same_cell same ∙ ap (λ k. w.cell (layout.header_place t.first + 1 + k)) (sym e)) marked
+        | inr d ↦ o.in_object.passed j same (omega arith) fits
+      ];
+      copied = λ j same below. elim (cases_eq j i) [
+        | inl e ↦ ap (λ k. w.cell (z.current + t.scan + 1 + k)) e ∙ written ∙ same_cell same ∙ ap (λ k. w.cell (layout.header_place t.first + 1 + k)) (sym e)
+        | inr d ↦ o.in_object.copied j same (omega arith)
+      ];
+    }
+
+copied_works : (g : Geometry) (w : Words) (z : Spaces) (sh : Shades) (flight : ℕ → Flight) (t : Spot) (names : Names) (range : ℕ → Option ℕ) (i : ℕ) → AtCell g w z sh t names range i stage.Write
+    → w.cell (z.current + t.scan + 1 + i) ≡ t.cell → WorkFacts g w z sh flight (copied_spot t i) names range (after_cell t i)
+copied_works g w z sh flight t names range i o written = by_last (nat_lt (i + 2) (reference_size t.item)) refl
+  where
+    by_last : (more : Bool) → nat_lt (i + 2) (reference_size t.item) ≡ more
+        → WorkFacts g w z sh flight (copied_spot t i) names range (if more then line.Cell (i + 1) stage.Read else line.ObjectTrade)
+    by_last true e =
+        let more : i + 2 < reference_size t.item = ltb-true _ _ e in
+        let spent : t.spent ≤ 1 + 5 * i + l.stage_rank stage.Write = o.spent in
+        let rank = write_rank in
+        let next = read_rank in
+        cell_works g w z sh flight (copied_spot t i) names range (i + 1) stage.Read (record {
+          in_object = cell_past g w z sh t names range i o written;
+          cell = omega arith;
+          staged = tt;
+          good = λ e. no_work e;
+          claimed = λ j e. none_written (i + 1) j e;
+          loaded = λ j e. none_loaded (i + 1) j e;
+          spent = omega arith;
+        })
+    by_last false e =
+        let most : reference_size t.item ≤ i + 2 = not_low (i + 2) (reference_size t.item) e in
+        let below : i + 1 < reference_size t.item = o.cell in
+        let last : i + 1 ≡ reference_size t.item - 1 = omega arith in
+        let spent : t.spent ≤ 1 + 5 * i + l.stage_rank stage.Write = o.spent in
+        let rank = write_rank in
+        object_trade_works g w z sh flight (copied_spot t i) names range (record {
+          in_object = subst (λ (gone : ℕ). InObject g w z sh (copied_spot t i) range gone) last (cell_past g w z sh t names range i o written);
+          spent = omega arith;
+        })
+
+-- the new place of a cell
+cell_there : (g : Geometry) (t : Spot) (cycle i : ℕ) → t.cycle ≡ cycle → (spaces_of g cycle).current + t.scan + 1 + i ≡ moved_to g t + 1 + i
+cell_there g t cycle i e = rw (← e) (omega arith)
+
+-- all facts hold after the collector has written a cell of the object that it moves
+pub cell_copied : (g : Geometry) (w : Words) (flight : ℕ → Flight) (begun : ℕ → ℕ) (t : Spot) (names : Names) (contents : Contents) (range : ℕ → Option ℕ) (i : ℕ)
+    → t.line ≡ line.Cell i stage.Write → ShapesFit names → FactsOf g w flight begun t names contents range
+    → FactsOf g (cell_words w (moved_to g t + 1 + i) t.cell) flight begun (copied_spot t i) names contents range
+cell_copied g w flight begun t names contents range i at fit h =
+    let z = spaces_of g w.cycle in
+    let sh = shades_of g w flight t.line names in
+    let p = z.current + t.scan + 1 + i in
+    let w' = cell_words w p t.cell in
+    let hand = hands_of g flight t in
+    let before : AtCell g w z sh t names range i stage.Write =
+    at_cell g w z sh flight t names range i stage.Write (work_facts g w z sh flight begun hand t names contents range h (line.Cell i stage.Write) at) in
+    let mid : FactsOf g w' flight begun t names contents range =
+    rw (shades_cell g w p t.cell flight t.line names)
+    (copy_facts g w z sh flight begun hand t names contents range h (shades_mean g w flight t.line names) fit (spaces_are g w.cycle) i t.cell at before.in_object before.cell) in
+    let sh' = shades_of g w' flight t.line names in
+    let here : AtCell g w' z sh' t names range i stage.Write =
+    at_cell g w' z sh' flight t names range i stage.Write (work_facts g w' z sh' flight begun hand t names contents range mid (line.Cell i stage.Write) at) in
+    let other = copied_spot t i in
+    let goes : GoesMarking t other = record { from = cell_marks t.line i at; to = copied_marks t i; cycle = refl; scan = refl; entries = refl } in
+    let works : WorkFacts g w' z sh' flight other names range (after_cell t i) = copied_works g w' z sh' flight t names range i here (upd_same w.cell p t.cell) in
+    let done : FactsOf g w' flight begun other names contents range =
+    on_spot g w' flight begun t other names contents range (copied_hand t i at) (goes.to ∙ sym goes.from) mid
+    (marking_on g w' z sh' flight begun hand t names contents range mid other goes works) in
+    subst (λ (p : ℕ). FactsOf g (cell_words w p t.cell) flight begun other names contents range) (cell_there g t w.cycle i h.spot_knows_cycle) done

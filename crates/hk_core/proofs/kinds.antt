@@ -33,3 +33,4 @@ pub mod Link
 pub mod LinkSeats
 pub mod SpotTrade
 pub mod SpotCopy
+pub mod SpotMove

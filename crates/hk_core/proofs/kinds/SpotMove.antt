@@ -247,3 +247,203 @@ module _ (g : Geometry) (w : Words) (z : Spaces) (sh : Shades) (flight : ℕ →
   move_in_one : fact.ObjectsInOneSpace z sh.kept (upd w.place n (z.current + scan)) sh.size
   move_in_one j kept = at_place (λ k p. InOld z p (sh.size k) ⊎ InCurrent z p (sh.size k)) (inr (record { after = omega arith; before = let fits = o.fits in omega arith })) j
       (λ d. h.objects_in_one_space j kept)
+
+  -- the moved object is apart from each other
+  apart_from : (j : ℕ) → sh.kept j ≡ true → Apart (z.current + scan) (sh.size n) (w.place j) (sh.size j)
+  apart_from j kept =
+      let fits : scan + sh.size n ≤ z.live = o.fits in
+      elim (h.objects_in_one_space j kept) [
+        | inl old ↦
+            let a : z.old ≤ w.place j = old.after in
+            let b : w.place j + sh.size j ≤ z.old + (z.live + z.alloc) = old.before in
+            elim m.spaces [ inl q ↦ inr (omega arith) | inr q ↦ inl (omega arith) ]
+        | inr new ↦
+            let a : z.current ≤ w.place j = new.after in
+            let y = w.place j - z.current in
+            let stands : w.place j ≡ z.current + y = omega arith in
+            elim (cases_lt y z.live) [
+              | inl lower ↦ let ends : y + sh.size j ≤ scan = passed_range j y kept stands lower in inr (omega arith)
+              | inr upper ↦ inl (omega arith)
+            ]
+      ]
+
+  turned : (p a q b : ℕ) → Apart p a q b → Apart q b p a
+  turned p a q b (inl e) = inr e
+  turned p a q b (inr e) = inl e
+
+  move_apart : fact.ObjectsApart sh.kept (upd w.place n (z.current + scan)) sh.size
+  move_apart i j a b differ = elim (upd_cases w.place n (z.current + scan) i) [
+    | inl (e, u) ↦ elim (upd_cases w.place n (z.current + scan) j) [
+      | inl (d, v) ↦ absurd (differ (e ∙ sym d))
+      | inr (d, v) ↦ rw (u, v, e) (apart_from j b)
+    ]
+    | inr (e, u) ↦ elim (upd_cases w.place n (z.current + scan) j) [
+      | inl (d, v) ↦ rw (u, v, d) (turned (z.current + scan) (sh.size n) (w.place i) (sh.size i) (apart_from i a))
+      | inr (d, v) ↦ rw (u, v) (h.objects_apart i j a b differ)
+    ]
+  ]
+
+  from_new : (s : ℕ) → s < tasks g → f.is_making (flight s) ≡ true → Apart (z.current + scan) (sh.size n) (new_place g (flight s)) (f.new_size (flight s))
+  from_new s below makes =
+      let room : FoundRoom g w.cycle w.used (flight s) = h.news_found_room s below (making_has_room (flight s) (h.news_in_step s below) makes) in
+      let words : f.words_before (flight s) + f.new_size (flight s) ≤ g.alloc = room.words in
+      let live : z.live ≡ g.live = space.live in
+      let fits : scan + sh.size n ≤ z.live = o.fits in
+      rw space.current
+      (new_apart g.live g.alloc (f.cycle_of (flight s) % 2) (f.words_before (flight s)) (f.new_size (flight s)) (w.cycle % 2) scan (sh.size n) (omega arith) (omega arith) words (omega arith))
+
+  move_from_new : fact.ObjectsApartFromNew g sh.kept (upd w.place n (z.current + scan)) sh.size flight
+  move_from_new s j below makes kept =
+      at_place (λ k p. Apart p (sh.size k) (new_place g (flight s)) (f.new_size (flight s))) (from_new s below makes) j (λ d. h.objects_apart_from_new s j below makes kept)
+
+  move_unclaimed : fact.UnclaimedIsOld z w.cycle sh.kept (upd w.place n (z.current + scan)) w.mark sh.size
+  move_unclaimed j kept low = elim (upd_cases w.place n (z.current + scan) j) [
+    | inl (e, u) ↦ let marked : w.mark n ≡ w.cycle = grey_in.of_cycle in let same : w.mark j ≡ w.mark n = ap w.mark e in absurd (omega arith)
+    | inr (d, u) ↦ rw u (h.unclaimed_is_old j kept low)
+  ]
+
+  -- THE TWO SPACES
+
+  move_below_used : fact.ObjectsBelowUsed z w.used sh.kept (upd w.place n (z.current + scan)) sh.size
+  move_below_used j kept =
+      at_place (λ k p. InCurrent z p (sh.size k) → p + sh.size k ≤ z.current + (z.live + w.used)) (λ new. let fits = o.fits in omega arith) j (λ d. h.objects_below_used j kept)
+
+  move_in_range : fact.MovedStandsInRange z (l.is_resting line.Scan) sh.kept (upd w.place n (z.current + scan)) range
+  move_in_range going j x kept stands below = elim (upd_cases w.place n (z.current + scan) j) [
+    | inl (e, u) ↦ let same : z.current + scan ≡ z.current + x = sym u ∙ stands in let here : x ≡ scan = omega arith in ap range here ∙ o.has_range ∙ ap Some (sym e)
+    | inr (d, u) ↦ h.moved_stands_in_range going j x kept (sym u ∙ stands) below
+  ]
+
+  move_free : fact.FreeIsZero z sh.kept (upd w.place n (z.current + scan)) sh.size w.cell
+  move_free i below free = h.free_is_zero i below (λ j kept covers. elim (cases_eq j n) [
+    | inl e ↦
+        let a : w.place n + sh.size n ≤ z.old + (z.live + z.alloc) = was_old.before in
+        let b : z.old ≤ w.place n = was_old.after in
+        let from : w.place j ≤ z.current + (z.live + i) = covers.after in
+        let before : z.current + (z.live + i) < w.place j + sh.size j = covers.before in
+        let same : w.place j ≡ w.place n = ap w.place e in
+        let size : sh.size j ≡ sh.size n = ap sh.size e in
+        elim m.spaces [ inl q ↦ omega arith | inr q ↦ omega arith ]
+    | inr d ↦ free j kept (rw (other_place j d) covers)
+  ])
+
+  -- RANGES
+
+  move_below_moved : fact.RangesBelowMoved z w.cycle (scan + sh.size n) sh.kept (upd w.place n (z.current + scan)) w.mark sh.size range
+  move_below_moved x j there lower = elim (cases_eq x scan) [
+    | inl here ↦
+        let same : j ≡ n = one_number (range x) j n there (ap range here ∙ o.has_range) in
+        record {
+          is_kept = rw same o.is_kept;
+          is_claimed = rw same grey_in.of_cycle;
+          stands = rw same (upd_same w.place n (z.current + scan) ∙ ap (λ y. z.current + y) (sym here));
+          ends = let size : sh.size j ≡ sh.size n = ap sh.size same in omega arith;
+        }
+    | inr differ ↦ elim (cases_lt x scan) [
+      | inl below ↦
+          let old : IsMoved z w.cycle scan sh.kept w.place w.mark sh.size x j = h.ranges_below_moved x j there below in
+          let other : j ≢ n = λ e. differ (own_range x (there ∙ ap Some e)) in
+          let ends : x + sh.size j ≤ scan = old.ends in
+          record { is_kept = old.is_kept; is_claimed = old.is_claimed; stands = other_place j other ∙ old.stands; ends = omega arith }
+      | inr above ↦ no_range (range x) j (h.ranges_apart scan n x o.has_range (omega arith) lower) there
+    ]
+  ]
+
+  move_above_grey : fact.RangesAboveGrey (scan + sh.size n) sh.kept (upd sh.grey n false) range
+  move_above_grey x j there upper =
+      let some = some_words n in
+      let old = h.ranges_above_grey x j there (omega arith) in
+      (old.0, other_grey j (λ e. let here : x ≡ scan = own_range x (there ∙ ap Some e) in omega arith) old.1)
+
+  move_scan : fact.ScanBounded z (l.is_resting line.Scan) (scan + sh.size n) w.reserved
+  move_scan going = (h.ranges_within scan n o.has_range, o.fits)
+
+  -- CLAIMS IN HAND
+
+  move_unreserved : fact.ClaimsUnreserved g w.cycle (upd sh.grey n false) range hand
+  move_unreserved k item cycle within e =
+      let old : HoldsClaim w.cycle sh.grey range item cycle = h.claims_unreserved k item cycle within e in
+      record {
+        some = old.some;
+        of_cycle = old.of_cycle;
+        is_grey = other_grey (layout.reference_number item) (λ same. old.unreserved scan (o.has_range ∙ ap Some (sym same))) old.is_grey;
+        unreserved = old.unreserved;
+      }
+
+  move_unlinked : fact.ClaimsUnlinked g z w.cycle (upd sh.grey n false) sh.size w.cell range hand
+  move_unlinked k item cycle offset within e =
+      let old : HoldsRange z w.cycle sh.grey sh.size w.cell range item cycle offset = h.claims_unlinked k item cycle offset within e in
+      record {
+        some = old.some;
+        of_cycle = old.of_cycle;
+        is_grey = other_grey (layout.reference_number item)
+            (λ same. o.linked (ap (λ y. w.cell (z.current + y)) (sym (own_range offset (old.has_range ∙ ap Some same))) ∙ old.unlinked)) old.is_grey;
+        has_range = old.has_range;
+        fits = old.fits;
+        unlinked = old.unlinked;
+      }
+
+  -- LISTS
+
+  move_unread : fact.UnreadFree g w.cycle w.objects w.accessors (upd w.place n (z.current + scan)) w.version w.mark (w.entry (current_space w.cycle))
+  move_unread j from below =
+      let k = w.entry (current_space w.cycle) j in
+      let old : IsUnread g w.cycle w.accessors w.place w.version w.mark k = h.unread_free j from below in
+      let none : HasNoHeader w.accessors w.place w.version k = old.no_header in
+      let other : k ≢ n = headless_not_kept g w sh names line.Scan flight m.kept n k o.is_kept none.no_place in
+      record {
+        within = old.within;
+        no_header = record { no_accessors = none.no_accessors; no_place = other_place k other ∙ none.no_place; no_version = none.no_version };
+        is_marked = old.is_marked;
+      }
+
+  move_own : fact.OwnEntries g w.accessors (upd w.place n (z.current + scan)) w.version w.mark w.entry flight
+  move_own s below making =
+      let between : NewsFacts g w sh flight = assumption in
+      let k = fact.own_entry w.entry (flight s) in
+      let old : IsOwn g w.accessors w.place w.version w.mark (flight s) k = h.own_entries s below making in
+      let other : k ≢ n = own_not_kept g w sh names line.Scan flight m.kept between s n below making o.is_kept in
+      record { within = old.within; is_marked = old.is_marked; no_accessors = old.no_accessors; no_version = old.no_version; placed = other_place k other ∙ old.placed }
+
+  -- CALLS IN FLIGHT
+
+  move_place_known : fact.PlaceKnown g (upd w.place n (z.current + scan)) flight
+  move_place_known s below inside = h.place_known s below inside ∙ sym (other_place (layout.reference_number (flight s).entered) (nobody_inside s below inside))
+
+  move_late : fact.LateInNoBlackObject g w.cycle (upd sh.black n true) flight
+  move_late s below inside late = still_dark (layout.reference_number (flight s).entered) (h.late_in_no_black_object s below inside late)
+      (nobody_inside s below (cycle_in_object (flight s) inside))
+
+  move_loaded : fact.LoadedWhiteFromNoBlack g sh.white (upd sh.black n true) flight
+  move_loaded s below inside black = h.loaded_white_from_no_black s below inside
+      (sym (upd_other sh.black n true (layout.reference_number (flight s).entered) (nobody_inside s below (loaded_in_object (flight s) inside))) ∙ black)
+
+  -- COLOURS
+
+  child_dark : (b i child : ℕ) → names.bearer n ≡ Some b → i < names.refs b → contents.link b i ≡ Some child → sh.white (names.number child) ≡ false
+  child_dark b i child borne below there =
+      let word = w.cell (w.place n + 1 + i) in
+      let shows : word ≡ layout.pack_reference (names.number child) (names.refs child) (names.nums child) =
+      h.links_shown n b o.is_kept borne i below ∙ shown_birth names (contents.link b i) child there in
+      let refs : refs_at names n ≡ names.refs b = refs_borne names n b borne in
+      by_link (h.links_kept n b o.is_kept borne i below) shows (o.passed i (omega arith))
+    where
+      some_is : (a b : ℕ) → Some a ≡ Some b → a ≡ b
+      some_is a b e = cc
+
+      by_link : IsNullOrKept sh.kept names (contents.link b i) → w.cell (w.place n + 1 + i) ≡ layout.pack_reference (names.number child) (names.refs child) (names.nums child)
+          → IsNullOrMarked w.cycle w.mark (w.cell (w.place n + 1 + i)) → sh.white (names.number child) ≡ false
+      by_link (inl none) shows past = no_range (contents.link b i) child none there
+      by_link (inr (birth, is, kept)) shows past =
+          let same : birth ≡ child = one_number (contents.link b i) birth child is there in
+          let number = kept_number g w (held_by g flight) line.Scan names sh m.kept child (w.cell (w.place n + 1 + i)) (rw (← same) kept) shows in
+          elim past [
+            | inl null ↦ absurd (number.1 null)
+            | inr marked ↦ c.not_white (names.number child) (let same : w.mark (names.number child) ≡ w.cycle = ap w.mark (sym number.0) ∙ marked in omega arith)
+          ]
+
+  move_black : fact.BlackLeadsToNoWhite sh.white (upd sh.black n true) sh.kept names contents.link
+  move_black j b kept black borne i child below there = elim (cases_eq j n) [
+    | inl e ↦ child_dark b i child (ap names.bearer (sym e) ∙ borne) below there
+    | inr d ↦ h.black_leads_to_no_white j b kept (sym (upd_other sh.black n true j d) ∙ black) borne i child below there
+  ]

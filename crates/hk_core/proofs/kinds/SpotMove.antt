@@ -447,3 +447,107 @@ module _ (g : Geometry) (w : Words) (z : Spaces) (sh : Shades) (flight : ℕ →
     | inl e ↦ child_dark b i child (ap names.bearer (sym e) ∙ borne) below there
     | inr d ↦ h.black_leads_to_no_white j b kept (sym (upd_other sh.black n true j d) ∙ black) borne i child below there
   ]
+
+  -- all facts hold after the object was moved
+  pub move_facts : Facts g (moved_words w n (z.current + scan)) z (moved_shades sh n) flight begun hand (scanning t (scan + sh.size n)) names contents range
+  unfolding l.is_marking l.is_resting l.is_sweeping_or_marking l.frames_done l.frame_attempt l.register_in_work l.has_reference l.is_at_range l.has_item l.object_attempt l.cell_loaded l.cell_to_write l.passing l.sweeping l.written l.marked l.emptied l.cleared l.most_spent
+  move_facts =
+      let a1 = move_links in
+      let a2 = move_values in
+      let a3 = move_in_one in
+      let a4 = move_apart in
+      let a5 = move_from_new in
+      let a6 = move_unclaimed in
+      let b1 = move_below_used in
+      let b2 = move_in_range in
+      let b3 = move_free in
+      let b4 : fact.UnusedIsZero z (l.is_resting line.Scan) sh.kept (upd w.place n (z.current + scan)) sh.size w.cell = λ rests. never rests in
+      let c1 = move_below_moved in
+      let c2 = move_above_grey in
+      let c3 = move_scan in
+      let d1 = move_unreserved in
+      let d2 = move_unlinked in
+      let e1 = move_unread in
+      let e2 = move_own in
+      let e3 : fact.WrittenEmpty 0 w.accessors (upd w.place n (z.current + scan)) w.version (w.entry (next_list w.cycle)) = λ j below. absurd (omega arith) in
+      let i1 = move_place_known in
+      let i2 = move_late in
+      let i3 = move_loaded in
+      let j1 = move_black in
+      let k1 : fact.ScanAtRange z line.Scan (scan + sh.size n) sh.size range = λ e. never e in
+      let k2 : fact.ItemIsLinked z line.Scan (scan + sh.size n) t.item w.cell = λ e. never e in
+      let k3 : fact.ObjectAttemptBehind (scanning t (scan + sh.size n)) line.Scan t.first t.item w.accessors (upd w.place n (z.current + scan)) w.version = λ passed e. none_there passed e in
+      let k4 : fact.CellsPassed (scanning t (scan + sh.size n)) line.Scan w.cycle t.first t.item w.version w.mark w.cell = λ passed i e. none_there passed e in
+      let k5 : fact.CellsCopied z (scanning t (scan + sh.size n)) line.Scan (scan + sh.size n) t.first t.item w.version w.cell = λ passed i e. none_there passed e in
+      let k6 : fact.PassMeetsGrey g line.Scan (upd sh.grey n false) (fact.IsSettled g w.cycle sh.white (upd sh.grey n false) w.register flight) = λ k e. none_there k e in
+      let k7 : fact.SettledFromSweep line.Scan (fact.IsSettled g w.cycle sh.white (upd sh.grey n false) w.register flight) = λ e. marks_on e in
+      assumption
+
+-- WHAT MANY FACTS READ
+
+not_within : (first last place : ℕ) → (place < first) ⊎ (last ≤ place) → (nat_le first place && nat_lt place last) ≡ false
+not_within first last place (inl e) = grind (arith, nat_tests)
+not_within first last place (inr e) = grind (arith, nat_tests)
+
+-- a number that is marked for the cycle and has a place is moved to a place of the current space
+pub record Moves (z : Spaces) (cycle : ℕ) (old_place mark place : ℕ) : Type 0 where
+  pub marked : mark ≡ cycle
+  pub placed : old_place ≢ 0
+  pub after : z.current ≤ place
+  pub before : place < z.current + (z.live + z.alloc)
+  pub some : 0 < z.current
+  pub apart : SpacesApart z
+
+module _ (g : Geometry) (w : Words) (flight : ℕ → Flight) (ln : Line) (names : Names) (n p : ℕ) (o : Moves (spaces_of g w.cycle) w.cycle (w.place n) (w.mark n) p) where
+  is_placed : p ≢ 0
+  is_placed e = let some : 0 < (spaces_of g w.cycle).current = o.some in let after : (spaces_of g w.cycle).current ≤ p = o.after in omega arith
+
+  white_moved : white_by w.cycle (upd w.place n p) w.mark ≡ white_by w.cycle w.place w.mark
+  white_moved = λ i k. at k i
+    where
+      at : (k : ℕ) → (not (nat_eq (upd w.place n p k) 0) && nat_lt (w.mark k) w.cycle) ≡ (not (nat_eq (w.place k) 0) && nat_lt (w.mark k) w.cycle)
+      at k = elim (upd_cases w.place n p k) [
+        | inl (e, u) ↦ rw (u, e, ne_eqb p 0 is_placed, ne_eqb (w.place n) 0 o.placed) refl
+        | inr (d, u) ↦ rw u refl
+      ]
+
+  grey_moved : grey_by (spaces_of g w.cycle) w.cycle (upd w.place n p) w.mark ≡ upd (grey_by (spaces_of g w.cycle) w.cycle w.place w.mark) n false
+  grey_moved = is_upd {A = Bool} (grey_by (spaces_of g w.cycle) w.cycle (upd w.place n p) w.mark) (grey_by (spaces_of g w.cycle) w.cycle w.place w.mark) n false here
+      (λ k d. rw (upd_other w.place n p k d) refl)
+    where
+      outside : is_within (spaces_of g w.cycle) (spaces_of g w.cycle).old p ≡ false
+      outside =
+          let z = spaces_of g w.cycle in
+          let after : z.current ≤ p = o.after in
+          let before : p < z.current + (z.live + z.alloc) = o.before in
+          not_within z.old (z.old + (z.live + z.alloc)) p (elim o.apart [ inl a ↦ inr (omega arith) | inr a ↦ inl (omega arith) ])
+
+      here : (nat_eq (w.mark n) w.cycle && is_within (spaces_of g w.cycle) (spaces_of g w.cycle).old (upd w.place n p n)) ≡ false
+      here = rw (upd_same w.place n p, outside) (and_right _ false refl)
+
+  black_moved : black_by (spaces_of g w.cycle) w.cycle (upd w.place n p) w.mark ≡ upd (black_by (spaces_of g w.cycle) w.cycle w.place w.mark) n true
+  black_moved = is_upd {A = Bool} (black_by (spaces_of g w.cycle) w.cycle (upd w.place n p) w.mark) (black_by (spaces_of g w.cycle) w.cycle w.place w.mark) n true here
+      (λ k d. rw (upd_other w.place n p k d) refl)
+    where
+      here : (nat_eq (w.mark n) w.cycle && is_within (spaces_of g w.cycle) (spaces_of g w.cycle).current (upd w.place n p n)) ≡ true
+      here = rw (upd_same w.place n p) (and_from _ _ (eq-eqb (w.mark n) w.cycle o.marked) (and_from _ _ (le-leb _ _ o.after) (lt-ltb _ _ o.before)))
+
+  kept_moved : (held : ℕ → Bool) → kept_by g w.cycle (l.is_marking ln) held names.bearer (upd w.place n p) w.mark ≡ kept_by g w.cycle (l.is_marking ln) held names.bearer w.place w.mark
+  kept_moved held = λ i k. at k i
+    where
+      at : (k : ℕ) → kept_by g w.cycle (l.is_marking ln) held names.bearer (upd w.place n p) w.mark k ≡ kept_by g w.cycle (l.is_marking ln) held names.bearer w.place w.mark k
+      at k = elim (upd_cases w.place n p k) [
+        | inl (e, u) ↦ rw (u, e, ne_eqb p 0 is_placed, ne_eqb (w.place n) 0 o.placed) refl
+        | inr (d, u) ↦ rw u refl
+      ]
+
+  pub shades_moved : shades_of g (moved_words w n p) flight ln names ≡ moved_shades (shades_of g w flight ln names) n
+  unfolding shades_of
+  shades_moved = λ i. record {
+    white = white_moved i;
+    grey = grey_moved i;
+    black = black_moved i;
+    black_frame = black_frame_by w.cycle w.frame_cycle;
+    kept = kept_moved (held_by g flight) i;
+    size = size_at names;
+  }

@@ -2,7 +2,7 @@
 -- still that one, no call was inside the object since, so the cells that the collector has copied are the object's, and its
 -- references are null or claimed in this cycle. So the object is moved: it was grey, and is black, and its words are those of
 -- its range.
-use Rattle.std.proofs.Common.{◌≡◌, ◌≢◌, ◌⊎◌, ℕ, zero, suc, ◌+◌, ◌-◌, ◌*◌, ◌%◌, ◌<◌, ◌≤◌, Bool, true, false, inl, inr, refl, sym, ◌∙◌, ap, arith, Option, Some, None}
+use Rattle.std.proofs.Common.{◌≡◌, ◌≢◌, ◌⊎◌, ℕ, zero, suc, ◌+◌, ◌-◌, ◌*◌, ◌%◌, ◌<◌, ◌≤◌, Bool, true, false, inl, inr, refl, sym, ◌∙◌, ap, subst, arith, Option, Some, None}
 use Rattle.std.proofs.lemmas.Bool.{both_ways, cases_Bool, cases_eq, cases_lt, lt-ltb, le-ltb, le-leb, eq-eqb, ne_eqb, and_parts, and_from, and_right}
 use Rattle.std.proofs.lemmas.Bool.Decides.{nat_tests}
 use Rattle.std.specs.Prelude.{nat_eq, nat_lt, nat_le, not, ◌&&◌}
@@ -36,7 +36,7 @@ use Rattle.hk_core.proofs.kinds.WriteCell.{ShadesMean, SpacesApart, IsGreyIn, Is
 use Rattle.hk_core.proofs.kinds.LoadRead.{ColoursMean, colours_mean, kept_number, shown_birth}
 use Rattle.hk_core.proofs.kinds.Reserve.{size_some}
 use Rattle.hk_core.proofs.kinds.NewRaise.{making_has_room}
-use Rattle.hk_core.proofs.kinds.Spots.{WorkFacts, GoesMarking, hands_kept, work_facts, marking_on, on_spot}
+use Rattle.hk_core.proofs.kinds.Spots.{WorkFacts, GoesMarking, hands_kept, shades_kept, work_facts, marking_on, on_spot}
 use Rattle.hk_core.proofs.kinds.SpotLines.{AtItem, AtObjectTrade, at_object_trade, look_works, scan_works}
 use Rattle.hk_core.proofs.kinds.SpotCopy.{IsSpaceOf, spaces_are, moving, item_shows, item_grey}
 
@@ -551,3 +551,142 @@ module _ (g : Geometry) (w : Words) (flight : ℕ → Flight) (ln : Line) (names
     kept = kept_moved (held_by g flight) i;
     size = size_at names;
   }
+
+-- THE EXCHANGE
+
+trade_marks : (ln : Line) → ln ≡ line.ObjectTrade → l.is_marking ln ≡ true
+unfolding l.is_marking
+trade_marks ln e = ap l.is_marking e
+
+look_marks : l.is_marking line.Look ≡ true
+unfolding l.is_marking
+look_marks = refl
+
+scan_marks : l.is_marking line.Scan ≡ true
+unfolding l.is_marking
+scan_marks = refl
+
+lost_hand : (t : Spot) → t.line ≡ line.ObjectTrade → l.hand_of_spot (record t { line = line.Look }) ≡ l.hand_of_spot t
+unfolding l.hand_of_spot l.hand_at_line
+lost_hand t e = sym (ap (l.hand_at_line t) e)
+
+left_hand : (t : Spot) → t.line ≡ line.ObjectTrade → l.hand_of_spot (scanning t t.scan) ≡ l.hand_of_spot t
+unfolding l.hand_of_spot l.hand_at_line
+left_hand t e = sym (ap (l.hand_at_line t) e)
+
+scan_hand : (t : Spot) (scan : ℕ) → l.hand_of_spot (scanning t scan) ≡ l.hand_of_spot (scanning t t.scan)
+unfolding l.hand_of_spot l.hand_at_line
+scan_hand t scan = refl
+
+-- the new place of the object
+new_there : (g : Geometry) (t : Spot) (cycle : ℕ) → t.cycle ≡ cycle → (spaces_of g cycle).current + t.scan ≡ moved_to g t
+new_there g t cycle e = rw (← e) (omega arith)
+
+module _ (g : Geometry) (w : Words) (flight : ℕ → Flight) (begun : ℕ → ℕ) (t : Spot) (names : Names) (contents : Contents) (range : ℕ → Option ℕ) (at : t.line ≡ line.ObjectTrade)
+    (h : FactsOf g w flight begun t names contents range) where
+  trading : AtObjectTrade g w (spaces_of g w.cycle) (shades_of g w flight t.line names) t range
+  trading =
+      let z = spaces_of g w.cycle in
+      let sh = shades_of g w flight t.line names in
+      at_object_trade g w z sh flight t names range (work_facts g w z sh flight begun (hands_of g flight t) t names contents range h line.ObjectTrade at)
+
+  -- where another word is there, the attempt was in vain
+  pub object_trade_lost : FactsOf g w flight begun (record t { line = line.Look }) names contents range
+  object_trade_lost =
+      let z = spaces_of g w.cycle in
+      let sh = shades_of g w flight t.line names in
+      let other = record t { line = line.Look } in
+      let item : AtItem g w z sh t range = trading.in_object.at_item in
+      let goes : GoesMarking t other = record { from = trade_marks t.line at; to = look_marks; cycle = refl; scan = refl; entries = refl } in
+      let works : WorkFacts g w z sh flight other names range line.Look =
+      look_works g w z sh flight other names range (record {
+        at_range = record { all_black = item.at_range.all_black; found = item.at_range.found };
+        some = item.some;
+        linked = item.linked;
+      }) in
+      on_spot g w flight begun t other names contents range (lost_hand t at) (goes.to ∙ sym goes.from) h
+      (marking_on g w z sh flight begun (hands_of g flight t) t names contents range h other goes works)
+
+  left_to_scan : FactsOf g w flight begun (scanning t t.scan) names contents range
+  left_to_scan =
+      let z = spaces_of g w.cycle in
+      let sh = shades_of g w flight t.line names in
+      let other = scanning t t.scan in
+      let goes : GoesMarking t other = record { from = trade_marks t.line at; to = scan_marks; cycle = refl; scan = refl; entries = refl } in
+      let works : WorkFacts g w z sh flight other names range line.Scan = scan_works g w z sh flight other names range trading.in_object.at_item.at_range.all_black in
+      on_spot g w flight begun t other names contents range (left_hand t at) (goes.to ∙ sym goes.from) h
+      (marking_on g w z sh flight begun (hands_of g flight t) t names contents range h other goes works)
+
+  module _ (fit : ShapesFit names) (same : w.version (moved_number t) ≡ layout.header_version t.first) where
+    item_moves : IsMoving (spaces_of g w.cycle) (shades_of g w flight t.line names) t.scan t.item range
+    item_moves = moving g w (spaces_of g w.cycle) (shades_of g w flight t.line names) flight begun (hands_of g flight t) t names contents range h
+        (shades_mean g w flight t.line names) fit (trade_marks t.line at) trading.in_object.at_item
+
+    grey_item : (shades_of g w flight t.line names).grey (moved_number t) ≡ true
+    grey_item = item_grey g w (spaces_of g w.cycle) (shades_of g w flight t.line names) flight begun (hands_of g flight t) t names contents range h
+        (shades_mean g w flight t.line names) fit (trade_marks t.line at) trading.in_object.at_item
+
+    shows_item : t.item ≡ reference_at names (moved_number t)
+    shows_item = item_shows g w (spaces_of g w.cycle) (shades_of g w flight t.line names) flight begun (hands_of g flight t) t names contents range h
+        (shades_mean g w flight t.line names) fit (trade_marks t.line at) trading.in_object.at_item
+
+    can_move : CanMove w (spaces_of g w.cycle) (shades_of g w flight t.line names) names range t.scan (moved_number t)
+    can_move =
+        let z = spaces_of g w.cycle in
+        let sh = shades_of g w flight t.line names in
+        let m = shades_mean g w flight t.line names in
+        let n = moved_number t in
+        let size : reference_size t.item ≡ sh.size n = item_moves.size in
+        let placed : layout.header_place t.first ≡ w.place n = trading.in_object.behind.placed in
+        let item : AtItem g w z sh t range = trading.in_object.at_item in
+        let parts = reference_parts g names n t.item (m.kept n item_moves.is_kept).within fit shows_item in
+        let refs : layout.reference_refs t.item ≡ refs_at names n = parts.1 in
+        record {
+          is_kept = item_moves.is_kept;
+          is_grey = grey_item;
+          has_range = item_moves.has_range;
+          fits = item_moves.fits;
+          linked = λ none. item.some (sym item.linked ∙ none);
+          nobody = trading.in_object.behind.same_accessors same;
+          copied = λ i below. trading.in_object.copied i same (omega arith) ∙ ap (λ p. w.cell (p + 1 + i)) placed;
+          passed = λ i below. subst (λ (p : ℕ). IsNullOrMarked w.cycle w.mark (w.cell (p + 1 + i))) placed (trading.in_object.passed i same (omega arith) (omega arith));
+        }
+
+    place_moves : Moves (spaces_of g w.cycle) w.cycle (w.place (moved_number t)) (w.mark (moved_number t)) ((spaces_of g w.cycle).current + t.scan)
+    place_moves =
+        let z = spaces_of g w.cycle in
+        let sh = shades_of g w flight t.line names in
+        let m = shades_mean g w flight t.line names in
+        let n = moved_number t in
+        let fits : t.scan + sh.size n ≤ z.live = item_moves.fits in
+        let size : sh.size n ≡ size_at names n = m.size n in
+        let some : 0 < size_at names n = size_some names n in
+        record {
+          marked = (m.grey n grey_item).of_cycle;
+          placed = (m.kept n item_moves.is_kept).placed;
+          after = omega arith;
+          before = omega arith;
+          some = omega arith;
+          apart = m.spaces;
+        }
+
+    -- all facts hold after the exchange of a header that is the one that the attempt loaded: the object is moved
+    pub object_traded : FactsOf g (moved_words w (moved_number t) (moved_to g t)) flight begun (scanning t (t.scan + reference_size t.item)) names contents range
+    object_traded =
+        let z = spaces_of g w.cycle in
+        let n = moved_number t in
+        let sh = shades_of g w flight line.Scan names in
+        let marks : l.is_marking line.Scan ≡ l.is_marking t.line = scan_marks ∙ sym (trade_marks t.line at) in
+        let shades : sh ≡ shades_of g w flight t.line names = shades_kept g w flight t.line line.Scan names marks in
+        let can : CanMove w z sh names range t.scan n = rw shades can_move in
+        let size : reference_size t.item ≡ (shades_of g w flight t.line names).size n = item_moves.size in
+        let sized : t.scan + sh.size n ≡ t.scan + reference_size t.item = ap (λ (a : Shades). t.scan + a.size n) shades ∙ ap (λ k. t.scan + k) (sym size) in
+        let there : z.current + t.scan ≡ moved_to g t = new_there g t w.cycle h.spot_knows_cycle in
+        let hands : hands_of g flight (scanning t (t.scan + sh.size n)) ≡ hands_of g flight (scanning t t.scan) =
+        hands_kept g flight (scanning t t.scan) (scanning t (t.scan + sh.size n)) (scan_hand t (t.scan + sh.size n)) in
+        let done : FactsOf g (moved_words w n (z.current + t.scan)) flight begun (scanning t (t.scan + sh.size n)) names contents range =
+        rw (shades_moved g w flight line.Scan names n (z.current + t.scan) place_moves, hands)
+        (move_facts g w z sh flight begun (hands_of g flight (scanning t t.scan)) t t.scan names contents range left_to_scan
+        (shades_mean g w flight line.Scan names) (colours_mean g w flight line.Scan names) (spaces_are g w.cycle) n can) in
+        subst (λ (p : ℕ). FactsOf g (moved_words w n p) flight begun (scanning t (t.scan + reference_size t.item)) names contents range) there
+        (subst (λ (k : ℕ). FactsOf g (moved_words w n (z.current + t.scan)) flight begun (scanning t k) names contents range) sized done)

@@ -34,3 +34,4 @@ pub mod LinkSeats
 pub mod SpotTrade
 pub mod SpotCopy
 pub mod SpotMove
+pub mod SpotClaim

@@ -20,7 +20,7 @@ use Rattle.hk_core.specs.declared.spot.Stage.TheVariants as stage
 use Rattle.hk_core.specs.Collect.{current_space, after_register}
 use Rattle.hk_core.specs.Counts.{count_below}
 use Rattle.hk_core.specs.Step.{reference_size, reserved_fits}
-use Rattle.hk_core.specs.View.{Words, Names, Contents, reference_at}
+use Rattle.hk_core.specs.View.{Words, Names, Contents, size_at, reference_at}
 use Rattle.hk_core.specs.Flights as f
 use Rattle.hk_core.specs.Flights.{Hand, no_claim, to_reserve, to_link}
 use Rattle.hk_core.specs.Lines as l
@@ -83,3 +83,281 @@ spot_on g w flight begun t other names contents range h goes works =
     facts_as g w z sh flight begun (upd (hands_of g flight t) (tasks g) (l.hand_of_spot other)) hand t names contents range (hands_changed g flight t other) h in
     let shades : shades_of g w flight other.line names ≡ sh = shades_kept g w flight t.line other.line names (goes.to ∙ sym goes.from) in
     rw shades (with_spot g w z sh flight begun hand t names contents range mid other (marking_on g w z sh flight begun hand t names contents range mid other goes works))
+
+-- LINES
+
+-- where the collector deals with a reference, it looks for objects, and isn't in the pass
+reference_marks : (ln : Line) → l.has_reference ln ≡ true → (l.is_marking ln ≡ true) × (l.passing ln ≡ None)
+unfolding l.has_reference l.is_marking l.passing
+reference_marks line.Rest e = absurd (cc)
+reference_marks (line.Frame s) e = absurd (cc)
+reference_marks (line.Register s r stage) e = (refl, refl)
+reference_marks (line.FrameTrade s) e = absurd (cc)
+reference_marks line.Scan e = absurd (cc)
+reference_marks line.Link e = absurd (cc)
+reference_marks line.Look e = absurd (cc)
+reference_marks (line.Cell i stage) e = (refl, refl)
+reference_marks line.ObjectTrade e = absurd (cc)
+reference_marks (line.Pass n) e = absurd (cc)
+reference_marks (line.PassHead n) e = absurd (cc)
+reference_marks (line.Sweep n stage) e = absurd (cc)
+reference_marks (line.Clear i) e = absurd (cc)
+reference_marks line.Reset e = absurd (cc)
+
+none_passes : {A : Type 0} (o : Option ℕ) (p : ℕ) → o ≡ None → o ≡ Some p → A
+none_passes o p none some = absurd (cc)
+
+-- THE THREE EVENTS, FOR ALL FACTS BUT THE SPOT'S
+
+fresh_marked : (cycle : ℕ) (marking : Bool) (mark : ℕ) → is_fresh cycle marking mark ≡ true → max mark cycle ≡ cycle
+fresh_marked cycle marking mark fresh = elim (or_cases (nat_eq mark cycle) (marking && nat_eq (mark + 1) cycle) fresh) [
+  | inl e ↦ let same : mark ≡ cycle = eqb-true mark cycle e in omega arith
+  | inr e ↦ let same : mark + 1 ≡ cycle = eqb-true (mark + 1) cycle (and_parts marking (nat_eq (mark + 1) cycle) e).1 in omega arith
+]
+
+module _ (g : Geometry) (w : Words) (flight : ℕ → Flight) (begun : ℕ → ℕ) (t : Spot) (names : Names) (contents : Contents) (range : ℕ → Option ℕ)
+    (deals : l.has_reference t.line ≡ true) (h : FactsOf g w flight begun t names contents range) where
+  good_cell : IsGood (shades_of g w flight t.line names).kept names t.cell
+  good_cell = h.cell_good deals
+
+  claimed_words : Words
+  claimed_words = claim_words w (layout.reference_number t.cell) t.cycle
+
+  can_claim : CanClaim g w (shades_of g w flight t.line names) flight t.line (layout.reference_number t.cell) t.cycle
+  can_claim = record {
+    is_kept = good_cell.is_kept;
+    recent = inl h.spot_knows_cycle;
+    unsettled = λ low p e. none_passes (l.passing t.line) p (reference_marks t.line deals).1 e;
+  }
+
+  claim_at : l.hand_of_spot t ≡ no_claim
+      → Facts g (claim_words w (layout.reference_number t.cell) t.cycle) (spaces_of g w.cycle)
+      (shades_of g (claim_words w (layout.reference_number t.cell) t.cycle) flight t.line names) flight begun
+      (upd (hands_of g flight t) (tasks g) (claim_hand t.cell t.cycle (nat_lt (w.mark (layout.reference_number t.cell)) t.cycle))) t names contents range
+  claim_at free =
+      let z = spaces_of g w.cycle in
+      let sh = shades_of g w flight t.line names in
+      let n = layout.reference_number t.cell in
+      rw (shades_claimed g w flight t.line names n t.cycle h.unclaimed_is_old good_cell.is_kept (inl h.spot_knows_cycle))
+      (claim_facts g w z sh flight begun (hands_of g flight t) t names contents range h (shades_mean g w flight t.line names) n t.cycle can_claim (tasks g) t.cell (omega arith)
+      (own_hand g flight t ∙ free) good_cell.some refl)
+
+  claim_marks : upd w.mark (layout.reference_number t.cell) (max (w.mark (layout.reference_number t.cell)) t.cycle) (layout.reference_number t.cell) ≡ w.cycle
+  claim_marks =
+      let n = layout.reference_number t.cell in
+      let m = shades_mean g w flight t.line names in
+      let fresh = (m.kept n good_cell.is_kept).is_fresh in
+      upd_same w.mark n (max (w.mark n) t.cycle) ∙ ap (max (w.mark n)) h.spot_knows_cycle ∙ fresh_marked w.cycle (l.is_marking t.line) (w.mark n) fresh
+
+  reserve_at : l.hand_of_spot t ≡ to_reserve t.cell t.cycle → ShapesFit names → BearersHaveFields names
+      → Facts g (reserve_words w (reference_size t.cell)) (spaces_of g w.cycle) (shades_of g (reserve_words w (reference_size t.cell)) flight t.line names) flight begun
+      (upd (hands_of g flight t) (tasks g) (reserve_hand g t.cell t.cycle w.reserved)) t names contents (reserve_range range w.reserved (layout.reference_number t.cell))
+  reserve_at holds fit fields =
+      let z = spaces_of g w.cycle in
+      let sh = shades_of g w flight t.line names in
+      let n = layout.reference_number t.cell in
+      let m : ShadesMean g w z sh flight t.line names = shades_mean g w flight t.line names in
+      let kept = m.kept n good_cell.is_kept in
+      let parts = reference_parts g names n t.cell kept.within fit good_cell.shows in
+      let two : 2 ≤ size_at names n = two_words names n fields kept.is_born in
+      let same : sh.size n ≡ size_at names n = m.size n in
+      let can : CanReserve g z sh (hands_of g flight t) (tasks g) t.cell t.cycle n = record {
+        within = omega arith;
+        holds = own_hand g flight t ∙ holds;
+        number = refl;
+        is_kept = good_cell.is_kept;
+        size = size_of_reference names n t.cell parts.1 parts.2 ∙ sym same;
+        two = omega arith;
+        live = refl;
+      } in
+      rw (shades_reserved g w (reference_size t.cell) flight t.line names)
+      (reserve_facts g w z sh flight begun (hands_of g flight t) t names contents range h m (tasks g) t.cell t.cycle n can)
+
+  reserve_marks : l.hand_of_spot t ≡ to_reserve t.cell t.cycle → w.mark (layout.reference_number t.cell) ≡ w.cycle
+  reserve_marks holds =
+      let m = shades_mean g w flight t.line names in
+      (m.grey (layout.reference_number t.cell) (h.claims_unreserved (tasks g) t.cell t.cycle (omega arith) (own_hand g flight t ∙ holds)).is_grey).of_cycle
+
+  link_at : l.hand_of_spot t ≡ to_link t.cell t.cycle t.offset → ShapesFit names
+      → Facts g (cell_words w ((spaces_of g w.cycle).current + t.offset) t.cell) (spaces_of g w.cycle)
+      (shades_of g (cell_words w ((spaces_of g w.cycle).current + t.offset) t.cell) flight t.line names) flight begun
+      (upd (hands_of g flight t) (tasks g) no_claim) t names contents range
+  link_at holds fit =
+      let z = spaces_of g w.cycle in
+      let sh = shades_of g w flight t.line names in
+      let can : CanLink g w.cycle z names (hands_of g flight t) (tasks g) t.cell t.cycle t.offset = record {
+        within = omega arith;
+        holds = own_hand g flight t ∙ holds;
+        shows = good_cell.shows;
+        current = refl;
+        live = refl;
+      } in
+      rw (shades_cell g w (z.current + t.offset) t.cell flight t.line names)
+      (link_facts g w z sh flight begun (hands_of g flight t) t names contents range h (shades_mean g w flight t.line names) fit (tasks g) t.cell t.cycle t.offset can)
+
+  link_marks : l.hand_of_spot t ≡ to_link t.cell t.cycle t.offset → w.mark (layout.reference_number t.cell) ≡ w.cycle
+  link_marks holds =
+      let m = shades_mean g w flight t.line names in
+      (m.grey (layout.reference_number t.cell) (h.claims_unlinked (tasks g) t.cell t.cycle t.offset (omega arith) (own_hand g flight t ∙ holds)).is_grey).of_cycle
+
+-- THE SPOT
+
+-- the spot after one of these events, on a line and with an offset
+abbrev pub dealt : Spot → Line → (offset : ℕ) → Spot
+dealt t ln offset = record t { line = ln; offset = offset; spent = t.spent + 1 }
+
+-- a stage at which a reference is dealt with, and the next such stage
+record IsDealing (stage : Stage) : Type 0 where
+  works : l.is_in_work stage ≡ true
+  rank : l.stage_rank stage ≤ 3
+  loaded : (i : ℕ) → l.loaded_at i stage ≡ Some i
+
+record DealsOn (stage next : Stage) : Type 0 where
+  before : IsDealing stage
+  after : IsDealing next
+  rank : l.stage_rank next ≡ l.stage_rank stage + 1
+  of_register : l.IsRegisterStage next
+  of_cell : l.IsCellStage next
+  unwritten : (i j : ℕ) → l.written_at i next ≢ Some j
+
+at_claim : IsDealing stage.Claim
+unfolding l.is_in_work l.stage_rank l.loaded_at
+at_claim = record { works = refl; rank = omega arith; loaded = λ i. refl }
+
+at_reserve : IsDealing stage.Reserve
+unfolding l.is_in_work l.stage_rank l.loaded_at
+at_reserve = record { works = refl; rank = omega arith; loaded = λ i. refl }
+
+at_tie : IsDealing stage.Tie
+unfolding l.is_in_work l.stage_rank l.loaded_at
+at_tie = record { works = refl; rank = omega arith; loaded = λ i. refl }
+
+claim_on : DealsOn stage.Claim stage.Reserve
+unfolding l.stage_rank l.written_at
+claim_on = record { before = at_claim; after = at_reserve; rank = refl; of_register = tt; of_cell = tt; unwritten = λ i j e. absurd (cc) }
+
+reserve_on : DealsOn stage.Reserve stage.Tie
+unfolding l.stage_rank l.written_at
+reserve_on = record { before = at_reserve; after = at_tie; rank = refl; of_register = tt; of_cell = tt; unwritten = λ i j e. absurd (cc) }
+
+not_low : (a b : ℕ) → nat_lt a b ≡ false → b ≤ a
+not_low a b e = grind (arith, nat_tests)
+
+no_read_work : {A : Type 0} → l.is_in_work stage.Read ≡ true → A
+unfolding l.is_in_work
+no_read_work e = absurd (cc)
+
+no_write_work : {A : Type 0} → l.is_in_work stage.Write ≡ true → A
+unfolding l.is_in_work
+no_write_work e = absurd (cc)
+
+read_rank : l.stage_rank stage.Read ≡ 0
+unfolding l.stage_rank
+read_rank = refl
+
+write_rank : l.stage_rank stage.Write ≡ 4
+unfolding l.stage_rank
+write_rank = refl
+
+loaded_now : (i : ℕ) → l.loaded_at i stage.Write ≡ Some i
+unfolding l.loaded_at
+loaded_now i = refl
+
+-- what the collector is in the middle of on the next line
+abbrev Goes : Geometry → (z : Spaces) (flight : ℕ → Flight) (t : Spot) (names : Names) (from to : Line) → Type 0
+Goes g z flight t names from to = (w : Words) (sh : Shades) (range : ℕ → Option ℕ) (offset : ℕ) → w.mark (layout.reference_number t.cell) ≡ w.cycle
+    → WorkFacts g w z sh flight t names range from → WorkFacts g w z sh flight (dealt t to offset) names range to
+
+module _ (g : Geometry) (z : Spaces) (flight : ℕ → Flight) (t : Spot) (names : Names) where
+  register_next : (s r : ℕ) (now next : Stage) → DealsOn now next → Goes g z flight t names (line.Register s r now) (line.Register s r next)
+  register_next s r now next o w sh range offset marked k =
+      let here : AtRegister g w sh t names s r now = at_register g w z sh flight t names range s r now k in
+      let spent : t.spent ≤ 1 + 4 * r + l.stage_rank now = here.spent in
+      let rank : l.stage_rank next ≡ l.stage_rank now + 1 = o.rank in
+      register_works g w z sh flight (dealt t (line.Register s r next) offset) names range s r next (record {
+        in_frame = record { at_frame = here.in_frame.at_frame; behind = here.in_frame.behind; passed = here.in_frame.passed };
+        register = here.register;
+        staged = o.of_register;
+        good = λ e. here.good o.before.works;
+        in_work = λ e. here.in_work o.before.works;
+        spent = omega arith;
+      })
+
+  register_past : (s r : ℕ) (now : Stage) → IsDealing now → Goes g z flight t names (line.Register s r now) (after_register g s r)
+  register_past s r now o w sh range offset marked k =
+      let here : AtRegister g w sh t names s r now = at_register g w z sh flight t names range s r now k in
+      by_last here (λ j same below. elim (cases_eq j r) [
+        | inl e ↦ elim (here.in_work o.works same) [
+          | inl null ↦ inl (ap (w.register s) e ∙ null)
+          | inr holds ↦ inr (ap (λ word. w.mark (layout.reference_number word)) (ap (w.register s) e ∙ holds) ∙ marked)
+        ]
+        | inr d ↦ here.in_frame.passed j same (omega arith)
+      ]) (nat_lt (r + 1) g.registers) refl
+    where
+      by_last : AtRegister g w sh t names s r now → ((j : ℕ) → w.frame_version s ≡ layout.frame_version t.first → j < r + 1 → IsNullOrMarked w.cycle w.mark (w.register s j))
+          → (more : Bool) → nat_lt (r + 1) g.registers ≡ more
+          → WorkFacts g w z sh flight (dealt t (after_register g s r) offset) names range (if more then line.Register s (r + 1) stage.Read else line.FrameTrade s)
+      by_last here past true e =
+          let spent : t.spent ≤ 1 + 4 * r + l.stage_rank now = here.spent in
+          let rank : l.stage_rank now ≤ 3 = o.rank in
+          let none = read_rank in
+          register_works g w z sh flight (dealt t (after_register g s r) offset) names range s (r + 1) stage.Read (record {
+            in_frame = record { at_frame = here.in_frame.at_frame; behind = here.in_frame.behind; passed = past };
+            register = ltb-true _ _ e;
+            staged = tt;
+            good = λ e. no_read_work e;
+            in_work = λ e. no_read_work e;
+            spent = omega arith;
+          })
+      by_last here past false e =
+          let last : g.registers ≤ r + 1 = not_low (r + 1) g.registers e in
+          let below : r < g.registers = here.register in
+          let spent : t.spent ≤ 1 + 4 * r + l.stage_rank now = here.spent in
+          let rank : l.stage_rank now ≤ 3 = o.rank in
+          frame_trade_works g w z sh flight (dealt t (after_register g s r) offset) names range s (record {
+            in_frame = record { at_frame = here.in_frame.at_frame; behind = here.in_frame.behind; passed = λ j same below. past j same (omega arith) };
+            spent = omega arith;
+          })
+
+  cell_next : (i : ℕ) (now next : Stage) → DealsOn now next → Goes g z flight t names (line.Cell i now) (line.Cell i next)
+  cell_next i now next o w sh range offset marked k =
+      let here : AtCell g w z sh t names range i now = at_cell g w z sh flight t names range i now k in
+      let item = here.in_object.at_item in
+      let spent : t.spent ≤ 1 + 5 * i + l.stage_rank now = here.spent in
+      let rank : l.stage_rank next ≡ l.stage_rank now + 1 = o.rank in
+      cell_works g w z sh flight (dealt t (line.Cell i next) offset) names range i next (record {
+        in_object = record {
+          at_item = record { at_range = record { all_black = item.at_range.all_black; found = item.at_range.found }; some = item.some; linked = item.linked };
+          behind = here.in_object.behind;
+          passed = here.in_object.passed;
+          copied = here.in_object.copied;
+        };
+        cell = here.cell;
+        staged = o.of_cell;
+        good = λ e. here.good o.before.works;
+        claimed = λ j e. absurd (o.unwritten i j e);
+        loaded = λ j e. here.loaded j (o.before.loaded i ∙ sym (o.after.loaded i) ∙ e);
+        spent = omega arith;
+      })
+
+  cell_past : (i : ℕ) (now : Stage) → IsDealing now → Goes g z flight t names (line.Cell i now) (line.Cell i stage.Write)
+  cell_past i now o w sh range offset marked k =
+      let here : AtCell g w z sh t names range i now = at_cell g w z sh flight t names range i now k in
+      let item = here.in_object.at_item in
+      let spent : t.spent ≤ 1 + 5 * i + l.stage_rank now = here.spent in
+      let rank : l.stage_rank now ≤ 3 = o.rank in
+      let full = write_rank in
+      cell_works g w z sh flight (dealt t (line.Cell i stage.Write) offset) names range i stage.Write (record {
+        in_object = record {
+          at_item = record { at_range = record { all_black = item.at_range.all_black; found = item.at_range.found }; some = item.some; linked = item.linked };
+          behind = here.in_object.behind;
+          passed = here.in_object.passed;
+          copied = here.in_object.copied;
+        };
+        cell = here.cell;
+        staged = tt;
+        good = λ e. no_write_work e;
+        claimed = λ j e below. inr marked;
+        loaded = λ j e. here.loaded j (o.loaded i ∙ sym (loaded_now i) ∙ e);
+        spent = omega arith;
+      })

@@ -361,3 +361,207 @@ module _ (g : Geometry) (z : Spaces) (flight : ℕ → Flight) (t : Spot) (names
         loaded = λ j e. here.loaded j (o.loaded i ∙ sym (loaded_now i) ∙ e);
         spent = omega arith;
       })
+
+-- THE EVENTS
+
+-- what the lines say on which a reference is dealt with, and on which it is past
+record Past (g : Geometry) (z : Spaces) (flight : ℕ → Flight) (t : Spot) (names : Names) (from past : Line) : Type 0 where
+  reference : l.has_reference from ≡ true
+  marks : l.is_marking past ≡ true
+  no_hand : (offset : ℕ) → l.hand_of_spot (dealt t past offset) ≡ no_claim
+  works : Goes g z flight t names from past
+
+-- and on the next line on which it is dealt with still
+record Onward (g : Geometry) (z : Spaces) (flight : ℕ → Flight) (t : Spot) (names : Names) (from next : Line) (hand : ℕ → Hand) : Type 0 where
+  marks : l.is_marking next ≡ true
+  has_hand : (offset : ℕ) → l.hand_of_spot (dealt t next offset) ≡ hand offset
+  works : Goes g z flight t names from next
+
+module _ (g : Geometry) (w : Words) (flight : ℕ → Flight) (begun : ℕ → ℕ) (t : Spot) (names : Names) (contents : Contents) (range : ℕ → Option ℕ) (from : Line) (at : t.line ≡ from)
+    (reference : l.has_reference from ≡ true) where
+  deals_there : l.has_reference t.line ≡ true
+  deals_there = ap l.has_reference at ∙ reference
+
+  -- the spot goes on to a line, with the claim in hand of that line
+  deals_on : (to : Line) (offset : ℕ) (mine : Hand) → l.is_marking to ≡ true → l.hand_of_spot (dealt t to offset) ≡ mine → Goes g (spaces_of g w.cycle) flight t names from to
+      → w.mark (layout.reference_number t.cell) ≡ w.cycle
+      → Facts g w (spaces_of g w.cycle) (shades_of g w flight t.line names) flight begun (upd (hands_of g flight t) (tasks g) mine) t names contents range
+      → FactsOf g w flight begun (dealt t to offset) names contents range
+  deals_on to offset mine marks hand works marked h =
+      let z = spaces_of g w.cycle in
+      let sh = shades_of g w flight t.line names in
+      let other = dealt t to offset in
+      let goes : GoesMarking t other = record { from = (reference_marks t.line deals_there).0; to = marks; cycle = refl; scan = refl; entries = refl } in
+      spot_on g w flight begun t other names contents range
+      (subst (λ (a : Hand). Facts g w z sh flight begun (upd (hands_of g flight t) (tasks g) a) t names contents range) (sym hand) h) goes
+      (works w sh range offset marked (work_facts g w z sh flight begun (upd (hands_of g flight t) (tasks g) mine) t names contents range h from at))
+
+module _ (g : Geometry) (w : Words) (flight : ℕ → Flight) (begun : ℕ → ℕ) (t : Spot) (names : Names) (contents : Contents) (range : ℕ → Option ℕ) (from past : Line) (at : t.line ≡ from)
+    (o : Past g (spaces_of g w.cycle) flight t names from past) (h : FactsOf g w flight begun t names contents range) where
+  here_deals : l.has_reference t.line ≡ true
+  here_deals = deals_there g w flight begun t names contents range from at o.reference
+
+  claims_on : (next : Line) → Onward g (spaces_of g w.cycle) flight t names from next (λ offset. to_reserve t.cell t.cycle) → l.hand_of_spot t ≡ no_claim
+      → FactsOf g (claim_words w (layout.reference_number t.cell) t.cycle) flight begun
+      (dealt t (if nat_lt (w.mark (layout.reference_number t.cell)) t.cycle then next else past) t.offset) names contents range
+  claims_on next on free =
+      by_first (nat_lt (w.mark (layout.reference_number t.cell)) t.cycle) (claim_at g w flight begun t names contents range here_deals h free)
+    where
+      by_first : (first : Bool)
+          → Facts g (claim_words w (layout.reference_number t.cell) t.cycle) (spaces_of g w.cycle)
+          (shades_of g (claim_words w (layout.reference_number t.cell) t.cycle) flight t.line names) flight begun
+          (upd (hands_of g flight t) (tasks g) (if first then to_reserve t.cell t.cycle else no_claim)) t names contents range
+          → FactsOf g (claim_words w (layout.reference_number t.cell) t.cycle) flight begun (dealt t (if first then next else past) t.offset) names contents range
+      by_first true f =
+          deals_on g (claim_words w (layout.reference_number t.cell) t.cycle) flight begun t names contents range from at o.reference next t.offset (to_reserve t.cell t.cycle) on.marks
+          (on.has_hand t.offset) on.works (claim_marks g w flight begun t names contents range here_deals h) f
+      by_first false f =
+          deals_on g (claim_words w (layout.reference_number t.cell) t.cycle) flight begun t names contents range from at o.reference past t.offset no_claim o.marks
+          (o.no_hand t.offset) o.works (claim_marks g w flight begun t names contents range here_deals h) f
+
+  reserves_on : (next : Line) → Onward g (spaces_of g w.cycle) flight t names from next (λ offset. to_link t.cell t.cycle offset) → l.hand_of_spot t ≡ to_reserve t.cell t.cycle
+      → ShapesFit names → BearersHaveFields names
+      → FactsOf g (reserve_words w (reference_size t.cell)) flight begun
+      (dealt t (if reserved_fits g w.reserved t.cell then next else past) w.reserved) names contents (reserve_range range w.reserved (layout.reference_number t.cell))
+  reserves_on next on holds fit fields =
+      by_fit (reserved_fits g w.reserved t.cell) (reserve_at g w flight begun t names contents range here_deals h holds fit fields)
+    where
+      by_fit : (fits : Bool)
+          → Facts g (reserve_words w (reference_size t.cell)) (spaces_of g w.cycle) (shades_of g (reserve_words w (reference_size t.cell)) flight t.line names) flight begun
+          (upd (hands_of g flight t) (tasks g) (if fits then to_link t.cell t.cycle w.reserved else no_claim)) t names contents (reserve_range range w.reserved (layout.reference_number t.cell))
+          → FactsOf g (reserve_words w (reference_size t.cell)) flight begun (dealt t (if fits then next else past) w.reserved) names contents
+          (reserve_range range w.reserved (layout.reference_number t.cell))
+      by_fit true f =
+          deals_on g (reserve_words w (reference_size t.cell)) flight begun t names contents (reserve_range range w.reserved (layout.reference_number t.cell)) from at o.reference
+          next w.reserved (to_link t.cell t.cycle w.reserved) on.marks (on.has_hand w.reserved) on.works (reserve_marks g w flight begun t names contents range here_deals h holds) f
+      by_fit false f =
+          deals_on g (reserve_words w (reference_size t.cell)) flight begun t names contents (reserve_range range w.reserved (layout.reference_number t.cell)) from at o.reference
+          past w.reserved no_claim o.marks (o.no_hand w.reserved) o.works (reserve_marks g w flight begun t names contents range here_deals h holds) f
+
+  links_on : l.hand_of_spot t ≡ to_link t.cell t.cycle t.offset → ShapesFit names
+      → FactsOf g (cell_words w (place_at g (current_space t.cycle) t.offset) t.cell) flight begun (dealt t past t.offset) names contents range
+  links_on holds fit =
+      let p = (spaces_of g w.cycle).current + t.offset in
+      let there : p ≡ place_at g (current_space t.cycle) t.offset = link_there g t w.cycle h.spot_knows_cycle in
+      subst (λ (p : ℕ). FactsOf g (cell_words w p t.cell) flight begun (dealt t past t.offset) names contents range) there
+      (deals_on g (cell_words w p t.cell) flight begun t names contents range from at o.reference past t.offset no_claim o.marks (o.no_hand t.offset) o.works
+      (link_marks g w flight begun t names contents range here_deals h holds)
+      (link_at g w flight begun t names contents range here_deals h holds fit))
+    where
+      link_there : (g : Geometry) (t : Spot) (cycle : ℕ) → t.cycle ≡ cycle → (spaces_of g cycle).current + t.offset ≡ place_at g (current_space t.cycle) t.offset
+      link_there g t cycle e = rw (← e) (omega arith)
+
+-- AT A REGISTER, AND AT A CELL
+
+past_register_marks : (g : Geometry) (s r : ℕ) → l.is_marking (after_register g s r) ≡ true
+unfolding l.is_marking
+past_register_marks g s r = by_last (nat_lt (r + 1) g.registers)
+  where
+    by_last : (more : Bool) → l.is_marking (if more then line.Register s (r + 1) stage.Read else line.FrameTrade s) ≡ true
+    by_last true = refl
+    by_last false = refl
+
+past_register_hand : (g : Geometry) (t : Spot) (s r offset : ℕ) → l.hand_of_spot (dealt t (after_register g s r) offset) ≡ no_claim
+unfolding l.hand_of_spot l.hand_at_line l.hand_at
+past_register_hand g t s r offset = by_last (nat_lt (r + 1) g.registers)
+  where
+    by_last : (more : Bool) → l.hand_at_line (dealt t (after_register g s r) offset) (if more then line.Register s (r + 1) stage.Read else line.FrameTrade s) ≡ no_claim
+    by_last true = refl
+    by_last false = refl
+
+module _ (g : Geometry) (z : Spaces) (flight : ℕ → Flight) (t : Spot) (names : Names) where
+  past_register : (s r : ℕ) (now : Stage) → IsDealing now → Past g z flight t names (line.Register s r now) (after_register g s r)
+  unfolding l.has_reference
+  past_register s r now o = record { reference = o.works; marks = past_register_marks g s r; no_hand = past_register_hand g t s r; works = register_past g z flight t names s r now o }
+
+  past_cell : (i : ℕ) (now : Stage) → IsDealing now → Past g z flight t names (line.Cell i now) (line.Cell i stage.Write)
+  unfolding l.has_reference l.is_marking l.hand_of_spot l.hand_at_line l.hand_at
+  past_cell i now o = record { reference = o.works; marks = refl; no_hand = λ offset. refl; works = cell_past g z flight t names i now o }
+
+  on_to_reserve_register : (s r : ℕ) → Onward g z flight t names (line.Register s r stage.Claim) (line.Register s r stage.Reserve) (λ offset. to_reserve t.cell t.cycle)
+  unfolding l.is_marking l.hand_of_spot l.hand_at_line l.hand_at
+  on_to_reserve_register s r = record { marks = refl; has_hand = λ offset. refl; works = register_next g z flight t names s r stage.Claim stage.Reserve claim_on }
+
+  on_to_tie_register : (s r : ℕ) → Onward g z flight t names (line.Register s r stage.Reserve) (line.Register s r stage.Tie) (λ offset. to_link t.cell t.cycle offset)
+  unfolding l.is_marking l.hand_of_spot l.hand_at_line l.hand_at
+  on_to_tie_register s r = record { marks = refl; has_hand = λ offset. refl; works = register_next g z flight t names s r stage.Reserve stage.Tie reserve_on }
+
+  on_to_reserve_cell : (i : ℕ) → Onward g z flight t names (line.Cell i stage.Claim) (line.Cell i stage.Reserve) (λ offset. to_reserve t.cell t.cycle)
+  unfolding l.is_marking l.hand_of_spot l.hand_at_line l.hand_at
+  on_to_reserve_cell i = record { marks = refl; has_hand = λ offset. refl; works = cell_next g z flight t names i stage.Claim stage.Reserve claim_on }
+
+  on_to_tie_cell : (i : ℕ) → Onward g z flight t names (line.Cell i stage.Reserve) (line.Cell i stage.Tie) (λ offset. to_link t.cell t.cycle offset)
+  unfolding l.is_marking l.hand_of_spot l.hand_at_line l.hand_at
+  on_to_tie_cell i = record { marks = refl; has_hand = λ offset. refl; works = cell_next g z flight t names i stage.Reserve stage.Tie reserve_on }
+
+-- the claim in hand on each of these lines
+register_hand : (t : Spot) (s r : ℕ) (now : Stage) → t.line ≡ line.Register s r now → l.hand_of_spot t ≡ l.hand_at t now
+unfolding l.hand_of_spot l.hand_at_line
+register_hand t s r now e = ap (l.hand_at_line t) e
+
+cell_hand : (t : Spot) (i : ℕ) (now : Stage) → t.line ≡ line.Cell i now → l.hand_of_spot t ≡ l.hand_at t now
+unfolding l.hand_of_spot l.hand_at_line
+cell_hand t i now e = ap (l.hand_at_line t) e
+
+claim_stage : (t : Spot) → l.hand_at t stage.Claim ≡ no_claim
+unfolding l.hand_at
+claim_stage t = refl
+
+reserve_stage : (t : Spot) → l.hand_at t stage.Reserve ≡ to_reserve t.cell t.cycle
+unfolding l.hand_at
+reserve_stage t = refl
+
+tie_stage : (t : Spot) → l.hand_at t stage.Tie ≡ to_link t.cell t.cycle t.offset
+unfolding l.hand_at
+tie_stage t = refl
+
+module _ (g : Geometry) (w : Words) (flight : ℕ → Flight) (begun : ℕ → ℕ) (t : Spot) (names : Names) (contents : Contents) (range : ℕ → Option ℕ) where
+  -- all facts hold after the collector has claimed the object of a register
+  pub register_claims : (s r : ℕ) → t.line ≡ line.Register s r stage.Claim → FactsOf g w flight begun t names contents range
+      → FactsOf g (claim_words w (layout.reference_number t.cell) t.cycle) flight begun
+      (dealt t (if nat_lt (w.mark (layout.reference_number t.cell)) t.cycle then line.Register s r stage.Reserve else after_register g s r) t.offset) names contents range
+  register_claims s r at h =
+      let z = spaces_of g w.cycle in
+      claims_on g w flight begun t names contents range (line.Register s r stage.Claim) (after_register g s r) at (past_register g z flight t names s r stage.Claim at_claim) h
+      (line.Register s r stage.Reserve) (on_to_reserve_register g z flight t names s r) (register_hand t s r stage.Claim at ∙ claim_stage t)
+
+  -- after it has reserved a place for that object
+  pub register_reserves : (s r : ℕ) → t.line ≡ line.Register s r stage.Reserve → ShapesFit names → BearersHaveFields names → FactsOf g w flight begun t names contents range
+      → FactsOf g (reserve_words w (reference_size t.cell)) flight begun
+      (dealt t (if reserved_fits g w.reserved t.cell then line.Register s r stage.Tie else after_register g s r) w.reserved) names contents
+      (reserve_range range w.reserved (layout.reference_number t.cell))
+  register_reserves s r at fit fields h =
+      let z = spaces_of g w.cycle in
+      reserves_on g w flight begun t names contents range (line.Register s r stage.Reserve) (after_register g s r) at (past_register g z flight t names s r stage.Reserve at_reserve) h
+      (line.Register s r stage.Tie) (on_to_tie_register g z flight t names s r) (register_hand t s r stage.Reserve at ∙ reserve_stage t) fit fields
+
+  -- after it has linked it
+  pub register_links : (s r : ℕ) → t.line ≡ line.Register s r stage.Tie → ShapesFit names → FactsOf g w flight begun t names contents range
+      → FactsOf g (cell_words w (place_at g (current_space t.cycle) t.offset) t.cell) flight begun (dealt t (after_register g s r) t.offset) names contents range
+  register_links s r at fit h =
+      links_on g w flight begun t names contents range (line.Register s r stage.Tie) (after_register g s r) at
+      (past_register g (spaces_of g w.cycle) flight t names s r stage.Tie at_tie) h (register_hand t s r stage.Tie at ∙ tie_stage t) fit
+
+  -- and the same for the object of a reference cell
+  pub cell_claims : (i : ℕ) → t.line ≡ line.Cell i stage.Claim → FactsOf g w flight begun t names contents range
+      → FactsOf g (claim_words w (layout.reference_number t.cell) t.cycle) flight begun
+      (dealt t (if nat_lt (w.mark (layout.reference_number t.cell)) t.cycle then line.Cell i stage.Reserve else line.Cell i stage.Write) t.offset) names contents range
+  cell_claims i at h =
+      let z = spaces_of g w.cycle in
+      claims_on g w flight begun t names contents range (line.Cell i stage.Claim) (line.Cell i stage.Write) at (past_cell g z flight t names i stage.Claim at_claim) h
+      (line.Cell i stage.Reserve) (on_to_reserve_cell g z flight t names i) (cell_hand t i stage.Claim at ∙ claim_stage t)
+
+  pub cell_reserves : (i : ℕ) → t.line ≡ line.Cell i stage.Reserve → ShapesFit names → BearersHaveFields names → FactsOf g w flight begun t names contents range
+      → FactsOf g (reserve_words w (reference_size t.cell)) flight begun
+      (dealt t (if reserved_fits g w.reserved t.cell then line.Cell i stage.Tie else line.Cell i stage.Write) w.reserved) names contents
+      (reserve_range range w.reserved (layout.reference_number t.cell))
+  cell_reserves i at fit fields h =
+      let z = spaces_of g w.cycle in
+      reserves_on g w flight begun t names contents range (line.Cell i stage.Reserve) (line.Cell i stage.Write) at (past_cell g z flight t names i stage.Reserve at_reserve) h
+      (line.Cell i stage.Tie) (on_to_tie_cell g z flight t names i) (cell_hand t i stage.Reserve at ∙ reserve_stage t) fit fields
+
+  pub cell_links : (i : ℕ) → t.line ≡ line.Cell i stage.Tie → ShapesFit names → FactsOf g w flight begun t names contents range
+      → FactsOf g (cell_words w (place_at g (current_space t.cycle) t.offset) t.cell) flight begun (dealt t (line.Cell i stage.Write) t.offset) names contents range
+  cell_links i at fit h =
+      links_on g w flight begun t names contents range (line.Cell i stage.Tie) (line.Cell i stage.Write) at
+      (past_cell g (spaces_of g w.cycle) flight t names i stage.Tie at_tie) h (cell_hand t i stage.Tie at ∙ tie_stage t) fit

@@ -494,6 +494,10 @@ module _ (g : Geometry) (z : Spaces) (flight : ℕ → Flight) (t : Spot) (names
   unfolding l.is_marking l.hand_of_spot l.hand_at_line l.hand_at
   on_to_tie_cell i = record { marks = refl; has_hand = λ offset. refl; works = cell_next g z flight t names i stage.Reserve stage.Tie reserve_on }
 
+cell_by : (i : ℕ) (test : Bool) (first second : Stage) → ◌≡◌ {A = Line} (if test then line.Cell i first else line.Cell i second) (line.Cell i (if test then first else second))
+cell_by i true first second = refl
+cell_by i false first second = refl
+
 -- the claim in hand on each of these lines
 register_hand : (t : Spot) (s r : ℕ) (now : Stage) → t.line ≡ line.Register s r now → l.hand_of_spot t ≡ l.hand_at t now
 unfolding l.hand_of_spot l.hand_at_line
@@ -545,20 +549,25 @@ module _ (g : Geometry) (w : Words) (flight : ℕ → Flight) (begun : ℕ → �
   -- and the same for the object of a reference cell
   pub cell_claims : (i : ℕ) → t.line ≡ line.Cell i stage.Claim → FactsOf g w flight begun t names contents range
       → FactsOf g (claim_words w (layout.reference_number t.cell) t.cycle) flight begun
-      (dealt t (if nat_lt (w.mark (layout.reference_number t.cell)) t.cycle then line.Cell i stage.Reserve else line.Cell i stage.Write) t.offset) names contents range
+      (dealt t (line.Cell i (if nat_lt (w.mark (layout.reference_number t.cell)) t.cycle then stage.Reserve else stage.Write)) t.offset) names contents range
   cell_claims i at h =
       let z = spaces_of g w.cycle in
-      claims_on g w flight begun t names contents range (line.Cell i stage.Claim) (line.Cell i stage.Write) at (past_cell g z flight t names i stage.Claim at_claim) h
-      (line.Cell i stage.Reserve) (on_to_reserve_cell g z flight t names i) (cell_hand t i stage.Claim at ∙ claim_stage t)
+      let n = layout.reference_number t.cell in
+      subst (λ (ln : Line). FactsOf g (claim_words w n t.cycle) flight begun (dealt t ln t.offset) names contents range) (cell_by i (nat_lt (w.mark n) t.cycle) stage.Reserve stage.Write)
+      (claims_on g w flight begun t names contents range (line.Cell i stage.Claim) (line.Cell i stage.Write) at (past_cell g z flight t names i stage.Claim at_claim) h
+      (line.Cell i stage.Reserve) (on_to_reserve_cell g z flight t names i) (cell_hand t i stage.Claim at ∙ claim_stage t))
 
   pub cell_reserves : (i : ℕ) → t.line ≡ line.Cell i stage.Reserve → ShapesFit names → BearersHaveFields names → FactsOf g w flight begun t names contents range
       → FactsOf g (reserve_words w (reference_size t.cell)) flight begun
-      (dealt t (if reserved_fits g w.reserved t.cell then line.Cell i stage.Tie else line.Cell i stage.Write) w.reserved) names contents
+      (dealt t (line.Cell i (if reserved_fits g w.reserved t.cell then stage.Tie else stage.Write)) w.reserved) names contents
       (reserve_range range w.reserved (layout.reference_number t.cell))
   cell_reserves i at fit fields h =
       let z = spaces_of g w.cycle in
-      reserves_on g w flight begun t names contents range (line.Cell i stage.Reserve) (line.Cell i stage.Write) at (past_cell g z flight t names i stage.Reserve at_reserve) h
-      (line.Cell i stage.Tie) (on_to_tie_cell g z flight t names i) (cell_hand t i stage.Reserve at ∙ reserve_stage t) fit fields
+      let ranges = reserve_range range w.reserved (layout.reference_number t.cell) in
+      subst (λ (ln : Line). FactsOf g (reserve_words w (reference_size t.cell)) flight begun (dealt t ln w.reserved) names contents ranges)
+      (cell_by i (reserved_fits g w.reserved t.cell) stage.Tie stage.Write)
+      (reserves_on g w flight begun t names contents range (line.Cell i stage.Reserve) (line.Cell i stage.Write) at (past_cell g z flight t names i stage.Reserve at_reserve) h
+      (line.Cell i stage.Tie) (on_to_tie_cell g z flight t names i) (cell_hand t i stage.Reserve at ∙ reserve_stage t) fit fields)
 
   pub cell_links : (i : ℕ) → t.line ≡ line.Cell i stage.Tie → ShapesFit names → FactsOf g w flight begun t names contents range
       → FactsOf g (cell_words w (place_at g (current_space t.cycle) t.offset) t.cell) flight begun (dealt t (line.Cell i stage.Write) t.offset) names contents range

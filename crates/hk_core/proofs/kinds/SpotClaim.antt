@@ -1,7 +1,7 @@
 -- The collector claims the object of the reference that it deals with, reserves a place for it, and links it, as a call does:
 -- its claim in hand is the one after those of the seats. Then the register, or the cell, is past: its object was claimed in this
 -- cycle.
-use Rattle.std.proofs.Common.{◌≡◌, ◌≢◌, ◌⊎◌, ℕ, ◌+◌, ◌*◌, ◌<◌, ◌≤◌, Bool, true, false, inl, inr, refl, sym, ◌∙◌, ap, subst, arith, Option, Some, None}
+use Rattle.std.proofs.Common.{◌≡◌, ◌≢◌, ℕ, ◌+◌, ◌*◌, ◌<◌, ◌≤◌, Bool, true, false, inl, inr, refl, sym, ◌∙◌, ap, subst, arith, Option, Some, None}
 use Rattle.std.proofs.lemmas.Bool.{cases_eq, ltb-true, eqb-true, or_cases, and_parts}
 use Rattle.std.proofs.lemmas.Bool.Decides.{nat_tests}
 use Rattle.std.specs.Prelude.{max, nat_eq, nat_lt, ◌&&◌, if◌then◌else◌}
@@ -20,7 +20,7 @@ use Rattle.hk_core.specs.declared.spot.Stage.TheVariants as stage
 use Rattle.hk_core.specs.Collect.{current_space, after_register}
 use Rattle.hk_core.specs.Counts.{count_below}
 use Rattle.hk_core.specs.Step.{reference_size, reserved_fits}
-use Rattle.hk_core.specs.View.{Words, Names, Contents, size_at, reference_at}
+use Rattle.hk_core.specs.View.{Words, Names, Contents, size_at}
 use Rattle.hk_core.specs.Flights as f
 use Rattle.hk_core.specs.Flights.{Hand, no_claim, to_reserve, to_link}
 use Rattle.hk_core.specs.Lines as l
@@ -30,12 +30,12 @@ use Rattle.hk_core.specs.Lawful.{Facts, FactsOf, hands_of}
 use Rattle.hk_core.proofs.Counts.{count_same}
 use Rattle.hk_core.proofs.kinds.Read.{ShapesFit}
 use Rattle.hk_core.proofs.kinds.WriteCell.{ShadesMean, shades_mean, shades_cell, cell_words, reference_parts, size_of_reference}
-use Rattle.hk_core.proofs.kinds.Claim.{CanClaim, claim_words, claim_shades, claim_hand, claim_facts, shades_claimed}
+use Rattle.hk_core.proofs.kinds.Claim.{CanClaim, claim_words, claim_hand, claim_facts, shades_claimed}
 use Rattle.hk_core.proofs.kinds.Reserve.{CanReserve, reserve_words, reserve_range, reserve_hand, reserve_facts}
 use Rattle.hk_core.proofs.kinds.ReserveSeats.{BearersHaveFields, two_words, shades_reserved}
 use Rattle.hk_core.proofs.kinds.Link.{CanLink, link_facts}
-use Rattle.hk_core.proofs.kinds.Spots.{SpotFacts, HandFacts, WorkFacts, GoesMarking, spot_facts, hand_facts, with_spot, with_spot_and_hand, hands_changed, shades_kept, work_facts, marking_on}
-use Rattle.hk_core.proofs.kinds.SpotLines.{InFrame, AtRegister, InObject, AtCell, at_register, register_works, frame_trade_works, at_cell, cell_works}
+use Rattle.hk_core.proofs.kinds.Spots.{SpotFacts, HandFacts, WorkFacts, GoesMarking, hand_facts, with_spot, with_spot_and_hand, hands_changed, shades_kept, work_facts, marking_on}
+use Rattle.hk_core.proofs.kinds.SpotLines.{AtRegister, AtCell, at_register, register_works, frame_trade_works, at_cell, cell_works}
 
 -- THE CLAIMS IN HAND
 
@@ -119,9 +119,6 @@ module _ (g : Geometry) (w : Words) (flight : ℕ → Flight) (begun : ℕ → �
     (deals : l.has_reference t.line ≡ true) (h : FactsOf g w flight begun t names contents range) where
   good_cell : IsGood (shades_of g w flight t.line names).kept names t.cell
   good_cell = h.cell_good deals
-
-  claimed_words : Words
-  claimed_words = claim_words w (layout.reference_number t.cell) t.cycle
 
   can_claim : CanClaim g w (shades_of g w flight t.line names) flight t.line (layout.reference_number t.cell) t.cycle
   can_claim = record {

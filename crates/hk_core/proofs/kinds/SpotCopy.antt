@@ -23,7 +23,7 @@ use Rattle.hk_core.specs.Flights.{Hand}
 use Rattle.hk_core.specs.Lines as l
 use Rattle.hk_core.specs.Colours.{Spaces, spaces_of, Shades, shades_of, IsNullOrMarked}
 use Rattle.hk_core.specs.Facts as fact
-use Rattle.hk_core.specs.Facts.{HoldsRange, ObjectBehind, FoundRoom}
+use Rattle.hk_core.specs.Facts.{HoldsRange, FoundRoom}
 use Rattle.hk_core.specs.Lawful.{Facts, FactsOf, hands_of}
 use Rattle.hk_core.proofs.kinds.Read.{ShapesFit}
 use Rattle.hk_core.proofs.kinds.WriteCell.{ShadesMean, IsGreyIn, IsMoving, CellFacts, cell_words, shades_mean, shades_cell, cleared_marks, reference_parts, size_of_reference}

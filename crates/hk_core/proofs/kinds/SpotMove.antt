@@ -3,13 +3,13 @@
 -- references are null or claimed in this cycle. So the object is moved: it was grey, and is black, and its words are those of
 -- its range.
 use Rattle.std.proofs.Common.{◌≡◌, ◌≢◌, ◌⊎◌, ℕ, zero, suc, ◌+◌, ◌-◌, ◌*◌, ◌%◌, ◌<◌, ◌≤◌, Bool, true, false, inl, inr, refl, sym, ◌∙◌, ap, subst, arith, Option, Some, None}
-use Rattle.std.proofs.lemmas.Bool.{both_ways, cases_Bool, cases_eq, cases_lt, lt-ltb, le-ltb, le-leb, eq-eqb, ne_eqb, and_parts, and_from, and_right}
+use Rattle.std.proofs.lemmas.Bool.{cases_eq, cases_lt, lt-ltb, le-leb, eq-eqb, ne_eqb, and_parts, and_from, and_right}
 use Rattle.std.proofs.lemmas.Bool.Decides.{nat_tests}
 use Rattle.std.specs.Prelude.{nat_eq, nat_lt, nat_le, not, ◌&&◌}
 use Rattle.hk_words.specs.declared.geometry.Geometry.{Geometry}
 use Rattle.hk_words.specs.declared.call.Call.{Call}
 use Rattle.hk_words.specs.declared.call.Call.TheVariants as call
-use Rattle.hk_words.specs.Geometry.{tasks, numbers, list_length}
+use Rattle.hk_words.specs.Geometry.{tasks}
 use Rattle.hk_words.specs.Layout as layout
 use Rattle.hk_model.specs.View.{upd}
 use Rattle.hk_model.proofs.Updates.{upd_same, upd_other, is_upd}
@@ -22,7 +22,7 @@ use Rattle.hk_core.specs.Counts.{count_below}
 use Rattle.hk_core.specs.Step.{new_place, reference_size}
 use Rattle.hk_core.specs.View.{Words, Names, Contents, shown, refs_at, nums_at, size_at, reference_at}
 use Rattle.hk_core.specs.Flights as f
-use Rattle.hk_core.specs.Flights.{Hand, to_reserve, to_link}
+use Rattle.hk_core.specs.Flights.{Hand}
 use Rattle.hk_core.specs.Lines as l
 use Rattle.hk_core.specs.Colours.{Spaces, spaces_of, Shades, shades_of, held_by, is_within, white_by, grey_by, black_by, black_frame_by, kept_by, InOld, InCurrent, Apart, IsNullOrMarked, IsNullOrKept}
 use Rattle.hk_core.specs.Facts as fact
@@ -428,9 +428,6 @@ module _ (g : Geometry) (w : Words) (z : Spaces) (sh : Shades) (flight : ℕ →
       let refs : refs_at names n ≡ names.refs b = refs_borne names n b borne in
       by_link (h.links_kept n b o.is_kept borne i below) shows (o.passed i (omega arith))
     where
-      some_is : (a b : ℕ) → Some a ≡ Some b → a ≡ b
-      some_is a b e = cc
-
       by_link : IsNullOrKept sh.kept names (contents.link b i) → w.cell (w.place n + 1 + i) ≡ layout.pack_reference (names.number child) (names.refs child) (names.nums child)
           → IsNullOrMarked w.cycle w.mark (w.cell (w.place n + 1 + i)) → sh.white (names.number child) ≡ false
       by_link (inl none) shows past = no_range (contents.link b i) child none there

@@ -1,8 +1,8 @@
 -- The collector exchanges the frame word that its attempt has loaded for the same word with this cycle. Where the frame word
 -- is still that one, no call was inside the frame since, so the registers are what the collector has gone past: null, or
 -- claimed in this cycle. So the frame may be black.
-use Rattle.std.proofs.Common.{◌≡◌, ◌≢◌, ◌⊎◌, ℕ, ◌+◌, ◌*◌, ◌<◌, ◌≤◌, Bool, true, false, inl, inr, refl, sym, ◌∙◌, ap, arith, Option, Some, None}
-use Rattle.std.proofs.lemmas.Bool.{both_ways, cases_Bool, cases_eq, and_parts, and_from, or_cases, eq-eqb, ltb-true}
+use Rattle.std.proofs.Common.{◌≡◌, ◌⊎◌, ℕ, ◌+◌, ◌<◌, ◌≤◌, Bool, true, false, inl, inr, refl, sym, ◌∙◌, ap, arith, Option, Some, None}
+use Rattle.std.proofs.lemmas.Bool.{both_ways, cases_eq, and_parts, and_from, or_cases, eq-eqb, ltb-true}
 use Rattle.std.proofs.lemmas.Bool.Decides.{nat_tests}
 use Rattle.std.specs.Prelude.{nat_eq, nat_lt, nat_le, not, ◌&&◌, ◌||◌, if◌then◌else◌}
 use Rattle.hk_words.specs.declared.geometry.Geometry.{Geometry}
@@ -24,12 +24,11 @@ use Rattle.hk_core.specs.Flights.{Hand}
 use Rattle.hk_core.specs.Lines as l
 use Rattle.hk_core.specs.Colours.{Spaces, spaces_of, Shades, shades_of, black_frame_by, NamesNoWhite, IsNullOrMarked}
 use Rattle.hk_core.specs.Facts as fact
-use Rattle.hk_core.specs.Facts.{FrameBehind}
 use Rattle.hk_core.specs.Lawful.{Facts, FactsOf, hands_of}
 use Rattle.hk_core.proofs.Update.{upd_cases}
 use Rattle.hk_core.proofs.kinds.LoadRead.{ColoursMean, colours_mean}
-use Rattle.hk_core.proofs.kinds.Spots.{SpotFacts, WorkFacts, GoesMarking, hands_kept, work_facts, marking_on, on_spot}
-use Rattle.hk_core.proofs.kinds.SpotLines.{AtFrame, AtFrameTrade, AllBlack, at_frame, frame_works, at_frame_trade, scan_works}
+use Rattle.hk_core.proofs.kinds.Spots.{WorkFacts, GoesMarking, work_facts, marking_on, on_spot}
+use Rattle.hk_core.proofs.kinds.SpotLines.{AtFrame, AtFrameTrade, at_frame, frame_works, at_frame_trade, scan_works}
 
 -- CALLS INSIDE THE FRAME
 

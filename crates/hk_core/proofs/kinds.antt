@@ -35,3 +35,4 @@ pub mod SpotTrade
 pub mod SpotCopy
 pub mod SpotMove
 pub mod SpotClaim
+pub mod SpotMoveRows

@@ -40,3 +40,8 @@ pub mod SpotLoadsScan
 pub mod SpotLoadsCells
 pub mod SpotLoadsPass
 pub mod SpotLoadsRow
+pub mod SpotTrade
+pub mod SpotCopy
+pub mod SpotMove
+pub mod SpotClaim
+pub mod SpotMoveRows

@@ -25,3 +25,5 @@ pub mod RowOfStore
 pub mod Linked
 pub mod Actions
 pub mod Seven
+pub mod Unused
+pub mod Room

@@ -47,6 +47,11 @@ hands_as g w z sh hand other range same h = record {
   claims_unlinked = λ k item cycle offset within e. h.claims_unlinked k item cycle offset within (sym (same k within) ∙ e);
   claims_apart = λ j k a b differ item another p q.
       h.claims_apart j k a b differ item another (ap f.item_in (sym (same j a)) ∙ p) (ap f.item_in (sym (same k b)) ∙ q);
+  grey_waits = λ n below e. elim (h.grey_waits n below e) [
+    | inl there ↦ inl there
+    | inr (k, item, cycle, within, holds, is) ↦ inr (k, item, cycle, within, same k within ∙ holds, is)
+  ];
+  unlinked_waits = λ x n there fits e. let (k, item, cycle, within, holds) = h.unlinked_waits x n there fits e in (k, item, cycle, within, same k within ∙ holds);
 }
 
 few_as : (g : Geometry) (ln : Line) (cycle reserved : ℕ) (mark : ℕ → ℕ) (hand other : ℕ → Hand) → ((k : ℕ) → k ≤ tasks g → other k ≡ hand k)

@@ -227,6 +227,7 @@ module _ (g : Geometry) (w : Words) (z : Spaces) (sh : Shades) (flight : ℕ →
               fits = r.fits;
               unlinked = unwritten w.cell p v (z.current + offset) (λ a. a ≡ 0) (not_link offset (layout.reference_number claimed) r.has_range) r.unlinked;
             };
+        unlinked_waits = λ x j there fits e. h.unlinked_waits x j there fits (sym (upd_other w.cell p v (z.current + x) (not_link x j there)) ∙ e);
         news_clean = λ s j below makes within. unwritten w.cell p v (new_place g (flight s) + j) (λ a. a ≡ 0)
             (λ e. in_no_new g w z sh flight begun hand t names contents range h m fit marks o.at_item space s j (t.scan + 1 + i) below makes within area (omega arith))
             (h.news_clean s j below makes within);

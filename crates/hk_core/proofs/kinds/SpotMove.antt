@@ -478,6 +478,10 @@ module _ (g : Geometry) (w : Words) (z : Spaces) (sh : Shades) (flight : ℕ →
       let k4 : fact.CellsPassed (scanning t (scan + sh.size n)) line.Scan w.cycle t.first t.item w.version w.mark w.cell = λ passed i e. none_there passed e in
       let k5 : fact.CellsCopied z (scanning t (scan + sh.size n)) line.Scan (scan + sh.size n) t.first t.item w.version w.cell = λ passed i e. none_there passed e in
       let k6 : fact.PassMeetsGrey g line.Scan (upd sh.grey n false) (fact.IsSettled g w.cycle sh.white (upd sh.grey n false) w.register flight) = λ k e. none_there k e in
+      let l1 : fact.GreyWaits g (upd sh.grey n false) range hand = λ k below e. elim (upd_cases sh.grey n false k) [
+        | inl (_, u) ↦ never (sym u ∙ e)
+        | inr (_, u) ↦ h.grey_waits k below (sym u ∙ e)
+      ] in
       let k7 : fact.SettledFromSweep line.Scan (fact.IsSettled g w.cycle sh.white (upd sh.grey n false) w.register flight) = λ e. marks_on e in
       assumption
 

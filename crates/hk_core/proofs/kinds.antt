@@ -33,3 +33,5 @@ pub mod Link
 pub mod LinkSeats
 pub mod NewTables
 pub mod NewSteps
+pub mod SpotSweepCounts
+pub mod SpotSweepLines

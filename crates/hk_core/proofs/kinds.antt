@@ -35,3 +35,4 @@ pub mod NewTables
 pub mod NewSteps
 pub mod SpotSweepCounts
 pub mod SpotSweepLines
+pub mod SpotFlip

@@ -36,3 +36,4 @@ pub mod NewSteps
 pub mod SpotSweepCounts
 pub mod SpotSweepLines
 pub mod SpotFlip
+pub mod SpotToSweep

@@ -37,3 +37,5 @@ pub mod SpotSweepCounts
 pub mod SpotSweepLines
 pub mod SpotFlip
 pub mod SpotToSweep
+pub mod SpotClear
+pub mod SpotReset

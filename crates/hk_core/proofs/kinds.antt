@@ -33,6 +33,13 @@ pub mod Link
 pub mod LinkSeats
 pub mod NewTables
 pub mod NewSteps
+pub mod SpotRanges
+pub mod SpotLoads
+pub mod SpotSettled
+pub mod SpotLoadsScan
+pub mod SpotLoadsCells
+pub mod SpotLoadsPass
+pub mod SpotLoadsRow
 pub mod SpotSweepCounts
 pub mod SpotSweepLines
 pub mod SpotFlip

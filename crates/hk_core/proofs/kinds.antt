@@ -46,3 +46,4 @@ pub mod SpotFlip
 pub mod SpotToSweep
 pub mod SpotClear
 pub mod SpotReset
+pub mod SpotSweepWrite

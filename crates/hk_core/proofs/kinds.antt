@@ -47,3 +47,4 @@ pub mod SpotToSweep
 pub mod SpotClear
 pub mod SpotReset
 pub mod SpotSweepWrite
+pub mod SpotSweepMark

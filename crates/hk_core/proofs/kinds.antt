@@ -48,3 +48,4 @@ pub mod SpotClear
 pub mod SpotReset
 pub mod SpotSweepWrite
 pub mod SpotSweepMark
+pub mod SpotSweepRead

@@ -49,3 +49,4 @@ pub mod SpotReset
 pub mod SpotSweepWrite
 pub mod SpotSweepMark
 pub mod SpotSweepRead
+pub mod SpotSweepEmpty

@@ -50,3 +50,4 @@ pub mod SpotSweepWrite
 pub mod SpotSweepMark
 pub mod SpotSweepRead
 pub mod SpotSweepEmpty
+pub mod SpotSweepRow

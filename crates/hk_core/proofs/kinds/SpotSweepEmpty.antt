@@ -1,8 +1,8 @@
 -- The sweep empties the header of the number that it has marked for the next cycle. The number isn't kept, so no call is inside its
 -- object; and it has no place after that, so it is as colourless as before.
-use Rattle.std.proofs.Common.{◌≡◌, ◌≢◌, ◌⊎◌, ℕ, ◌+◌, ◌-◌, ◌<◌, ◌≤◌, Bool, true, false, inl, inr, refl, sym, ◌∙◌, ap, subst, arith, Option, Some, None}
-use Rattle.std.proofs.lemmas.Bool.{both_ways, cases_Bool, cases_lt, and_parts, and_left, and_right, ne_eqb, eqb-true, eq-eqb, lt-ltb, le-ltb}
-use Rattle.std.specs.Prelude.{nat_eq, nat_lt, not, ◌&&◌, ◌||◌, is_some, if◌then◌else◌}
+use Rattle.std.proofs.Common.{◌≡◌, ◌≢◌, ℕ, ◌+◌, ◌-◌, ◌<◌, ◌≤◌, Bool, true, false, inl, inr, refl, sym, ◌∙◌, ap, subst, arith, Option}
+use Rattle.std.proofs.lemmas.Bool.{cases_Bool, cases_lt, and_parts, and_left, and_right, ne_eqb, eqb-true, lt-ltb, le-ltb}
+use Rattle.std.specs.Prelude.{nat_eq, nat_lt, not, ◌&&◌, is_some}
 use Rattle.hk_words.specs.declared.geometry.Geometry.{Geometry}
 use Rattle.hk_words.specs.Geometry.{tasks, numbers, list_length}
 use Rattle.hk_words.specs.Layout as layout
@@ -19,7 +19,7 @@ use Rattle.hk_core.specs.View.{Words, Names, Contents}
 use Rattle.hk_core.specs.Flights as f
 use Rattle.hk_core.specs.Flights.{Hand}
 use Rattle.hk_core.specs.Lines as l
-use Rattle.hk_core.specs.Colours.{Spaces, spaces_of, Shades, shades_of, held_by, kept_by, white_by, grey_by, black_by, is_fresh, is_within}
+use Rattle.hk_core.specs.Colours.{Spaces, spaces_of, Shades, shades_of, held_by, kept_by, white_by, is_fresh, is_within}
 use Rattle.hk_core.specs.Facts as fact
 use Rattle.hk_core.specs.Facts.{HasNoHeader, IsUnread, IsOwn, IsMoved, IsSettled}
 use Rattle.hk_core.specs.Lawful.{Facts, FactsOf, hands_of}

@@ -1,9 +1,9 @@
 -- The sweep loads the mark of a number. Where it is below the cycle, the number is written as the next entry; else the sweep goes
 -- on to the next number. There is one as long as the list isn't full: numbers that are marked for the next cycle are on the list,
 -- and those marked for this one are few, since in a settled state all that is reserved was scanned.
-use Rattle.std.proofs.Common.{◌≡◌, ◌≢◌, ◌⊎◌, ℕ, ◌+◌, ◌-◌, ◌*◌, ◌/◌, ◌<◌, ◌≤◌, Bool, true, false, inl, inr, refl, sym, ◌∙◌, ap, subst, arith, Option, Some, None}
+use Rattle.std.proofs.Common.{◌≡◌, ◌≢◌, ℕ, ◌+◌, ◌-◌, ◌*◌, ◌<◌, ◌≤◌, Bool, true, false, inl, inr, refl, sym, ◌∙◌, ap, subst, arith, Option, Some, None}
 use Rattle.std.proofs.lemmas.Bool.{cases_lt, ltb-true, lt-ltb, le-ltb, eq-eqb}
-use Rattle.std.specs.Prelude.{nat_eq, nat_lt, if◌then◌else◌}
+use Rattle.std.specs.Prelude.{nat_eq, nat_lt}
 use Rattle.hk_words.specs.declared.geometry.Geometry.{Geometry}
 use Rattle.hk_words.specs.Geometry.{tasks, numbers, list_length}
 use Rattle.hk_core.specs.declared.flight.Flight.{Flight}
@@ -49,9 +49,9 @@ module _ (g : Geometry) (w : Words) (z : Spaces) (sh : Shades) (flight : ℕ →
         let marked : l.marked g t t.line ≡ t.entries - l.unmarked_at s = ap (l.marked g t) at_sweep in
         let above : count_below (numbers g) (λ k. nat_lt w.cycle (w.mark k)) ≤ t.entries =
         count_listed t.entries (λ k. nat_lt w.cycle (w.mark k)) (w.entry (next_list w.cycle)) (numbers g) (λ k b e.
-            let o = h.marks_above_are_written k b (ltb-true w.cycle (w.mark k) e) in
-            let below : o.0 < l.marked g t t.line = o.1 in
-            (o.0, omega arith, o.2)) in
+        let o = h.marks_above_are_written k b (ltb-true w.cycle (w.mark k) e) in
+        let below : o.0 < l.marked g t t.line = o.1 in
+        (o.0, omega arith, o.2)) in
         let all : numbers g ≤ count_below (numbers g) (λ k. nat_eq (w.mark k) w.cycle) + count_below (numbers g) (λ k. nat_lt w.cycle (w.mark k)) =
         count_covers (λ k. nat_eq (w.mark k) w.cycle) (λ k. nat_lt w.cycle (w.mark k)) (numbers g) (λ k b. elim (cases_lt w.cycle (w.mark k)) [
           | inl higher ↦ inr (lt-ltb w.cycle (w.mark k) higher)

@@ -1,9 +1,9 @@
 -- The collector's events from the end of the pass to the flip, of a row: all facts hold of the row and the spot after the event of
 -- each of these lines. The two loads of the pass stand here whole, with what they do at the last number.
-use Rattle.std.proofs.Common.{◌≡◌, ◌≢◌, ◌⊎◌, ℕ, ◌+◌, ◌*◌, ◌%◌, ◌<◌, ◌≤◌, false, List, length, inl, inr, refl, sym, ◌∙◌, ap, subst, arith, Option, Some, None}
+use Rattle.std.proofs.Common.{◌≡◌, ℕ, ◌+◌, ◌*◌, ◌%◌, ◌<◌, ◌≤◌, false, List, length, inl, inr, refl, sym, ◌∙◌, ap, subst, arith, Option, Some, None}
 use Rattle.std.proofs.lemmas.Bool.{cases_Bool, cases_eq, cases_lt, eq-eqb, ne_eqb, le-ltb}
 use Rattle.hk_words.specs.declared.geometry.Geometry.{Geometry}
-use Rattle.hk_words.specs.Geometry.{tasks, numbers, list_length, space_words, row_length}
+use Rattle.hk_words.specs.Geometry.{numbers, list_length, space_words, row_length}
 use Rattle.hk_words.specs.Layout as layout
 use Rattle.hk_words.specs.Row.{w0_at, w1_at, header_at, mark_at, entry_at, space_at, place_at, word_of}
 use Rattle.hk_words.specs.Row.Slot.{W0, W1, Header, Mark, Entry}
@@ -15,10 +15,10 @@ use Rattle.hk_core.specs.declared.spot.Spot.{Spot}
 use Rattle.hk_core.specs.declared.spot.Line.{Line}
 use Rattle.hk_core.specs.declared.spot.Line.TheVariants as line
 use Rattle.hk_core.specs.declared.spot.Stage.TheVariants as stage
-use Rattle.hk_core.specs.Collect.{current_space, old_space, next_list, last_cycle, is_in_space, is_old}
+use Rattle.hk_core.specs.Collect.{old_space, next_list, last_cycle, is_in_space, is_old}
 use Rattle.hk_core.specs.Collect.{spot_event, event_at_line, rest_event, pass_event, pass_head_event, sweep_event, clear_event, reset_event}
 use Rattle.hk_core.specs.Collect.{spot_took, took_at_line, rest_took, pass_took, pass_head_took, sweep_took, clear_took}
-use Rattle.hk_core.specs.Event.{fired, fired_if, learnt, old_of}
+use Rattle.hk_core.specs.Event.{fired, fired_if, learnt}
 use Rattle.hk_core.specs.View.{Words, Names, Contents, raw, words_of, decoded}
 use Rattle.hk_core.specs.Lines as l
 use Rattle.hk_core.specs.Lawful.{FactsOf}
@@ -104,7 +104,7 @@ module _ (g : Geometry) (row : List ℕ) (flight : ℕ → Flight) (begun : ℕ 
       let words' : words_of g (fired_if row (Some e)) ≡ w = ap (words_of g) (fired_if_some row e) ∙ words in
       rw is
       (subst (λ (k : Words). FactsOf g k flight begun (spot_took g t (learnt row (Some e))) names contents range) (sym words')
-          (subst (λ (k : Spot). FactsOf g w flight begun k names contents range) (sym took) h))
+      (subst (λ (k : Spot). FactsOf g w flight begun k names contents range) (sym took) h))
 
   module _ (range : ℕ → Option ℕ) (whole : length row ≡ row_length g) (h : FactsOf g (words_of g row) flight begun t names contents range) where
     -- the flip, and no event in the last cycle

@@ -51,3 +51,4 @@ pub mod SpotSweepMark
 pub mod SpotSweepRead
 pub mod SpotSweepEmpty
 pub mod SpotSweepRow
+pub mod SpotSweepStep

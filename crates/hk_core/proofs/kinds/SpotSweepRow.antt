@@ -80,7 +80,7 @@ unfolding words_of decoded
 header_place_of g row n within = ap layout.header_place (sym (raw_header g row n within))
 
 -- the words of a space are words of the row
-space_within : (g : Geometry) (cycle i : ℕ) → i < space_words g → (0 < place_at g (cycle % 2) i) × (place_at g (cycle % 2) i ≤ 2 * space_words g)
+pub space_within : (g : Geometry) (cycle i : ℕ) → i < space_words g → (0 < place_at g (cycle % 2) i) × (place_at g (cycle % 2) i ≤ 2 * space_words g)
 space_within g cycle i below = elim (cases_eq (cycle % 2) 0) [
   | inl first ↦ rw first (omega arith, omega arith)
   | inr other ↦ let second : cycle % 2 ≡ 1 = omega arith in rw second (omega arith, omega arith)

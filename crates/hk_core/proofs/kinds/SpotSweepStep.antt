@@ -1,10 +1,9 @@
 -- The collector's step from the end of the pass to the flip: in a lawful state its event may be fired, and the state after it is
 -- lawful for the same history.
-use Rattle.std.proofs.Common.{◌≡◌, ◌≢◌, ℕ, ◌+◌, ◌*◌, ◌%◌, ◌<◌, ◌≤◌, Bool, true, false, List, length, inl, inr, refl, sym, ◌∙◌, ap, subst, arith, Option, Some, None}
-use Rattle.std.proofs.lemmas.Bool.{cases_lt, eq-eqb, ne_eqb}
+use Rattle.std.proofs.Common.{◌≡◌, ℕ, ◌+◌, ◌<◌, Bool, true, false, List, length, refl, sym, ◌∙◌, subst, arith, Option, Some, None}
 use Rattle.std.specs.Prelude.{◌==◌, if◌then◌else◌}
 use Rattle.hk_words.specs.declared.geometry.Geometry.{Geometry}
-use Rattle.hk_words.specs.Geometry.{tasks, numbers, list_length, space_words, row_length}
+use Rattle.hk_words.specs.Geometry.{numbers, list_length, row_length}
 use Rattle.hk_words.specs.Layout as layout
 use Rattle.hk_words.specs.Row.{Slot, InRow, index_of, word_of, w0_at, w1_at, header_at, mark_at, entry_at, space_at, place_at}
 use Rattle.hk_words.specs.Row.Slot.{W0, W1, Header, Mark, Entry, Space}
@@ -12,19 +11,18 @@ use Rattle.hk_words.proofs.RowLaws.{index_below}
 use Rattle.hk_model.specs.History.{History}
 use Rattle.hk_core.specs.declared.event.Event.{Event}
 use Rattle.hk_core.specs.declared.event.Event.TheVariants as event
-use Rattle.hk_core.specs.declared.spot.Spot.{Spot}
 use Rattle.hk_core.specs.declared.spot.Line.{Line}
 use Rattle.hk_core.specs.declared.spot.Line.TheVariants as line
 use Rattle.hk_core.specs.declared.spot.Stage.{Stage}
 use Rattle.hk_core.specs.declared.spot.Stage.TheVariants as stage
 use Rattle.hk_core.specs.Collect.{old_space, next_list, last_cycle, spot_event, event_at_line, rest_event, pass_event, pass_head_event, sweep_event, clear_event, reset_event}
-use Rattle.hk_core.specs.Collect.{spot_took, event_by_collector, found_by_collector, next_collected}
+use Rattle.hk_core.specs.Collect.{event_by_collector, found_by_collector, next_collected}
 use Rattle.hk_core.specs.Event.{CanFire, CanFireIf, AmountFits, old_of}
 use Rattle.hk_core.specs.Event as events
 use Rattle.hk_core.specs.State.{State}
 use Rattle.hk_core.specs.View.{words_of, names_of, contents_of, flight_at, begun_at}
 use Rattle.hk_core.specs.Lines as l
-use Rattle.hk_core.specs.Lawful.{FactsOf, Lawful}
+use Rattle.hk_core.specs.Lawful.{Lawful}
 use Rattle.hk_core.proofs.Columns.{old_at}
 use Rattle.hk_core.proofs.Next.{length-fired_if}
 use Rattle.hk_core.proofs.kinds.SpotLoadsRow.{AfterEvent}
@@ -161,7 +159,7 @@ module _ (c : State) (history : History) (h : Lawful c history) where
       by_line : (ln : Line) → c.spot.line ≡ ln → l.is_marking ln ≡ false → CanFireIf c.row (event_by_collector c)
       by_line line.Rest at e =
           can line.Rest at (by_cycle (c.spot.cycle == last_cycle) (event.Swap (w0_at c.geometry) (layout.pack_w0 0 0 (c.spot.cycle + 1)))
-              (can_at c.geometry c.row h.sized.row (event.Swap (w0_at c.geometry) (layout.pack_w0 0 0 (c.spot.cycle + 1))) W0 tt refl tt))
+          (can_at c.geometry c.row h.sized.row (event.Swap (w0_at c.geometry) (layout.pack_w0 0 0 (c.spot.cycle + 1))) W0 tt refl tt))
       by_line (line.Frame s) at e = never e
       by_line (line.Register s r stage) at e = never e
       by_line (line.FrameTrade s) at e = never e

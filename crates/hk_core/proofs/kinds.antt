@@ -45,3 +45,15 @@ pub mod SpotCopy
 pub mod SpotMove
 pub mod SpotClaim
 pub mod SpotMoveRows
+pub mod SpotSweepCounts
+pub mod SpotSweepLines
+pub mod SpotFlip
+pub mod SpotToSweep
+pub mod SpotClear
+pub mod SpotReset
+pub mod SpotSweepWrite
+pub mod SpotSweepMark
+pub mod SpotSweepRead
+pub mod SpotSweepEmpty
+pub mod SpotSweepRow
+pub mod SpotSweepStep

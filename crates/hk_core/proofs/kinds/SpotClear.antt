@@ -19,6 +19,7 @@ use Rattle.hk_core.specs.Colours.{Spaces, spaces_of, Shades, shades_of}
 use Rattle.hk_core.specs.Facts as fact
 use Rattle.hk_core.specs.Lawful.{Facts, FactsOf, hands_of}
 use Rattle.hk_core.proofs.Update.{upd_cases}
+use Rattle.hk_core.proofs.kinds.LoadRead.{some_words}
 use Rattle.hk_core.proofs.kinds.SpotSweepLines.{quiet_line, sweep_spot, kept_current}
 use Rattle.hk_core.proofs.kinds.Spots.{SpotFacts, hands_kept, shades_kept}
 use Rattle.hk_core.proofs.kinds.WriteCell.{ShadesMean, shades_mean}
@@ -141,6 +142,12 @@ module _ (g : Geometry) (w : Words) (z : Spaces) (sh : Shades) (flight : ℕ →
       let o = h.claims_unlinked k item c offset b e in
       record { some = o.some; of_cycle = o.of_cycle; is_grey = o.is_grey; has_range = o.has_range; fits = o.fits; unlinked = zero _ o.unlinked } in
       let clean : fact.NewsClean g cell' flight = λ s j b making below. zero _ (h.news_clean s j b making below) in
+      let waits : fact.UnlinkedWaits g z sh.size cell' range hand = λ x n e b none.
+      let some : 0 < sh.size n = some_words names sh.size n (m.size n) in
+      let whole : space_words g ≡ z.live + z.alloc = m.whole in
+      let few : i < space_words g = within in
+      let same : cell' (z.current + x) ≡ w.cell (z.current + x) = upd_other w.cell p 0 (z.current + x) (λ same. elim m.spaces [ inl c ↦ omega arith | inr c ↦ omega arith ]) in
+      h.unlinked_waits x n e b (sym same ∙ none) in
       assumption
 
 -- all facts hold after a word of the old space was cleared

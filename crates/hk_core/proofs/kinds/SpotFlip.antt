@@ -2,7 +2,7 @@
 -- one, the two lists, and the colours. No number is black or grey after it, since only the numbers of the list are marked for the
 -- next cycle, and these have no header; the kept numbers stay the same.
 use Rattle.std.proofs.Common.{◌≡◌, ◌≢◌, ℕ, ◌+◌, ◌*◌, ◌%◌, ◌<◌, ◌≤◌, Bool, true, false, inl, inr, refl, sym, ◌∙◌, ap, subst, arith, Option, Some, None}
-use Rattle.std.proofs.lemmas.Bool.{cases_eq, cases_lt, and_left, and_right, and_parts, eq-eqb, ne_eqb, eqb-true, lt-leb, le-ltb}
+use Rattle.std.proofs.lemmas.Bool.{both_ways, cases_eq, cases_lt, and_left, and_right, and_parts, eq-eqb, ne_eqb, eqb-true, lt-leb, le-ltb}
 use Rattle.std.specs.Prelude.{nat_eq, nat_lt, not, ◌&&◌, is_some}
 use Rattle.hk_words.specs.declared.geometry.Geometry.{Geometry}
 use Rattle.hk_words.specs.Geometry.{tasks, numbers, list_length, space_words}
@@ -319,6 +319,8 @@ module _ (g : Geometry) (w : Words) (z : Spaces) (sh : Shades) (flight : ℕ →
           marks_few = few;
           claims_unreserved = claims;
           claims_unlinked = links;
+          grey_waits = λ n b e. absurd (both_ways _ (none_grey n b) e);
+          unlinked_waits = λ x n e. no_range (range x) n (no_ranges x) e;
           claims_apart = h.claims_apart;
           unread_free = unread;
           unread_distinct = distinct;

@@ -97,6 +97,8 @@ module _ (g : Geometry) (w : Words) (z : Spaces) (sh : Shades) (flight : ℕ →
       let o = h.claims_unlinked k item c offset b e in
       let moved = stands offset _ o.has_range in
       absurd (both_ways _ ((h.settled_from_sweep here.quiet).none_grey _ (m.kept _ moved.is_kept).within) o.is_grey) in
+      let grey : fact.GreyWaits g sh.grey no_ranges hand = λ n b e. absurd (both_ways _ ((h.settled_from_sweep here.quiet).none_grey n b) e) in
+      let waits : fact.UnlinkedWaits g z sh.size w.cell no_ranges hand = λ x n e. none n e in
       assumption
 
 -- all facts hold after the reset

@@ -1,5 +1,5 @@
 -- Who waits: a claim in hand of one actor stays where that of another is changed.
-use Rattle.std.proofs.Common.{◌≡◌, ◌≢◌, ℕ, ◌≤◌, refl, sym, ◌∙◌, ap}
+use Rattle.std.proofs.Common.{◌≡◌, ◌≢◌, ℕ, sym, ◌∙◌, ap}
 use Rattle.hk_words.specs.declared.geometry.Geometry.{Geometry}
 use Rattle.hk_model.specs.View.{upd}
 use Rattle.hk_model.proofs.Updates.{upd_other}

@@ -26,3 +26,4 @@ pub mod Actions
 pub mod Seven
 pub mod Unused
 pub mod Room
+pub mod Turns

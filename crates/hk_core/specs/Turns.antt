@@ -1,6 +1,5 @@
 -- How many steps a call takes, whatever comes between them.
 use Rattle.std.specs.Prelude.{◌≡◌, ℕ, ◌+◌, ◌==◌, List, [], ◌∷◌, if◌then◌else◌}
-use Rattle.hk_words.specs.declared.call.Call.{Call}
 use Rattle.hk_core.specs.declared.flight.Flight.{Flight}
 use Rattle.hk_core.specs.Run.{Action, begin, step, collect}
 

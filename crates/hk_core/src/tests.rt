@@ -139,9 +139,17 @@ const DONE: Outcome = Outcome::Done(Reply::Unit);
 fn references_in_the_board(rt: HostRuntime) -> Result<(), Fail> {
     let g = Geometry::new(8, 16, 0, 1, 0, 1, 0)?;
     let mut machine = Machine::open(rt.alloc(), g)?;
-    let load = Call::Load { dest: 1, reg: 0, field: 0 };
+    let load = Call::Load {
+        dest: 1,
+        reg: 0,
+        field: 0,
+    };
     for (from, is_board) in [(2, false), (0, true)] {
-        let store = Call::Store { reg: 0, field: 0, from };
+        let store = Call::Store {
+            reg: 0,
+            field: 0,
+            from,
+        };
         assert_eq!(rt; machine.whole(&rt, 0, store), Some((7, DONE)));
         assert_eq!(rt; machine.whole(&rt, 0, load), Some((10, DONE)));
         assert_eq!(rt; machine.same(&rt, 0, 0, 1), is_board);

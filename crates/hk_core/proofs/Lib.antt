@@ -27,3 +27,5 @@ pub mod Seven
 pub mod Unused
 pub mod Room
 pub mod Turns
+pub mod Replied
+pub mod Entries

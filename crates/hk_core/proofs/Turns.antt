@@ -19,10 +19,10 @@ use Rattle.hk_core.proofs.Next.{length-fired_if}
 use Rattle.hk_core.proofs.Places.{others_kept, goes_on, ends, begins_alone}
 
 -- the state after it has the same geometry and as many words and flights, and the seat's flight stands so many places later
-record GoesBy (seat : ℕ) (before after : State) (steps : ℕ) : Type 0 where
-  geometry : after.geometry ≡ before.geometry
-  sized : IsSized after
-  later : StandsLater (flight_of before.flights seat) (flight_of after.flights seat) steps
+pub record GoesBy (seat : ℕ) (before after : State) (steps : ℕ) : Type 0 where
+  pub geometry : after.geometry ≡ before.geometry
+  pub sized : IsSized after
+  pub later : StandsLater (flight_of before.flights seat) (flight_of after.flights seat) steps
 
 stays : (seat : ℕ) (c : State) → IsSized c → GoesBy seat c c 0
 stays seat c sized = record { geometry = refl; sized = sized; later = record { place = omega arith; call = refl } }
@@ -34,7 +34,7 @@ as_it_was x y same = record { place = ap (λ (v : Flight). v.place) same ∙ plu
     plus_nothing : (n : ℕ) → n ≡ n + 0
     plus_nothing n = omega arith
 
-begin_sized : (c : State) (s : ℕ) (call : Call) → IsSized c → IsSized (after_begin c s call)
+pub begin_sized : (c : State) (s : ℕ) (call : Call) → IsSized c → IsSized (after_begin c s call)
 unfolding after_begin accepted
 begin_sized c s call sized = either (refusal c s call)
   where
@@ -42,7 +42,7 @@ begin_sized c s call sized = either (refusal c s call)
     either None = record { row = sized.row; flights = length-set c.flights s _ ∙ sized.flights; begun = length-set c.begun s _ ∙ sized.begun }
     either (Some fault) = sized
 
-begin_geometry : (c : State) (s : ℕ) (call : Call) → (after_begin c s call).geometry ≡ c.geometry
+pub begin_geometry : (c : State) (s : ℕ) (call : Call) → (after_begin c s call).geometry ≡ c.geometry
 unfolding after_begin accepted
 begin_geometry c s call = either (refusal c s call)
   where
@@ -54,7 +54,7 @@ step_sized : (c : State) (s : ℕ) → IsSized c → IsSized (next c s)
 unfolding next
 step_sized c s sized = record { row = length-fired_if c.row _ ∙ sized.row; flights = length-set c.flights s _ ∙ sized.flights; begun = sized.begun }
 
-step_geometry : (c : State) (s : ℕ) → (next c s).geometry ≡ c.geometry
+pub step_geometry : (c : State) (s : ℕ) → (next c s).geometry ≡ c.geometry
 unfolding next
 step_geometry c s = refl
 
@@ -66,13 +66,13 @@ by_test : (P : State → Type 0) (test : Bool) (a b : Running) → (test ≡ tru
 by_test P true a b yes' no' = yes' refl
 by_test P false a b yes' no' = no' refl
 
-has_flight : (c : State) (s : ℕ) → IsSized c → s < tasks c.geometry → s < length c.flights
+pub has_flight : (c : State) (s : ℕ) → IsSized c → s < tasks c.geometry → s < length c.flights
 has_flight c s sized below = let flights = sized.flights in omega arith
 
-differ : (a b : ℕ) → nat_eq a b ≡ false → b ≢ a
+pub differ : (a b : ℕ) → nat_eq a b ≡ false → b ≢ a
 differ a b e = grind (arith, nat_tests)
 
-not_busy : (s n place : ℕ) → s < n → 1 ≤ place → (nat_lt s n && not (nat_eq place 0)) ≡ false → ⊥
+pub not_busy : (s n place : ℕ) → s < n → 1 ≤ place → (nat_lt s n && not (nat_eq place 0)) ≡ false → ⊥
 not_busy s n place below some e = grind (arith, nat_tests)
 
 module _ (seat : ℕ) (r : Running) (sized : IsSized r.core) (below : seat < tasks r.core.geometry) (some : 1 ≤ (flight_of r.core.flights seat).place) where
@@ -125,7 +125,7 @@ module _ (seat : ℕ) (r : Running) (sized : IsSized r.core) (below : seat < tas
       let early : (flight_of r.core.flights seat).place + 1 ≤ places_of (flight_of r.core.flights seat).call = rw own at few in
       rw own (rw same (stepped_own (omega arith)))
 
-  acted : (a : Action) → (flight_of r.core.flights seat).place + step_count seat a ≤ places_of (flight_of r.core.flights seat).call → GoesBy seat r.core (act r a).core (step_count seat a)
+  pub acted : (a : Action) → (flight_of r.core.flights seat).place + step_count seat a ≤ places_of (flight_of r.core.flights seat).call → GoesBy seat r.core (act r a).core (step_count seat a)
   unfolding step_count
   acted (begin s call) few = begun s call
   acted (step s) few = elim (cases_Bool (nat_eq s seat)) [
@@ -135,7 +135,7 @@ module _ (seat : ℕ) (r : Running) (sized : IsSized r.core) (below : seat < tas
   acted collect few = collects
 
 -- a list of actions
-goes_by : (seat : ℕ) (actions : List Action) (r : Running) → IsSized r.core → seat < tasks r.core.geometry → 1 ≤ (flight_of r.core.flights seat).place
+pub goes_by : (seat : ℕ) (actions : List Action) (r : Running) → IsSized r.core → seat < tasks r.core.geometry → 1 ≤ (flight_of r.core.flights seat).place
     → (flight_of r.core.flights seat).place + steps_of seat actions ≤ places_of (flight_of r.core.flights seat).call
     → GoesBy seat r.core (run r actions).core (steps_of seat actions)
 unfolding run steps_of

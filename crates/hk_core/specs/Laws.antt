@@ -7,7 +7,7 @@ use Rattle.hk_words.specs.Geometry.{tasks}
 use Rattle.hk_words.specs.Layout.{reference_number}
 use Rattle.hk_words.specs.Calls.{RegistersFit}
 use Rattle.hk_model.specs.Heap.{opening_of}
-use Rattle.hk_model.specs.History.{History, Legal, after, is_question}
+use Rattle.hk_model.specs.History.{History, Legal, after, of_seat, is_question}
 use Rattle.hk_core.specs.declared.outcome.Fault.{Fault}
 use Rattle.hk_core.specs.declared.outcome.Step.TheVariants.{Ended}
 use Rattle.hk_core.specs.declared.outcome.Outcome.TheVariants.{Full}
@@ -22,6 +22,7 @@ use Rattle.hk_core.specs.Colours.{Covers, IsKeptBirth}
 use Rattle.hk_core.specs.Lawful.{Lawful}
 use Rattle.hk_core.specs.Places.{GoesOn, Ends, KeepsOthers, RowLengths}
 use Rattle.hk_core.specs.Turns.{steps_of, StandsLater}
+use Rattle.hk_core.specs.Replied.{AnswersEntry}
 use Rattle.hk_core.specs.Refused.{TellsRoom, EndsFull}
 use Rattle.hk_core.specs.Fresh.{IsFresh}
 use Rattle.hk_core.specs.Reach.{Reached}
@@ -105,6 +106,14 @@ EndsAtItsLastStep = (r : Running) (seat : ℕ) (actions : List Action) → IsSiz
     → (flight_of r.core.flights seat).place + steps_of seat actions ≡ places_of (flight_of r.core.flights seat).call
     → let c = (run r actions).core in
     Ends (flight_of c.flights seat) (flight_of (next c seat).flights seat) (answer_by c seat)
+
+-- From its begin to its last step, whatever comes between, a call adds one entry of its seat to the history, and the last
+-- step answers what the entry says. Where the history is legal, this is what the plain heap answers at that point.
+abbrev pub AnswersItsEntry : Type 0
+AnswersItsEntry = (r : Running) (seat : ℕ) (call : Call) (actions : List Action) → Lawful r.core r.history → seat < tasks r.core.geometry
+    → refusal r.core seat call ≡ None → 1 + steps_of seat actions ≡ places_of call
+    → let later = run (record r { core = after_begin r.core seat call }) actions in
+    AnswersEntry later.core later.history (of_seat r.history seat) seat call
 
 -- NEWS
 

@@ -17,6 +17,7 @@ pub mod Fits
 pub mod Places
 pub mod Inside
 pub mod Turns
+pub mod Replied
 pub mod Refused
 pub mod Fresh
 pub mod Laws

@@ -1,6 +1,6 @@
 -- What the steps of a New do about room, and when a step answers that there was none.
-use Rattle.std.proofs.Common.{◌≡◌, ◌≢◌, ◌⊎◌, ℕ, ◌+◌, ◌<◌, ◌≤◌, Bool, true, false, [], ◌∷◌, ◌++◌, List, length, inl, inr, refl, sym, ◌∙◌, ap, arith, Option, Some, None}
-use Rattle.std.proofs.lemmas.Bool.{cases_Bool, cases_eq, and_parts, not-true, eqb-true, eq-eqb}
+use Rattle.std.proofs.Common.{◌≡◌, ℕ, ◌<◌, ◌≤◌, Bool, true, false, [], ◌∷◌, ◌++◌, List, length, inl, inr, refl, sym, ◌∙◌, ap, arith, Option, Some, None}
+use Rattle.std.proofs.lemmas.Bool.{cases_Bool, cases_eq, and_parts, not-true, eqb-true}
 use Rattle.std.specs.Prelude.{nat_eq, not, ◌&&◌, ◌||◌, ◌↔◌, option_to_list, if◌then◌else◌}
 use Rattle.hk_words.specs.declared.call.Call.{Call}
 use Rattle.hk_words.specs.declared.call.Call.TheVariants as call
@@ -16,19 +16,15 @@ use Rattle.hk_model.proofs.Histories.{after-push, after_entry-refused}
 use Rattle.hk_model.proofs.Updates.{upd_same}
 use Rattle.hk_core.specs.declared.event.Event.{Event}
 use Rattle.hk_core.specs.declared.flight.Flight.{Flight}
-use Rattle.hk_core.specs.declared.outcome.Step.{Step}
 use Rattle.hk_core.specs.declared.outcome.Step.TheVariants.{Going, Ended}
-use Rattle.hk_core.specs.declared.outcome.Outcome.{Outcome}
 use Rattle.hk_core.specs.declared.outcome.Outcome.TheVariants.{Done, Full}
-use Rattle.hk_core.specs.Event.{learnt}
-use Rattle.hk_core.specs.State.{State, flight_of}
-use Rattle.hk_core.specs.Step.{full_to, full_to_all, places_of, outcome_at, step_of, answer_by, took_of, effect_of, found_by, next, history_after}
-use Rattle.hk_core.specs.View.{Words, words_of, flight_at}
+use Rattle.hk_core.specs.State.{State}
+use Rattle.hk_core.specs.Step.{full_to, full_to_all, places_of, outcome_at, step_of, took_of, effect_of, found_by, next, history_after}
+use Rattle.hk_core.specs.View.{Words, flight_at}
 use Rattle.hk_core.specs.Flights as f
 use Rattle.hk_core.specs.Lawful.{Lawful}
 use Rattle.hk_core.specs.Refused.{finds_too_few, refused_entry, TellsRoom, EndsFull}
 use Rattle.hk_core.proofs.Next.{DoesPlace, flight_at-next, found_at_place, history_at_place}
-use Rattle.hk_core.proofs.kinds.Seats.{moved_on}
 use Rattle.hk_core.proofs.kinds.Read.{refuted}
 use Rattle.hk_core.proofs.kinds.NewLoads.{new_on}
 use Rattle.hk_core.proofs.kinds.NewHistory.{made}

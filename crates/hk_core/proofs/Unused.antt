@@ -14,13 +14,13 @@ use Rattle.hk_model.specs.History.{History, after, number_of}
 use Rattle.hk_model.proofs.Updates.{upd_same}
 use Rattle.hk_core.specs.declared.flight.Flight.{Flight}
 use Rattle.hk_core.specs.State.{State}
-use Rattle.hk_core.specs.Step.{took_of, found_by, next}
+use Rattle.hk_core.specs.Step.{took_of, next}
 use Rattle.hk_core.specs.Begin.{register_word, copied}
 use Rattle.hk_core.specs.View.{decoded, words_of, names_of, contents_of, flight_at}
 use Rattle.hk_core.specs.Flights as f
-use Rattle.hk_core.specs.Colours.{shades_of, IsGood, IsNullOrGood, IsNullOrKept, IsKeptBirth}
+use Rattle.hk_core.specs.Colours.{IsNullOrGood, IsKeptBirth}
 use Rattle.hk_core.specs.Facts.{own_entry}
-use Rattle.hk_core.specs.Reach.{Reach, Reached, in_register, in_cell}
+use Rattle.hk_core.specs.Reach.{Reached, in_register, in_cell}
 use Rattle.hk_core.specs.Fresh.{IsFresh}
 use Rattle.hk_core.specs.Lawful.{Lawful}
 use Rattle.hk_core.specs.Inside.{kept_in}

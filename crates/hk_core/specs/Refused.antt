@@ -1,5 +1,5 @@
 -- When a New finds too few words, and what it answers then.
-use Rattle.std.specs.Prelude.{◌≡◌, ℕ, ◌+◌, ◌<◌, ◌==◌, Bool, true, false, not, ◌&&◌, ◌||◌, ◌++◌, [], ◌∷◌, Option, Some, None, if◌then◌else◌}
+use Rattle.std.specs.Prelude.{◌≡◌, ℕ, ◌<◌, ◌==◌, Bool, true, false, not, ◌&&◌, ◌||◌, ◌++◌, [], ◌∷◌, Some, if◌then◌else◌}
 use Rattle.hk_words.specs.declared.call.Call.TheVariants.{New}
 use Rattle.hk_words.specs.declared.call.Reply.TheVariants.{Full}
 use Rattle.hk_words.specs.declared.shape.Shape.{Shape}

@@ -40,3 +40,4 @@ pub mod SpotLoadsScan
 pub mod SpotLoadsCells
 pub mod SpotLoadsPass
 pub mod SpotLoadsRow
+pub mod SpotWords

@@ -41,3 +41,7 @@ pub mod SpotLoadsCells
 pub mod SpotLoadsPass
 pub mod SpotLoadsRow
 pub mod SpotWords
+pub mod SpotTrade
+pub mod SpotCopy
+pub mod SpotMove
+pub mod SpotClaim

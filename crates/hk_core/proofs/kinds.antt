@@ -45,3 +45,9 @@ pub mod SpotTrade
 pub mod SpotCopy
 pub mod SpotMove
 pub mod SpotClaim
+pub mod SpotSweepCounts
+pub mod SpotSweepLines
+pub mod SpotFlip
+pub mod SpotToSweep
+pub mod SpotClear
+pub mod SpotReset

@@ -1,6 +1,6 @@
 -- In a lawful state the collector's spot fits, and its event may be fired.
 use Rattle.std.proofs.Common.{◌≡◌, ◌≢◌, ℕ, zero, suc, ◌+◌, ◌-◌, ◌*◌, ◌%◌, ◌^◌, ◌<◌, ◌≤◌, Bool, true, false, List, inl, inr, refl, sym, ◌∙◌, ap, subst, arith, Option, Some, None}
-use Rattle.std.specs.Prelude.{slice_get, unwrap_or, option_map, if◌then◌else◌}
+use Rattle.std.specs.Prelude.{slice_get, unwrap_or, option_map, nat_eq, if◌then◌else◌}
 use Rattle.hk_words.specs.declared.geometry.Geometry.{Geometry}
 use Rattle.hk_words.specs.declared.shape.TheConstants.{MAX_FIELDS}
 use Rattle.hk_words.specs.Geometry.{tasks, numbers, list_length, space_words}
@@ -323,3 +323,95 @@ module _ (c : State) (history : History) (h : Lawful c history) where
     cycle = rw h.facts.spot_knows_cycle h.facts.cycle_fits;
     line = line_fits c.spot.line refl;
   }
+
+  -- THE EVENT
+
+  reserve_fires : CanFireIf c.row (table.reserve_cell c.geometry c.spot)
+  unfolding table.reserve_cell
+  reserve_fires =
+      let few : reference_size c.spot.cell < 2 ^ 10 = omega arith in
+      let small : (words_of c.geometry c.row).reserved < 2 ^ 60 = reserved_small c history h in
+      can_reserve c.geometry c.row h.sized.row (reference_size c.spot.cell) (omega arith)
+
+  claim_fires : NamesNumber c.geometry c.spot.cell → CanFireIf c.row (table.claim_cell c.geometry c.spot)
+  unfolding table.claim_cell
+  claim_fires names = can_claim c.geometry c.row h.sized.row (layout.reference_number c.spot.cell) c.spot.cycle names.within
+
+  link_fires : c.spot.offset < space_words c.geometry → CanFireIf c.row (table.link_cell c.geometry c.spot)
+  unfolding table.link_cell
+  link_fires there =
+      let p = place_at c.geometry (current_space c.spot.cycle) c.spot.offset in
+      let o = in_space c.geometry (current_space c.spot.cycle) c.spot.offset (omega arith) there in
+      can_write_cell c.geometry c.row h.sized.row p c.spot.cell o.some o.within
+
+  rest_fires : CanFireIf c.row (table.rest_event c.geometry c.spot)
+  unfolding table.rest_event
+  rest_fires = by_test (nat_eq c.spot.cycle last_cycle)
+    where
+      by_test : (worn : Bool) → CanFireIf c.row (if worn then None else Some (event.Swap (w0_at c.geometry) (layout.pack_w0 0 0 (c.spot.cycle + 1))))
+      by_test true = tt
+      by_test false = can_swap_w0 c.geometry c.row h.sized.row (layout.pack_w0 0 0 (c.spot.cycle + 1))
+
+  register_fires : (s r : ℕ) (stage : Stage) → c.spot.line ≡ line.Register s r stage → CanFireIf c.row (table.register_event c.geometry c.spot s r stage)
+  unfolding table.register_event
+  register_fires s r stage.Read at = let o = formed (line.Register s r stage.Read) at in can_load_register c.geometry c.row h.sized.row s r o.0 o.1
+  register_fires s r stage.Claim at = claim_fires (register_fits s r stage.Claim at)
+  register_fires s r stage.Reserve at = reserve_fires
+  register_fires s r stage.Tie at = link_fires (register_fits s r stage.Tie at)
+  register_fires s r stage.Write at = tt
+  register_fires s r stage.Mark at = tt
+  register_fires s r stage.Empty at = tt
+
+  cell_fires : (i : ℕ) (stage : Stage) → c.spot.line ≡ line.Cell i stage → CanFireIf c.row (table.cell_event c.geometry c.spot i stage)
+  unfolding table.cell_event
+  cell_fires i stage.Read at =
+      let o = here_cell i stage.Read at in
+      let lies = old_cell o.in_object.at_item o.in_object.behind.placed i o.cell in
+      can_read_cell c.geometry c.row h.sized.row (moved_from c.spot + 1 + i) lies.some lies.within
+  cell_fires i stage.Claim at = claim_fires (cell_fits i stage.Claim at)
+  cell_fires i stage.Reserve at = reserve_fires
+  cell_fires i stage.Tie at = link_fires (cell_fits i stage.Tie at)
+  cell_fires i stage.Write at =
+      let there : c.spot.scan + 1 + i < space_words c.geometry = cell_fits i stage.Write at in
+      let o = in_space c.geometry (current_space c.spot.cycle) (c.spot.scan + 1 + i) (omega arith) there in
+      let same : place_at c.geometry (current_space c.spot.cycle) (c.spot.scan + 1 + i) ≡ moved_to c.geometry c.spot + 1 + i = omega arith in
+      can_write_cell c.geometry c.row h.sized.row (moved_to c.geometry c.spot + 1 + i) c.spot.cell (rw same at o.some) (rw same at o.within)
+  cell_fires i stage.Mark at = tt
+  cell_fires i stage.Empty at = tt
+
+  sweep_fires : (n : ℕ) (stage : Stage) → c.spot.line ≡ line.Sweep n stage → CanFireIf c.row (table.sweep_event c.geometry c.spot n stage)
+  unfolding table.sweep_event
+  sweep_fires n stage.Read at = can_load_mark c.geometry c.row h.sized.row n (formed (line.Sweep n stage.Read) at).0
+  sweep_fires n stage.Claim at = tt
+  sweep_fires n stage.Reserve at = tt
+  sweep_fires n stage.Tie at = tt
+  sweep_fires n stage.Write at = can_write_entry c.geometry c.row h.sized.row (next_list c.spot.cycle) c.spot.entries n (omega arith) (sweep_fits n stage.Write at)
+  sweep_fires n stage.Mark at = can_write_mark c.geometry c.row h.sized.row n (c.spot.cycle + 1) (formed (line.Sweep n stage.Mark) at).0
+  sweep_fires n stage.Empty at = can_write_header c.geometry c.row h.sized.row n 0 (formed (line.Sweep n stage.Empty) at).0
+
+  line_fires : (ln : Line) → c.spot.line ≡ ln → CanFireIf c.row (event_at_line c.geometry c.spot ln)
+  unfolding event_at_line table.frame_event table.frame_trade_event table.scan_event table.link_event table.look_event table.object_trade_event table.pass_event table.pass_head_event table.clear_event table.reset_event
+  line_fires line.Rest at = rest_fires
+  line_fires (line.Frame s) at = can_load_frame c.geometry c.row h.sized.row s (formed (line.Frame s) at)
+  line_fires (line.Register s r stage) at = register_fires s r stage at
+  line_fires (line.FrameTrade s) at = can_trade_frame c.geometry c.row h.sized.row s c.spot.first _ (formed (line.FrameTrade s) at)
+  line_fires line.Scan at = can_load_w1 c.geometry c.row h.sized.row
+  line_fires line.Link at =
+      let there = range_there (here_link at) in
+      let o = in_space c.geometry (current_space c.spot.cycle) c.spot.scan (omega arith) (omega arith) in
+      can_read_cell c.geometry c.row h.sized.row (moved_to c.geometry c.spot) o.some o.within
+  line_fires line.Look at = can_load_header c.geometry c.row h.sized.row (moved_number c.spot) (line_fits line.Look at).within
+  line_fires (line.Cell i stage) at = cell_fires i stage at
+  line_fires line.ObjectTrade at = can_trade_header c.geometry c.row h.sized.row (moved_number c.spot) c.spot.first _ (line_fits line.ObjectTrade at).0.within
+  line_fires (line.Pass n) at = can_load_mark c.geometry c.row h.sized.row n (formed (line.Pass n) at)
+  line_fires (line.PassHead n) at = can_load_header c.geometry c.row h.sized.row n (formed (line.PassHead n) at)
+  line_fires (line.Sweep n stage) at = sweep_fires n stage at
+  line_fires (line.Clear i) at =
+      let o = in_space c.geometry (old_space c.spot.cycle) i (omega arith) (formed (line.Clear i) at) in
+      can_write_cell c.geometry c.row h.sized.row (place_at c.geometry (old_space c.spot.cycle) i) 0 o.some o.within
+  line_fires line.Reset at = can_write_w1 c.geometry c.row h.sized.row 0
+
+  -- the event may be fired
+  pub event_fires : CanFireIf c.row (event_by_collector c)
+  unfolding event_by_collector spot_event
+  event_fires = line_fires c.spot.line refl

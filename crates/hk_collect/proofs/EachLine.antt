@@ -1,0 +1,118 @@
+-- Line by line, the event of the collector leads from a lawful state to a lawful one for the same history, and leaves each
+-- object alone that a call is inside.
+use Rattle.std.proofs.Common.{◌≡◌, ◌≢◌, ◌⊎◌, ℕ, ◌+◌, ◌-◌, ◌*◌, ◌^◌, ◌<◌, ◌≤◌, Bool, true, false, List, inl, inr, refl, sym, ◌∙◌, ap, subst, arith, Option, Some, None}
+use Rattle.std.proofs.lemmas.Bool.{cases_Bool, cases_eq, cases_lt, eq-eqb, ne_eqb, eqb-true, lt-ltb, le-ltb}
+use Rattle.std.specs.Prelude.{nat_eq, nat_lt, if◌then◌else◌}
+use Rattle.hk_words.specs.Geometry.{tasks, numbers, space_words}
+use Rattle.hk_words.specs.Layout as layout
+use Rattle.hk_words.specs.Row.{w0_at, w1_at, header_at, mark_at, frame_at, register_at, space_at, place_at, word_of}
+use Rattle.hk_words.specs.Row.Slot.{Frame, Header}
+use Rattle.hk_model.specs.History.{History}
+use Rattle.hk_core.specs.declared.event.Event.{Event}
+use Rattle.hk_core.specs.declared.event.Event.TheVariants as event
+use Rattle.hk_core.specs.declared.spot.Line.{Line}
+use Rattle.hk_core.specs.declared.spot.Line.TheVariants as line
+use Rattle.hk_core.specs.declared.spot.Stage.{Stage}
+use Rattle.hk_core.specs.declared.spot.Stage.TheVariants as stage
+use Rattle.hk_core.specs.Event.{fired, fired_if, learnt, old_of, word_after}
+use Rattle.hk_core.specs.State.{State}
+use Rattle.hk_core.specs.Step.{reference_size}
+use Rattle.hk_core.specs.Collect as table
+use Rattle.hk_core.specs.Collect.{last_cycle, current_space, old_space, moved_from, moved_to, moved_number, spot_event, spot_took, event_at_line, took_at_line, is_old, is_in_space, after_pass}
+use Rattle.hk_core.specs.View.{Words, words_of, decoded, names_of, contents_of, flight_at, begun_at, size_at}
+use Rattle.hk_core.specs.Flights as f
+use Rattle.hk_core.specs.Flights.{to_link}
+use Rattle.hk_core.specs.Lines as l
+use Rattle.hk_core.specs.Colours.{spaces_of, shades_of, Covers}
+use Rattle.hk_core.specs.Inside.{kept_in, size_in}
+use Rattle.hk_core.specs.Lawful.{Lawful, hands_of}
+use Rattle.hk_core.proofs.Columns.{fired_kept, fired_if_some, raw_frame, raw_header}
+use Rattle.hk_core.proofs.Inside.{shapes_fit}
+use Rattle.hk_core.proofs.Linked.{link_in_no_object}
+use Rattle.hk_core.proofs.kinds.Enter.{object_of}
+use Rattle.hk_core.proofs.kinds.Words.{words-load, words-write_cell, some_in_object}
+use Rattle.hk_core.proofs.kinds.ClaimWords.{words-claim, words-reserve}
+use Rattle.hk_core.proofs.kinds.Claim.{claim_words}
+use Rattle.hk_core.proofs.kinds.Reserve.{reserve_words, reserve_range}
+use Rattle.hk_core.proofs.kinds.ReserveSeats.{bearers_have_fields}
+use Rattle.hk_core.proofs.kinds.WriteCell.{cell_words, shades_mean}
+use Rattle.hk_core.proofs.kinds.SpotWords.{words-flip, words-blacken, words-move, words-reset, found-claim, found-reserve, found-trade_frame, found-trade_header}
+use Rattle.hk_core.proofs.kinds.SpotLoadsRow.{AfterEvent, frame_loads_row, register_loads_row, frame_trade_lost_row, scan_loads_row, link_loads_row, look_loads_row, cell_loads_row, object_trade_lost_row, pass_loads_row, pass_head_loads_row, found-mark, found-header}
+use Rattle.hk_core.proofs.kinds.SpotClaim.{register_claims, register_reserves, register_links, cell_claims, cell_reserves, cell_links}
+use Rattle.hk_core.proofs.kinds.SpotTrade.{blackened_words, frame_traded}
+use Rattle.hk_core.proofs.kinds.SpotCopy.{cell_copied, in_no_object}
+use Rattle.hk_core.proofs.kinds.SpotMove.{moved_words, object_traded}
+use Rattle.hk_core.proofs.kinds.SpotFlip.{flipped_words, flip, flip_took}
+use Rattle.hk_core.proofs.kinds.SpotToSweep.{pass_to_sweep, pass_head_to_sweep}
+use Rattle.hk_core.proofs.kinds.SpotSweepLines.{kept_current}
+use Rattle.hk_core.proofs.kinds.SpotClear.{clear}
+use Rattle.hk_core.proofs.kinds.SpotReset.{no_ranges, reset}
+use Rattle.hk_collect.proofs.Fitting.{spot_fits, here_frame_trade, here_cell, here_object_trade, here_register}
+use Rattle.hk_collect.proofs.Collected.{Collected, Spares, collected_row, collected_at, spares_all, spares_beside, spares_outside}
+
+-- a write finds nothing
+found-write : (row : List ℕ) (word v : ℕ) → learnt row (Some (event.Write word v)) ≡ 0
+unfolding learnt
+found-write row word v = refl
+
+-- an exchange that finds another word leaves the row as it is
+words-lost : (c : State) (word current new : ℕ) → old_of c.row (event.Trade word current new) ≢ current → words_of c.geometry (fired c.row (event.Trade word current new)) ≡ words_of c.geometry c.row
+words-lost c word current new differs =
+    ap (words_of c.geometry) (fired_kept c.row (event.Trade word current new) (rw (ne_eqb (old_of c.row (event.Trade word current new)) current differs) refl))
+
+module _ (c : State) (history : History) (h : Lawful c history) where
+  -- the event of a line
+  event_at : (ln : Line) → c.spot.line ≡ ln → spot_event c.geometry c.spot ≡ event_at_line c.geometry c.spot ln
+  unfolding spot_event
+  event_at ln at = ap (event_at_line c.geometry c.spot) at
+
+  words_at : (ln : Line) → c.spot.line ≡ ln → (e : Event) → event_at_line c.geometry c.spot ln ≡ Some e → (w : Words) → words_of c.geometry (fired c.row e) ≡ w
+      → words_of c.geometry (fired_if c.row (spot_event c.geometry c.spot)) ≡ w
+  words_at ln at e is w words =
+      ap (λ (k : Option Event). words_of c.geometry (fired_if c.row k)) (event_at ln at ∙ is) ∙ ap (words_of c.geometry) (fired_if_some c.row e) ∙ words
+
+  -- LOADS
+
+  -- a load on a line, after which all facts hold
+  loads : (ln : Line) → c.spot.line ≡ ln → (word : ℕ) → event_at_line c.geometry c.spot ln ≡ Some (event.Load word)
+      → AfterEvent c.geometry c.row (flight_at c) (begun_at c) c.spot (names_of c.geometry history) (contents_of c.geometry history) h.range → Collected c history
+  loads ln at word is facts =
+      let w = words_of c.geometry c.row in
+      collected_row c history h h.range w facts (words_at ln at (event.Load word) is w (words-load c.geometry c.row word)) (spares_all c history h w refl refl)
+
+  pub frame_well : (s : ℕ) → c.spot.line ≡ line.Frame s → Collected c history
+  unfolding event_at_line table.frame_event
+  frame_well s at =
+      loads (line.Frame s) at (frame_at c.geometry s) refl
+      (frame_loads_row c.geometry c.row (flight_at c) (begun_at c) c.spot (names_of c.geometry history) (contents_of c.geometry history) h.range h.facts s at)
+
+  pub register_read_well : (s r : ℕ) → c.spot.line ≡ line.Register s r stage.Read → Collected c history
+  unfolding event_at_line table.register_event
+  register_read_well s r at =
+      loads (line.Register s r stage.Read) at (register_at c.geometry s r) refl
+      (register_loads_row c.geometry c.row (flight_at c) (begun_at c) c.spot (names_of c.geometry history) (contents_of c.geometry history) h.range h.facts s r at)
+
+  pub scan_well : c.spot.line ≡ line.Scan → Collected c history
+  unfolding event_at_line table.scan_event
+  scan_well at =
+      loads line.Scan at (w1_at c.geometry) refl
+      (scan_loads_row c.geometry c.row (flight_at c) (begun_at c) c.spot (names_of c.geometry history) (contents_of c.geometry history) h.range h.facts at)
+
+  pub link_well : c.spot.line ≡ line.Link → Collected c history
+  unfolding event_at_line table.link_event
+  link_well at =
+      loads line.Link at (space_at c.geometry (moved_to c.geometry c.spot)) refl
+      (link_loads_row c.geometry c.row (flight_at c) (begun_at c) c.spot (names_of c.geometry history) (contents_of c.geometry history) h.range h.facts at)
+
+  pub look_well : c.spot.line ≡ line.Look → Collected c history
+  unfolding event_at_line table.look_event
+  look_well at =
+      loads line.Look at (header_at c.geometry (moved_number c.spot)) refl
+      (look_loads_row c.geometry c.row (flight_at c) (begun_at c) c.spot (names_of c.geometry history) (contents_of c.geometry history) h.range h.facts at
+      (shapes_fit c.geometry history) (bearers_have_fields c.geometry history))
+
+  pub cell_read_well : (i : ℕ) → c.spot.line ≡ line.Cell i stage.Read → Collected c history
+  unfolding event_at_line table.cell_event
+  cell_read_well i at =
+      loads (line.Cell i stage.Read) at (space_at c.geometry (moved_from c.spot + 1 + i)) refl
+      (cell_loads_row c.geometry c.row (flight_at c) (begun_at c) c.spot (names_of c.geometry history) (contents_of c.geometry history) h.range h.facts i at (shapes_fit c.geometry history))

@@ -26,7 +26,7 @@ use Rattle.hk_core.specs.Lines as l
 use Rattle.hk_core.specs.Colours.{spaces_of, shades_of, Covers}
 use Rattle.hk_core.specs.Inside.{kept_in, size_in}
 use Rattle.hk_core.specs.Lawful.{Lawful, hands_of}
-use Rattle.hk_core.proofs.Columns.{fired_kept, fired_if_some, raw_frame, raw_header}
+use Rattle.hk_core.proofs.Columns.{fired_kept, fired_if_some, fired_if_none, raw_frame, raw_header}
 use Rattle.hk_core.proofs.Inside.{shapes_fit}
 use Rattle.hk_core.proofs.Linked.{link_in_no_object}
 use Rattle.hk_core.proofs.kinds.Enter.{object_of}
@@ -47,7 +47,7 @@ use Rattle.hk_core.proofs.kinds.SpotToSweep.{pass_to_sweep, pass_head_to_sweep}
 use Rattle.hk_core.proofs.kinds.SpotSweepLines.{kept_current}
 use Rattle.hk_core.proofs.kinds.SpotClear.{clear}
 use Rattle.hk_core.proofs.kinds.SpotReset.{no_ranges, reset}
-use Rattle.hk_collect.proofs.Fitting.{spot_fits, here_frame_trade, here_cell, here_object_trade, here_register}
+use Rattle.hk_collect.proofs.Fitting.{in_space, own_hand, register_hand, cell_hand, cell_names, item_range, marks_at, formed, in_step, link_there, here_frame_trade, here_cell, here_object_trade}
 use Rattle.hk_collect.proofs.Collected.{Collected, Spares, collected_row, collected_at, spares_all, spares_beside, spares_outside}
 
 -- a write finds nothing
@@ -116,3 +116,122 @@ module _ (c : State) (history : History) (h : Lawful c history) where
   cell_read_well i at =
       loads (line.Cell i stage.Read) at (space_at c.geometry (moved_from c.spot + 1 + i)) refl
       (cell_loads_row c.geometry c.row (flight_at c) (begun_at c) c.spot (names_of c.geometry history) (contents_of c.geometry history) h.range h.facts i at (shapes_fit c.geometry history))
+
+  -- THE FLIP
+
+  worn_well : c.spot.line ≡ line.Rest → c.spot.cycle ≡ last_cycle → Collected c history
+  unfolding event_at_line took_at_line spot_took table.rest_event table.rest_took learnt
+  worn_well at worn =
+      let g = c.geometry in
+      let is : spot_event g c.spot ≡ None = event_at line.Rest at ∙ rw (eq-eqb c.spot.cycle last_cycle worn) refl in
+      let same : words_of g (fired_if c.row (spot_event g c.spot)) ≡ words_of g c.row = ap (λ (k : Option Event). words_of g (fired_if c.row k)) is ∙ ap (words_of g) (fired_if_none c.row) in
+      let stays : (old : ℕ) → spot_took g c.spot old ≡ c.spot = λ old. ap (took_at_line g c.spot old) at ∙ rw (eq-eqb c.spot.cycle last_cycle worn) refl in
+      collected_row c history h h.range (words_of g c.row) (rw (same, stays (learnt c.row (spot_event g c.spot))) h.facts) same (spares_all c history h (words_of g c.row) refl refl)
+
+  flip_well : c.spot.line ≡ line.Rest → c.spot.cycle ≢ last_cycle → Collected c history
+  unfolding event_at_line took_at_line table.rest_event
+  flip_well at more =
+      let g = c.geometry in
+      let w = words_of g c.row in
+      let knows : c.spot.cycle ≡ w.cycle = h.facts.spot_knows_cycle in
+      let fits : w.cycle ≤ last_cycle = h.facts.cycle_fits in
+      let early : c.spot.cycle < last_cycle = omega arith in
+      let v = layout.pack_w0 0 0 (c.spot.cycle + 1) in
+      let words : words_of g (fired c.row (event.Swap (w0_at g) v)) ≡ flipped_words w =
+      words-flip g c.row h.sized.row (c.spot.cycle + 1) ∙ ap (λ (k : ℕ). record w { used = 0; objects = 0; cycle = k + 1 }) knows in
+      collected_at c history h line.Rest at (event.Swap (w0_at g) v) (rw (ne_eqb c.spot.cycle last_cycle more) refl) (flipped_words w) words
+      (learnt c.row (Some (event.Swap (w0_at g) v))) refl h.range
+      (rw (flip_took c.spot early) (flip g w (flight_at c) (begun_at c) c.spot (names_of g history) (contents_of g history) h.range at early h.facts))
+      (spares_all c history h (flipped_words w) refl refl)
+
+  pub rest_well : c.spot.line ≡ line.Rest → Collected c history
+  rest_well at = elim (cases_eq c.spot.cycle last_cycle) [ inl worn ↦ worn_well at worn | inr more ↦ flip_well at more ]
+
+  -- CLAIM, RESERVE, LINK
+
+  -- the number that the reference in hand names, and the place of its link word
+  claim_in_row : (ln : Line) → c.spot.line ≡ ln → l.has_reference ln ≡ true → layout.reference_number c.spot.cell < numbers c.geometry
+  claim_in_row ln at deals = (cell_names c history h (ap l.has_reference at ∙ deals)).within
+
+  link_beside : l.hand_of_spot c.spot ≡ to_link c.spot.cell c.spot.cycle c.spot.offset → (n : ℕ) → kept_in c history n ≡ true
+      → ¬ Covers ((words_of c.geometry c.row).place n) (size_in c history n) (place_at c.geometry (current_space c.spot.cycle) c.spot.offset)
+  link_beside holds n kept =
+      let g = c.geometry in
+      let w = words_of g c.row in
+      let knows : c.spot.cycle ≡ w.cycle = h.facts.spot_knows_cycle in
+      let there : (spaces_of g c.spot.cycle).current + c.spot.offset ≡ place_at g (current_space c.spot.cycle) c.spot.offset = omega arith in
+      let same : (spaces_of g w.cycle).current + c.spot.offset ≡ place_at g (current_space c.spot.cycle) c.spot.offset =
+      ap (λ (k : ℕ). (spaces_of g k).current + c.spot.offset) (sym knows) ∙ there in
+      let hand : hands_of g (flight_at c) c.spot (tasks g) ≡ to_link c.spot.cell c.spot.cycle c.spot.offset = own_hand g (flight_at c) c.spot ∙ holds in
+      subst (λ (p : ℕ). ¬ Covers (w.place n) (size_in c history n) p) same
+      (link_in_no_object c history h (tasks g) c.spot.cell c.spot.cycle c.spot.offset (omega arith) hand n kept)
+
+  pub register_claim_well : (s r : ℕ) → c.spot.line ≡ line.Register s r stage.Claim → Collected c history
+  unfolding event_at_line took_at_line table.register_event table.register_took table.claim_cell l.has_reference l.is_in_work
+  register_claim_well s r at =
+      let g = c.geometry in
+      let w = words_of g c.row in
+      let n = layout.reference_number c.spot.cell in
+      let within : n < numbers g = claim_in_row (line.Register s r stage.Claim) at refl in
+      collected_at c history h (line.Register s r stage.Claim) at (event.Max (mark_at g n) c.spot.cycle) refl (claim_words w n c.spot.cycle)
+      (words-claim g c.row h.sized.row n c.spot.cycle within) (w.mark n) (found-claim g c.row n c.spot.cycle within) h.range
+      (register_claims g w (flight_at c) (begun_at c) c.spot (names_of g history) (contents_of g history) h.range s r at h.facts)
+      (spares_all c history h (claim_words w n c.spot.cycle) refl refl)
+
+  pub cell_claim_well : (i : ℕ) → c.spot.line ≡ line.Cell i stage.Claim → Collected c history
+  unfolding event_at_line took_at_line table.cell_event table.cell_took table.claim_cell l.has_reference l.is_in_work
+  cell_claim_well i at =
+      let g = c.geometry in
+      let w = words_of g c.row in
+      let n = layout.reference_number c.spot.cell in
+      let within : n < numbers g = claim_in_row (line.Cell i stage.Claim) at refl in
+      collected_at c history h (line.Cell i stage.Claim) at (event.Max (mark_at g n) c.spot.cycle) refl (claim_words w n c.spot.cycle)
+      (words-claim g c.row h.sized.row n c.spot.cycle within) (w.mark n) (found-claim g c.row n c.spot.cycle within) h.range
+      (cell_claims g w (flight_at c) (begun_at c) c.spot (names_of g history) (contents_of g history) h.range i at h.facts)
+      (spares_all c history h (claim_words w n c.spot.cycle) refl refl)
+
+  pub register_reserve_well : (s r : ℕ) → c.spot.line ≡ line.Register s r stage.Reserve → Collected c history
+  unfolding event_at_line took_at_line table.register_event table.register_took table.reserve_cell
+  register_reserve_well s r at =
+      let g = c.geometry in
+      let w = words_of g c.row in
+      let size = reference_size c.spot.cell in
+      collected_at c history h (line.Register s r stage.Reserve) at (event.Add (w1_at g) size) refl (reserve_words w size)
+      (words-reserve g c.row h.sized.row size) w.reserved (found-reserve g c.row size) (reserve_range h.range w.reserved (layout.reference_number c.spot.cell))
+      (register_reserves g w (flight_at c) (begun_at c) c.spot (names_of g history) (contents_of g history) h.range s r at (shapes_fit g history) (bearers_have_fields g history) h.facts)
+      (spares_all c history h (reserve_words w size) refl refl)
+
+  pub cell_reserve_well : (i : ℕ) → c.spot.line ≡ line.Cell i stage.Reserve → Collected c history
+  unfolding event_at_line took_at_line table.cell_event table.cell_took table.reserve_cell
+  cell_reserve_well i at =
+      let g = c.geometry in
+      let w = words_of g c.row in
+      let size = reference_size c.spot.cell in
+      collected_at c history h (line.Cell i stage.Reserve) at (event.Add (w1_at g) size) refl (reserve_words w size)
+      (words-reserve g c.row h.sized.row size) w.reserved (found-reserve g c.row size) (reserve_range h.range w.reserved (layout.reference_number c.spot.cell))
+      (cell_reserves g w (flight_at c) (begun_at c) c.spot (names_of g history) (contents_of g history) h.range i at (shapes_fit g history) (bearers_have_fields g history) h.facts)
+      (spares_all c history h (reserve_words w size) refl refl)
+
+  pub register_link_well : (s r : ℕ) → c.spot.line ≡ line.Register s r stage.Tie → Collected c history
+  unfolding event_at_line took_at_line table.register_event table.register_took table.link_cell
+  register_link_well s r at =
+      let g = c.geometry in
+      let w = words_of g c.row in
+      let p = place_at g (current_space c.spot.cycle) c.spot.offset in
+      let lies = link_there c history h (register_hand c.spot s r at) in
+      collected_at c history h (line.Register s r stage.Tie) at (event.Write (space_at g p) c.spot.cell) refl (cell_words w p c.spot.cell)
+      (words-write_cell g c.row h.sized.row p c.spot.cell lies.some lies.within) 0 (found-write c.row (space_at g p) c.spot.cell) h.range
+      (register_links g w (flight_at c) (begun_at c) c.spot (names_of g history) (contents_of g history) h.range s r at (shapes_fit g history) h.facts)
+      (spares_beside c history h (cell_words w p c.spot.cell) p c.spot.cell refl refl (link_beside (register_hand c.spot s r at)))
+
+  pub cell_link_well : (i : ℕ) → c.spot.line ≡ line.Cell i stage.Tie → Collected c history
+  unfolding event_at_line took_at_line table.cell_event table.cell_took table.link_cell
+  cell_link_well i at =
+      let g = c.geometry in
+      let w = words_of g c.row in
+      let p = place_at g (current_space c.spot.cycle) c.spot.offset in
+      let lies = link_there c history h (cell_hand c.spot i at) in
+      collected_at c history h (line.Cell i stage.Tie) at (event.Write (space_at g p) c.spot.cell) refl (cell_words w p c.spot.cell)
+      (words-write_cell g c.row h.sized.row p c.spot.cell lies.some lies.within) 0 (found-write c.row (space_at g p) c.spot.cell) h.range
+      (cell_links g w (flight_at c) (begun_at c) c.spot (names_of g history) (contents_of g history) h.range i at (shapes_fit g history) h.facts)
+      (spares_beside c history h (cell_words w p c.spot.cell) p c.spot.cell refl refl (link_beside (cell_hand c.spot i at)))

@@ -64,7 +64,7 @@ few_words c history n = each ((names_of c.geometry history).bearer n)
 -- PLACES
 
 -- a place of one of the two spaces
-in_space : (g : Geometry) (space offset : ℕ) → space < 2 → offset < space_words g → LiesInSpaces g (place_at g space offset)
+pub in_space : (g : Geometry) (space offset : ℕ) → space < 2 → offset < space_words g → LiesInSpaces g (place_at g space offset)
 in_space g zero offset two below = record { some = omega arith; within = omega arith }
 in_space g (suc zero) offset two below = record { some = omega arith; within = omega arith }
 in_space g (suc (suc n)) offset two below = absurd (omega arith)
@@ -72,15 +72,15 @@ in_space g (suc (suc n)) offset two below = absurd (omega arith)
 -- THE SPOT
 
 -- the collector's claim in hand comes last
-own_hand : (g : Geometry) (flight : ℕ → Flight) (t : Spot) → hands_of g flight t (tasks g) ≡ l.hand_of_spot t
+pub own_hand : (g : Geometry) (flight : ℕ → Flight) (t : Spot) → hands_of g flight t (tasks g) ≡ l.hand_of_spot t
 own_hand g flight t = hands_changed g flight t t (tasks g) (omega arith) ∙ upd_same (hands_of g flight t) (tasks g) (l.hand_of_spot t)
 
 -- the claim in hand of a stage at which a link word is to be written
-register_hand : (t : Spot) (s r : ℕ) → t.line ≡ line.Register s r stage.Tie → l.hand_of_spot t ≡ to_link t.cell t.cycle t.offset
+pub register_hand : (t : Spot) (s r : ℕ) → t.line ≡ line.Register s r stage.Tie → l.hand_of_spot t ≡ to_link t.cell t.cycle t.offset
 unfolding l.hand_of_spot l.hand_at_line l.hand_at
 register_hand t s r e = ap (l.hand_at_line t) e
 
-cell_hand : (t : Spot) (i : ℕ) → t.line ≡ line.Cell i stage.Tie → l.hand_of_spot t ≡ to_link t.cell t.cycle t.offset
+pub cell_hand : (t : Spot) (i : ℕ) → t.line ≡ line.Cell i stage.Tie → l.hand_of_spot t ≡ to_link t.cell t.cycle t.offset
 unfolding l.hand_of_spot l.hand_at_line l.hand_at
 cell_hand t i e = ap (l.hand_at_line t) e
 
@@ -152,7 +152,7 @@ module _ (c : State) (history : History) (h : Lawful c history) where
       omega arith
 
   -- what a reference that the collector deals with names, and the object that is moved
-  cell_names : l.has_reference c.spot.line ≡ true → NamesNumber c.geometry c.spot.cell
+  pub cell_names : l.has_reference c.spot.line ≡ true → NamesNumber c.geometry c.spot.cell
   cell_names deals = names_number c.spot.cell (h.facts.cell_good deals)
 
   item_names : l.is_marking c.spot.line ≡ true → AtItem c.geometry (words_of c.geometry c.row) (spaces_of c.geometry (words_of c.geometry c.row).cycle) its_shades c.spot h.range
@@ -176,7 +176,7 @@ module _ (c : State) (history : History) (h : Lawful c history) where
       omega arith
 
   -- and lie in the range at the scan offset
-  item_range : AtItem c.geometry (words_of c.geometry c.row) (spaces_of c.geometry (words_of c.geometry c.row).cycle) its_shades c.spot h.range → l.is_marking c.spot.line ≡ true
+  pub item_range : AtItem c.geometry (words_of c.geometry c.row) (spaces_of c.geometry (words_of c.geometry c.row).cycle) its_shades c.spot h.range → l.is_marking c.spot.line ≡ true
       → c.spot.scan + reference_size c.spot.item ≤ c.geometry.live
   item_range o marks =
       let g = c.geometry in
@@ -189,7 +189,7 @@ module _ (c : State) (history : History) (h : Lawful c history) where
       omega arith
 
   -- a cell of its old place is a word of the spaces
-  old_cell : AtItem c.geometry (words_of c.geometry c.row) (spaces_of c.geometry (words_of c.geometry c.row).cycle) its_shades c.spot h.range
+  pub old_cell : AtItem c.geometry (words_of c.geometry c.row) (spaces_of c.geometry (words_of c.geometry c.row).cycle) its_shades c.spot h.range
       → moved_from c.spot ≡ (words_of c.geometry c.row).place (layout.reference_number c.spot.item) → (i : ℕ) → i + 1 < reference_size c.spot.item
       → LiesInSpaces c.geometry (moved_from c.spot + 1 + i)
   old_cell o placed i below =
@@ -216,7 +216,7 @@ module _ (c : State) (history : History) (h : Lawful c history) where
   deals_at : (ln : Line) → c.spot.line ≡ ln → l.has_reference ln ≡ true → l.has_reference c.spot.line ≡ true
   deals_at ln at e = ap l.has_reference at ∙ e
 
-  marks_at : (ln : Line) → c.spot.line ≡ ln → l.is_marking ln ≡ true → l.is_marking c.spot.line ≡ true
+  pub marks_at : (ln : Line) → c.spot.line ≡ ln → l.is_marking ln ≡ true → l.is_marking c.spot.line ≡ true
   marks_at ln at e = ap l.is_marking at ∙ e
 
   rank_small : (stage : Stage) → l.stage_rank stage ≤ 4
@@ -271,10 +271,10 @@ module _ (c : State) (history : History) (h : Lawful c history) where
   cell_fits i stage.Mark at = tt
   cell_fits i stage.Empty at = tt
 
-  formed : (ln : Line) → c.spot.line ≡ ln → l.LineFits c.geometry c.spot ln
+  pub formed : (ln : Line) → c.spot.line ≡ ln → l.LineFits c.geometry c.spot ln
   formed ln at = (work ln at).line_fits
 
-  in_step : (ln : Line) → c.spot.line ≡ ln → l.InStep (list_length c.geometry) (words_of c.geometry c.row).cycle c.spot.entries (words_of c.geometry c.row).mark
+  pub in_step : (ln : Line) → c.spot.line ≡ ln → l.InStep (list_length c.geometry) (words_of c.geometry c.row).cycle c.spot.entries (words_of c.geometry c.row).mark
       ((words_of c.geometry c.row).entry (next_list (words_of c.geometry c.row).cycle)) ln
   in_step ln at = subst (λ (ln : Line). l.InStep (list_length c.geometry) (words_of c.geometry c.row).cycle c.spot.entries (words_of c.geometry c.row).mark
       ((words_of c.geometry c.row).entry (next_list (words_of c.geometry c.row).cycle)) ln) at h.facts.sweep_in_step
@@ -336,6 +336,9 @@ module _ (c : State) (history : History) (h : Lawful c history) where
   claim_fires : NamesNumber c.geometry c.spot.cell → CanFireIf c.row (table.claim_cell c.geometry c.spot)
   unfolding table.claim_cell
   claim_fires names = can_claim c.geometry c.row h.sized.row (layout.reference_number c.spot.cell) c.spot.cycle names.within
+
+  pub link_there : l.hand_of_spot c.spot ≡ to_link c.spot.cell c.spot.cycle c.spot.offset → LiesInSpaces c.geometry (place_at c.geometry (current_space c.spot.cycle) c.spot.offset)
+  link_there holds = let o = offset_there holds in in_space c.geometry (current_space c.spot.cycle) c.spot.offset (omega arith) (omega arith)
 
   link_fires : c.spot.offset < space_words c.geometry → CanFireIf c.row (table.link_cell c.geometry c.spot)
   unfolding table.link_cell

@@ -3,11 +3,13 @@
 use Rattle.std.proofs.Common.{◌≡◌, ◌≢◌, ◌⊎◌, ℕ, ◌+◌, ◌-◌, ◌*◌, ◌^◌, ◌<◌, ◌≤◌, Bool, true, false, List, inl, inr, refl, sym, ◌∙◌, ap, subst, arith, Option, Some, None}
 use Rattle.std.proofs.lemmas.Bool.{cases_Bool, cases_eq, cases_lt, eq-eqb, ne_eqb, eqb-true, lt-ltb, le-ltb}
 use Rattle.std.specs.Prelude.{nat_eq, nat_lt, if◌then◌else◌}
+use Rattle.hk_words.specs.declared.geometry.Geometry.{Geometry}
 use Rattle.hk_words.specs.Geometry.{tasks, numbers, space_words}
 use Rattle.hk_words.specs.Layout as layout
 use Rattle.hk_words.specs.Row.{w0_at, w1_at, header_at, mark_at, frame_at, register_at, space_at, place_at, word_of}
 use Rattle.hk_words.specs.Row.Slot.{Frame, Header}
 use Rattle.hk_model.specs.History.{History}
+use Rattle.hk_model.specs.View.{upd}
 use Rattle.hk_core.specs.declared.event.Event.{Event}
 use Rattle.hk_core.specs.declared.event.Event.TheVariants as event
 use Rattle.hk_core.specs.declared.spot.Line.{Line}
@@ -26,7 +28,7 @@ use Rattle.hk_core.specs.Lines as l
 use Rattle.hk_core.specs.Colours.{spaces_of, shades_of, Covers}
 use Rattle.hk_core.specs.Inside.{kept_in, size_in}
 use Rattle.hk_core.specs.Lawful.{Lawful, hands_of}
-use Rattle.hk_core.proofs.Columns.{fired_kept, fired_if_some, fired_if_none, raw_frame, raw_header}
+use Rattle.hk_core.proofs.Columns.{old_at, fired_kept, fired_if_some, fired_if_none, raw_frame, raw_header}
 use Rattle.hk_core.proofs.Inside.{shapes_fit}
 use Rattle.hk_core.proofs.Linked.{link_in_no_object}
 use Rattle.hk_core.proofs.kinds.Enter.{object_of}
@@ -47,7 +49,7 @@ use Rattle.hk_core.proofs.kinds.SpotToSweep.{pass_to_sweep, pass_head_to_sweep}
 use Rattle.hk_core.proofs.kinds.SpotSweepLines.{kept_current}
 use Rattle.hk_core.proofs.kinds.SpotClear.{clear}
 use Rattle.hk_core.proofs.kinds.SpotReset.{no_ranges, reset}
-use Rattle.hk_collect.proofs.Fitting.{in_space, own_hand, register_hand, cell_hand, cell_names, item_range, marks_at, formed, in_step, link_there, here_frame_trade, here_cell, here_object_trade}
+use Rattle.hk_collect.proofs.Fitting.{in_space, own_hand, register_hand, cell_hand, cell_names, item_names, item_range, marks_at, formed, in_step, link_there, here_frame_trade, here_cell, here_object_trade}
 use Rattle.hk_collect.proofs.Collected.{Collected, Spares, collected_row, collected_at, spares_all, spares_beside, spares_outside}
 
 -- a write finds nothing
@@ -59,6 +61,10 @@ found-write row word v = refl
 words-lost : (c : State) (word current new : ℕ) → old_of c.row (event.Trade word current new) ≢ current → words_of c.geometry (fired c.row (event.Trade word current new)) ≡ words_of c.geometry c.row
 words-lost c word current new differs =
     ap (words_of c.geometry) (fired_kept c.row (event.Trade word current new) (rw (ne_eqb (old_of c.row (event.Trade word current new)) current differs) refl))
+
+-- a place of the spaces fits its field
+place_small : (g : Geometry) (p : ℕ) → p ≤ 2 * space_words g → p < 2 ^ layout.place_bits
+place_small g p within = omega arith
 
 module _ (c : State) (history : History) (h : Lawful c history) where
   -- the event of a line
@@ -235,3 +241,89 @@ module _ (c : State) (history : History) (h : Lawful c history) where
       (words-write_cell g c.row h.sized.row p c.spot.cell lies.some lies.within) 0 (found-write c.row (space_at g p) c.spot.cell) h.range
       (cell_links g w (flight_at c) (begun_at c) c.spot (names_of g history) (contents_of g history) h.range i at (shapes_fit g history) h.facts)
       (spares_beside c history h (cell_words w p c.spot.cell) p c.spot.cell refl refl (link_beside (cell_hand c.spot i at)))
+
+  -- THE EXCHANGES
+
+  -- the exchange of a frame word that is still the loaded one
+  blackened_well : (s : ℕ) → c.spot.line ≡ line.FrameTrade s → word_of c.geometry c.row (Frame s) ≡ c.spot.first → Collected c history
+  unfolding event_at_line took_at_line table.frame_trade_event table.frame_trade_took words_of decoded
+  blackened_well s at same =
+      let g = c.geometry in
+      let w = words_of g c.row in
+      let below : s < tasks g = formed c history h (line.FrameTrade s) at in
+      let knows : c.spot.cycle ≡ w.cycle = h.facts.spot_knows_cycle in
+      let fits : w.cycle ≤ last_cycle = h.facts.cycle_fits in
+      let e = event.Trade (frame_at g s) c.spot.first (layout.frame_blackened c.spot.first c.spot.cycle) in
+      let version : w.frame_version s ≡ layout.frame_version c.spot.first = ap layout.frame_version (raw_frame g c.row s below ∙ same) in
+      let words : words_of g (fired c.row e) ≡ blackened_words w s =
+      words-blacken g c.row h.sized.row s c.spot.first c.spot.cycle below (omega arith) same ∙ ap (λ (k : ℕ). record w { frame_cycle = upd w.frame_cycle s k }) knows in
+      collected_at c history h (line.FrameTrade s) at e refl (blackened_words w s) words c.spot.first (found-trade_frame g c.row s c.spot.first _ ∙ same) h.range
+      (rw (eq-eqb c.spot.first c.spot.first refl) (frame_traded g w (flight_at c) (begun_at c) c.spot (names_of g history) (contents_of g history) h.range s at version h.facts))
+      (spares_all c history h (blackened_words w s) refl refl)
+
+  frame_lost_well : (s : ℕ) → c.spot.line ≡ line.FrameTrade s → word_of c.geometry c.row (Frame s) ≢ c.spot.first → Collected c history
+  unfolding event_at_line table.frame_trade_event
+  frame_lost_well s at differs =
+      let g = c.geometry in
+      let new = layout.frame_blackened c.spot.first c.spot.cycle in
+      let e = event.Trade (frame_at g s) c.spot.first new in
+      let found : learnt c.row (spot_event g c.spot) ≡ word_of g c.row (Frame s) = ap (learnt c.row) (event_at (line.FrameTrade s) at) ∙ found-trade_frame g c.row s c.spot.first new in
+      collected_row c history h h.range (words_of g c.row)
+      (frame_trade_lost_row g c.row (flight_at c) (begun_at c) c.spot (names_of g history) (contents_of g history) h.range h.facts s at (λ same. differs (sym found ∙ same)))
+      (words_at (line.FrameTrade s) at e refl (words_of g c.row) (words-lost c (frame_at g s) c.spot.first new (λ same. differs (sym (old_at g c.row e (Frame s) refl) ∙ same))))
+      (spares_all c history h (words_of g c.row) refl refl)
+
+  pub frame_trade_well : (s : ℕ) → c.spot.line ≡ line.FrameTrade s → Collected c history
+  frame_trade_well s at = elim (cases_eq (word_of c.geometry c.row (Frame s)) c.spot.first) [
+    | inl same ↦ blackened_well s at same
+    | inr differs ↦ frame_lost_well s at differs
+  ]
+
+  -- no call is inside an object whose header has no accessors
+  nobody_inside : (n : ℕ) → n < numbers c.geometry → (words_of c.geometry c.row).accessors n ≡ 0 → (s : ℕ) → s < tasks c.geometry → f.in_object (flight_at c s) ≡ true
+      → object_of (flight_at c s) ≢ n
+  unfolding f.is_inside
+  nobody_inside n within none s below inside same =
+      let some : 0 < (words_of c.geometry c.row).accessors n =
+      some_in_object c.geometry (words_of c.geometry c.row).accessors (flight_at c) s n below within (rw inside (eq-eqb (object_of (flight_at c s)) n same)) h.facts.accessors_counted in
+      omega arith
+
+  -- the exchange of a header that is still the loaded one: the object is moved
+  moved_well : c.spot.line ≡ line.ObjectTrade → word_of c.geometry c.row (Header (moved_number c.spot)) ≡ c.spot.first → Collected c history
+  unfolding event_at_line took_at_line table.object_trade_event table.object_trade_took words_of decoded l.is_marking
+  moved_well at same =
+      let g = c.geometry in
+      let w = words_of g c.row in
+      let n = moved_number c.spot in
+      let p = moved_to g c.spot in
+      let o = here_object_trade c history h at in
+      let marks = marks_at c history h line.ObjectTrade at refl in
+      let within : n < numbers g = (item_names c history h marks o.in_object.at_item).within in
+      let range : c.spot.scan + reference_size c.spot.item ≤ g.live = item_range c history h o.in_object.at_item marks in
+      let lies = in_space g (current_space c.spot.cycle) c.spot.scan (omega arith) (omega arith) in
+      let ends : p ≤ 2 * space_words g = lies.within in
+      let e = event.Trade (header_at g n) c.spot.first (layout.header_moved c.spot.first p) in
+      let version : w.version n ≡ layout.header_version c.spot.first = ap layout.header_version (raw_header g c.row n within ∙ same) in
+      collected_at c history h line.ObjectTrade at e refl (moved_words w n p)
+      (words-move g c.row h.sized.row n c.spot.first p within (place_small g p ends) same) c.spot.first (found-trade_header g c.row n c.spot.first _ ∙ same) h.range
+      (rw (eq-eqb c.spot.first c.spot.first refl) (object_traded g w (flight_at c) (begun_at c) c.spot (names_of g history) (contents_of g history) h.range at h.facts (shapes_fit g history) version))
+      (spares_outside c history h (moved_words w n p) n p refl refl (nobody_inside n within (o.in_object.behind.same_accessors version)))
+
+  object_lost_well : c.spot.line ≡ line.ObjectTrade → word_of c.geometry c.row (Header (moved_number c.spot)) ≢ c.spot.first → Collected c history
+  unfolding event_at_line table.object_trade_event
+  object_lost_well at differs =
+      let g = c.geometry in
+      let n = moved_number c.spot in
+      let new = layout.header_moved c.spot.first (moved_to g c.spot) in
+      let e = event.Trade (header_at g n) c.spot.first new in
+      let found : learnt c.row (spot_event g c.spot) ≡ word_of g c.row (Header n) = ap (learnt c.row) (event_at line.ObjectTrade at) ∙ found-trade_header g c.row n c.spot.first new in
+      collected_row c history h h.range (words_of g c.row)
+      (object_trade_lost_row g c.row (flight_at c) (begun_at c) c.spot (names_of g history) (contents_of g history) h.range h.facts at (λ same. differs (sym found ∙ same)))
+      (words_at line.ObjectTrade at e refl (words_of g c.row) (words-lost c (header_at g n) c.spot.first new (λ same. differs (sym (old_at g c.row e (Header n) refl) ∙ same))))
+      (spares_all c history h (words_of g c.row) refl refl)
+
+  pub object_trade_well : c.spot.line ≡ line.ObjectTrade → Collected c history
+  object_trade_well at = elim (cases_eq (word_of c.geometry c.row (Header (moved_number c.spot))) c.spot.first) [
+    | inl same ↦ moved_well at same
+    | inr differs ↦ object_lost_well at differs
+  ]

@@ -155,7 +155,7 @@ module _ (c : State) (history : History) (h : Lawful c history) where
   pub cell_names : l.has_reference c.spot.line ≡ true → NamesNumber c.geometry c.spot.cell
   cell_names deals = names_number c.spot.cell (h.facts.cell_good deals)
 
-  item_names : l.is_marking c.spot.line ≡ true → AtItem c.geometry (words_of c.geometry c.row) (spaces_of c.geometry (words_of c.geometry c.row).cycle) its_shades c.spot h.range
+  pub item_names : l.is_marking c.spot.line ≡ true → AtItem c.geometry (words_of c.geometry c.row) (spaces_of c.geometry (words_of c.geometry c.row).cycle) its_shades c.spot h.range
       → NamesNumber c.geometry c.spot.item
   item_names marks o =
       let g = c.geometry in

@@ -327,3 +327,99 @@ module _ (c : State) (history : History) (h : Lawful c history) where
     | inl same ↦ moved_well at same
     | inr differs ↦ object_lost_well at differs
   ]
+
+  -- THE COPY
+
+  -- the new place of a cell lies in no kept object
+  copy_beside : (i : ℕ) → c.spot.line ≡ line.Cell i stage.Write → (n : ℕ) → kept_in c history n ≡ true
+      → ¬ Covers ((words_of c.geometry c.row).place n) (size_in c history n) (moved_to c.geometry c.spot + 1 + i)
+  unfolding l.is_marking shades_of
+  copy_beside i at n kept covered =
+      let g = c.geometry in
+      let w = words_of g c.row in
+      let names = names_of g history in
+      let sh = shades_of g w (flight_at c) c.spot.line names in
+      let o = here_cell c history h i stage.Write at in
+      let marks = marks_at c history h (line.Cell i stage.Write) at refl in
+      let m = shades_mean g w (flight_at c) c.spot.line names in
+      let knows : c.spot.cycle ≡ w.cycle = h.facts.spot_knows_cycle in
+      let below : i + 1 < reference_size c.spot.item = o.cell in
+      let range : c.spot.scan + reference_size c.spot.item ≤ g.live = item_range c history h o.in_object.at_item marks in
+      let x = c.spot.scan + 1 + i in
+      let there : (spaces_of g c.spot.cycle).current + x ≡ moved_to g c.spot + 1 + i = omega arith in
+      let same : (spaces_of g w.cycle).current + x ≡ moved_to g c.spot + 1 + i = ap (λ (k : ℕ). (spaces_of g k).current + x) (sym knows) ∙ there in
+      let after : w.place n ≤ moved_to g c.spot + 1 + i = covered.after in
+      let before : moved_to g c.spot + 1 + i < w.place n + size_in c history n = covered.before in
+      let k = moved_to g c.spot + 1 + i - w.place n in
+      let whole : w.place n + k ≡ moved_to g c.spot + 1 + i = omega arith in
+      let size : sh.size n ≡ size_in c history n = m.size n in
+      in_no_object g w (spaces_of g w.cycle) sh (flight_at c) (begun_at c) (hands_of g (flight_at c) c.spot) c.spot names (contents_of g history) h.range h.facts
+      m (shapes_fit g history) marks o.in_object.at_item n k x kept (omega arith) (omega arith) (omega arith) (whole ∙ sym same)
+
+  pub cell_write_well : (i : ℕ) → c.spot.line ≡ line.Cell i stage.Write → Collected c history
+  unfolding event_at_line took_at_line table.cell_event table.cell_took l.is_marking
+  cell_write_well i at =
+      let g = c.geometry in
+      let w = words_of g c.row in
+      let p = moved_to g c.spot + 1 + i in
+      let o = here_cell c history h i stage.Write at in
+      let marks = marks_at c history h (line.Cell i stage.Write) at refl in
+      let below : i + 1 < reference_size c.spot.item = o.cell in
+      let range : c.spot.scan + reference_size c.spot.item ≤ g.live = item_range c history h o.in_object.at_item marks in
+      let lies = in_space g (current_space c.spot.cycle) (c.spot.scan + 1 + i) (omega arith) (omega arith) in
+      let ends : place_at g (current_space c.spot.cycle) (c.spot.scan + 1 + i) ≤ 2 * space_words g = lies.within in
+      collected_at c history h (line.Cell i stage.Write) at (event.Write (space_at g p) c.spot.cell) refl (cell_words w p c.spot.cell)
+      (words-write_cell g c.row h.sized.row p c.spot.cell (omega arith) (omega arith)) 0 (found-write c.row (space_at g p) c.spot.cell) h.range
+      (cell_copied g w (flight_at c) (begun_at c) c.spot (names_of g history) (contents_of g history) h.range i at (shapes_fit g history) h.facts)
+      (spares_beside c history h (cell_words w p c.spot.cell) p c.spot.cell refl refl (copy_beside i at))
+
+  -- THE PASS
+
+  pub pass_well : (n : ℕ) → c.spot.line ≡ line.Pass n → Collected c history
+  unfolding event_at_line took_at_line table.pass_event table.pass_took
+  pass_well n at =
+      let g = c.geometry in
+      let w = words_of g c.row in
+      let within : n < numbers g = formed c history h (line.Pass n) at in
+      let goes_on : (w.mark n ≡ w.cycle) ⊎ (n + 1 < numbers g) → Collected c history = λ e.
+      loads (line.Pass n) at (mark_at g n) refl
+      (pass_loads_row g c.row (flight_at c) (begun_at c) c.spot (names_of g history) (contents_of g history) h.range h.facts n at e) in
+      elim (cases_eq (w.mark n) w.cycle) [
+        | inl marked ↦ goes_on (inl marked)
+        | inr differs ↦ elim (cases_lt (n + 1) (numbers g)) [
+            | inl more ↦ goes_on (inr more)
+            | inr last ↦
+                let knows : c.spot.cycle ≡ w.cycle = h.facts.spot_knows_cycle in
+                let other : nat_eq (w.mark n) c.spot.cycle ≡ false = ne_eqb (w.mark n) c.spot.cycle (λ e. differs (e ∙ knows)) in
+                let ends : nat_lt (n + 1) (numbers g) ≡ false = le-ltb (n + 1) (numbers g) last in
+                collected_at c history h (line.Pass n) at (event.Load (mark_at g n)) refl w (words-load g c.row (mark_at g n)) (w.mark n) (found-mark g c.row n within) h.range
+                (rw (other, ends) (pass_to_sweep g w (flight_at c) (begun_at c) c.spot (names_of g history) (contents_of g history) h.range n last h.facts at differs))
+                (spares_all c history h w refl refl)
+          ]
+      ]
+
+  pub pass_head_well : (n : ℕ) → c.spot.line ≡ line.PassHead n → Collected c history
+  unfolding event_at_line took_at_line table.pass_head_event table.pass_head_took words_of decoded
+  pass_head_well n at =
+      let g = c.geometry in
+      let w = words_of g c.row in
+      let word = word_of g c.row (Header n) in
+      let within : n < numbers g = formed c history h (line.PassHead n) at in
+      let goes_on : (is_old g c.spot word ≡ true) ⊎ (n + 1 < numbers g) → Collected c history = λ e.
+      loads (line.PassHead n) at (header_at g n) refl
+      (pass_head_loads_row g c.row (flight_at c) (begun_at c) c.spot (names_of g history) (contents_of g history) h.range h.facts n at e) in
+      elim (cases_Bool (is_old g c.spot word)) [
+        | inl grey ↦ goes_on (inl grey)
+        | inr moved ↦ elim (cases_lt (n + 1) (numbers g)) [
+            | inl more ↦ goes_on (inr more)
+            | inr last ↦
+                let knows : c.spot.cycle ≡ w.cycle = h.facts.spot_knows_cycle in
+                let place : w.place n ≡ layout.header_place word = ap layout.header_place (raw_header g c.row n within) in
+                let elsewhere : is_in_space g (old_space w.cycle) (w.place n) ≡ false =
+                ap (λ (p : ℕ). is_in_space g (old_space w.cycle) p) place ∙ ap (λ (k : ℕ). is_in_space g (old_space k) (layout.header_place word)) (sym knows) ∙ moved in
+                let ends : nat_lt (n + 1) (numbers g) ≡ false = le-ltb (n + 1) (numbers g) last in
+                collected_at c history h (line.PassHead n) at (event.Load (header_at g n)) refl w (words-load g c.row (header_at g n)) word (found-header g c.row n) h.range
+                (rw (moved, ends) (pass_head_to_sweep g w (flight_at c) (begun_at c) c.spot (names_of g history) (contents_of g history) h.range n last h.facts at elsewhere))
+                (spares_all c history h w refl refl)
+          ]
+      ]

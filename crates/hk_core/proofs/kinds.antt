@@ -51,3 +51,9 @@ pub mod SpotFlip
 pub mod SpotToSweep
 pub mod SpotClear
 pub mod SpotReset
+pub mod SpotSweepWrite
+pub mod SpotSweepMark
+pub mod SpotSweepRead
+pub mod SpotSweepEmpty
+pub mod SpotSweepRow
+pub mod SpotSweepStep

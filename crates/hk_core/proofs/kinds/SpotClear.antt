@@ -1,8 +1,7 @@
 -- The clearing writes 0 to a word of the old space. Kept objects stand in the current space, so no word of theirs changes, and a
 -- word that is said to be 0 stays so.
-use Rattle.std.proofs.Common.{◌≡◌, ◌≢◌, ◌⊎◌, ℕ, ◌+◌, ◌*◌, ◌<◌, ◌≤◌, Bool, true, false, inl, inr, refl, sym, ◌∙◌, ap, subst, arith, Option, Some, None}
+use Rattle.std.proofs.Common.{◌≡◌, ℕ, ◌+◌, ◌*◌, ◌<◌, ◌≤◌, Bool, true, false, inl, inr, refl, sym, ◌∙◌, ap, subst, arith, Option, Some, None}
 use Rattle.std.proofs.lemmas.Bool.{cases_lt, le-ltb, lt-ltb}
-use Rattle.std.specs.Prelude.{nat_lt, if◌then◌else◌}
 use Rattle.hk_words.specs.declared.geometry.Geometry.{Geometry}
 use Rattle.hk_words.specs.Geometry.{list_length, space_words}
 use Rattle.hk_words.specs.Row.{place_at}
@@ -14,13 +13,13 @@ use Rattle.hk_core.specs.declared.spot.Line.{Line}
 use Rattle.hk_core.specs.declared.spot.Line.TheVariants as line
 use Rattle.hk_core.specs.Collect.{old_space, next_list, clear_took}
 use Rattle.hk_core.specs.View.{Words, Names, Contents, size_at, refs_at, nums_at, reference_at}
-use Rattle.hk_core.specs.Flights.{Hand, no_claim}
+use Rattle.hk_core.specs.Flights.{Hand}
 use Rattle.hk_core.specs.Lines as l
 use Rattle.hk_core.specs.Colours.{Spaces, spaces_of, Shades, shades_of}
 use Rattle.hk_core.specs.Facts as fact
 use Rattle.hk_core.specs.Lawful.{Facts, FactsOf, hands_of}
 use Rattle.hk_core.proofs.Update.{upd_cases}
-use Rattle.hk_core.proofs.kinds.SpotSweepLines.{QuietLine, quiet_line, sweep_spot, kept_current}
+use Rattle.hk_core.proofs.kinds.SpotSweepLines.{quiet_line, sweep_spot, kept_current}
 use Rattle.hk_core.proofs.kinds.Spots.{SpotFacts, hands_kept, shades_kept}
 use Rattle.hk_core.proofs.kinds.WriteCell.{ShadesMean, shades_mean}
 
@@ -179,4 +178,4 @@ clear g w flight begun t names contents range i at_clear h =
         let shades : shades_of g w' flight ln names ≡ shades_of g w flight t.line names = shades_kept g w flight t.line ln names (next.quiet ∙ sym quiet) in
         rw (hands, shades)
         (clear_facts g w (spaces_of g w.cycle) (shades_of g w flight t.line names) flight begun (hands_of g flight t) t names contents range h
-            (shades_mean g w flight t.line names) i (place_at g (old_space w.cycle) i) ln at_clear (from_start (old_space w.cycle * space_words g) i) next fits goes)
+        (shades_mean g w flight t.line names) i (place_at g (old_space w.cycle) i) ln at_clear (from_start (old_space w.cycle * space_words g) i) next fits goes)

@@ -1,11 +1,10 @@
 -- The flip: a swap of W0 to no words, no objects and the next cycle. Everything changes its part: the old space and the current
 -- one, the two lists, and the colours. No number is black or grey after it, since only the numbers of the list are marked for the
 -- next cycle, and these have no header; the kept numbers stay the same.
-use Rattle.std.proofs.Common.{◌≡◌, ◌≢◌, ◌⊎◌, ℕ, ◌+◌, ◌*◌, ◌%◌, ◌<◌, ◌≤◌, Bool, true, false, inl, inr, refl, sym, ◌∙◌, ap, subst, arith, Option, Some, None}
-use Rattle.std.proofs.lemmas.Bool.{both_ways, cases_eq, cases_lt, and_left, and_right, and_parts, eq-eqb, ne_eqb, eqb-true, lt-leb, le-ltb}
-use Rattle.std.specs.Prelude.{nat_eq, nat_lt, nat_le, not, ◌&&◌, ◌||◌, is_some}
+use Rattle.std.proofs.Common.{◌≡◌, ◌≢◌, ℕ, ◌+◌, ◌*◌, ◌%◌, ◌<◌, ◌≤◌, Bool, true, false, inl, inr, refl, sym, ◌∙◌, ap, subst, arith, Option, Some, None}
+use Rattle.std.proofs.lemmas.Bool.{cases_eq, cases_lt, and_left, and_right, and_parts, eq-eqb, ne_eqb, eqb-true, lt-leb, le-ltb}
+use Rattle.std.specs.Prelude.{nat_eq, nat_lt, not, ◌&&◌, is_some}
 use Rattle.hk_words.specs.declared.geometry.Geometry.{Geometry}
-use Rattle.hk_words.specs.declared.shape.TheConstants.{MAX_FIELDS}
 use Rattle.hk_words.specs.Geometry.{tasks, numbers, list_length, space_words}
 use Rattle.hk_words.specs.Layout as layout
 use Rattle.hk_words.specs.Row.{place_at}
@@ -13,21 +12,20 @@ use Rattle.hk_core.specs.declared.flight.Flight.{Flight}
 use Rattle.hk_core.specs.declared.spot.Spot.{Spot}
 use Rattle.hk_core.specs.declared.spot.Line.TheVariants as line
 use Rattle.hk_core.specs.Counts.{count_below}
-use Rattle.hk_core.specs.Collect.{current_space, next_list, last_cycle, rest_took}
+use Rattle.hk_core.specs.Collect.{next_list, last_cycle, rest_took}
 use Rattle.hk_core.specs.View.{Words, Names, Contents, reference_at}
 use Rattle.hk_core.specs.Flights as f
 use Rattle.hk_core.specs.Flights.{Hand, no_claim, to_reserve, to_link}
 use Rattle.hk_core.specs.Lines as l
-use Rattle.hk_core.specs.Colours.{Spaces, LiesIn, InCurrent, InOld, spaces_of, Shades, shades_of, held_by, kept_by, white_by, grey_by, black_by, black_frame_by, is_fresh, is_within, IsGood}
+use Rattle.hk_core.specs.Colours.{Spaces, InCurrent, InOld, spaces_of, Shades, shades_of, held_by, kept_by, white_by, grey_by, black_by, black_frame_by, is_fresh, is_within, IsGood}
 use Rattle.hk_core.specs.Facts as fact
 use Rattle.hk_core.specs.Facts.{HasNoHeader, IsUnread, IsOwn, IsMoved, FoundRoom, IsRecent, IsSettled}
 use Rattle.hk_core.specs.Lawful.{Facts, FactsOf, hands_of}
 use Rattle.hk_core.proofs.Counts.{count_bounded}
 use Rattle.hk_core.proofs.kinds.LoadRead.{ColoursMean, colours_mean, some_words}
-use Rattle.hk_core.proofs.kinds.NewHeader.{object_through, cycle_inside_through, loaded_inside_through}
+use Rattle.hk_core.proofs.kinds.NewHeader.{cycle_inside_through, loaded_inside_through}
 use Rattle.hk_core.proofs.kinds.NewRaise.{making_raised}
 use Rattle.hk_core.proofs.kinds.Read.{refuted}
-use Rattle.hk_core.proofs.kinds.Seats.{KeptMeans}
 use Rattle.hk_core.proofs.kinds.SpotSweepCounts.{count_listed}
 use Rattle.hk_core.proofs.kinds.SpotSweepLines.{kept_marked, kept_current, none_reserves}
 use Rattle.hk_core.proofs.kinds.Spots.{hands_kept}
@@ -372,7 +370,6 @@ module _ (g : Geometry) (w : Words) (z : Spaces) (sh : Shades) (flight : ℕ →
         marks_not : {A : Type 0} → true ≡ false → A
         marks_not e = absurd (cc)
 
-
 -- THE FLIP
 
 -- no number is grey or black after it, and no frame
@@ -419,11 +416,11 @@ flip g w flight begun t names contents range at_rest early h =
     ap (λ (k : ℕ → Bool). record { white = white'; grey = grey'; black = black'; black_frame = frame'; kept = k; size = sh.size }) kept in
     rw (hands, shades)
     (subst (λ (k : Spaces). Facts g (flipped_words w) k (record sh { white = white'; grey = grey'; black = black'; black_frame = frame' }) flight begun (hands_of g flight t) (flipped_spot t) names contents range)
-        (sym (spaces_turned g w.cycle))
+    (sym (spaces_turned g w.cycle))
     (flip_facts g w z sh flight begun (hands_of g flight t) t names contents range h m colours at_rest (omega arith) white' grey' black' frame'
-        (λ n within. colourless (spaces_of g c).old n (some_place g ((c + 1) % 2)) within)
-        (λ n within. colourless (spaces_of g c).current n (some_place g (c % 2)) within)
-        frames (none_reserves g w flight begun t names contents range marks h)))
+    (λ n within. colourless (spaces_of g c).old n (some_place g ((c + 1) % 2)) within)
+    (λ n within. colourless (spaces_of g c).current n (some_place g (c % 2)) within)
+    frames (none_reserves g w flight begun t names contents range marks h)))
 
 -- the spot takes that
 pub flip_took : (t : Spot) → t.cycle < last_cycle → rest_took t ≡ flipped_spot t

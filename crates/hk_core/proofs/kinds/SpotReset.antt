@@ -1,17 +1,17 @@
 -- The end of the cycle: no word is reserved any more, and the collector rests. Each range belongs to a kept object that stands in
 -- it, so the words of the area for evacuation that lie in no kept object are those that lie in no range.
-use Rattle.std.proofs.Common.{◌≡◌, ◌≢◌, ◌⊎◌, ℕ, ◌+◌, ◌<◌, ◌≤◌, Bool, true, false, inl, inr, refl, sym, ◌∙◌, ap, subst, arith, Option, Some, None}
+use Rattle.std.proofs.Common.{◌≡◌, ℕ, ◌+◌, ◌<◌, ◌≤◌, true, false, refl, sym, ◌∙◌, ap, subst, arith, Option, Some, None}
 use Rattle.std.proofs.lemmas.Bool.{both_ways}
 use Rattle.hk_words.specs.declared.geometry.Geometry.{Geometry}
-use Rattle.hk_words.specs.Geometry.{tasks, list_length, space_words}
+use Rattle.hk_words.specs.Geometry.{list_length, space_words}
 use Rattle.hk_core.specs.declared.flight.Flight.{Flight}
 use Rattle.hk_core.specs.declared.spot.Spot.{Spot}
 use Rattle.hk_core.specs.declared.spot.Line.TheVariants as line
 use Rattle.hk_core.specs.Collect.{next_list}
 use Rattle.hk_core.specs.View.{Words, Names, Contents, reference_at}
-use Rattle.hk_core.specs.Flights.{Hand, to_link}
+use Rattle.hk_core.specs.Flights.{Hand}
 use Rattle.hk_core.specs.Lines as l
-use Rattle.hk_core.specs.Colours.{Spaces, spaces_of, Shades, shades_of, Covers}
+use Rattle.hk_core.specs.Colours.{Spaces, spaces_of, Shades, shades_of}
 use Rattle.hk_core.specs.Facts as fact
 use Rattle.hk_core.specs.Facts.{HoldsRange, HoldsClaim, IsMoved}
 use Rattle.hk_core.specs.Lawful.{Facts, FactsOf, hands_of}
@@ -110,4 +110,4 @@ reset g w flight begun t names contents range at_reset h =
     let shades : shades_of g w flight line.Rest names ≡ shades_of g w flight t.line names = shades_kept g w flight t.line line.Rest names (sym (ap l.is_marking at_reset)) in
     rw (hands, shades)
     (reset_facts g w (spaces_of g w.cycle) (shades_of g w flight t.line names) flight begun (hands_of g flight t) t names contents range h
-        (shades_mean g w flight t.line names) at_reset)
+    (shades_mean g w flight t.line names) at_reset)

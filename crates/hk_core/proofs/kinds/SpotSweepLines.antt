@@ -1,21 +1,20 @@
 -- What the collector's events from the step into the sweep to the flip have in common. On these lines the collector is in the
 -- middle of no frame, no object and no claim, and the state is settled: a kept number is black, and nobody has a claim in hand.
 -- The facts that read the spot say less then; what is left stands here as SweepFacts (`sweep_spot`).
-use Rattle.std.proofs.Common.{◌≡◌, ◌≢◌, ℕ, ◌+◌, ◌<◌, ◌≤◌, Bool, true, false, inl, inr, refl, sym, ◌∙◌, ap, subst, arith, Option, Some, None}
-use Rattle.std.proofs.lemmas.Bool.{both_ways, cases_eq, cases_Bool, cases_lt, and_parts, leb-true, le-leb, lt-ltb, le-ltb}
+use Rattle.std.proofs.Common.{◌≡◌, ◌≢◌, ℕ, ◌+◌, ◌<◌, ◌≤◌, Bool, true, false, inl, inr, refl, sym, ◌∙◌, subst, arith, Option, Some, None}
+use Rattle.std.proofs.lemmas.Bool.{both_ways, cases_lt, and_parts, lt-ltb, le-ltb}
 use Rattle.std.proofs.lemmas.Bool.Decides.{nat_tests}
-use Rattle.std.specs.Prelude.{nat_eq, nat_le, nat_lt, ◌&&◌, if◌then◌else◌}
+use Rattle.std.specs.Prelude.{nat_le, ◌&&◌, if◌then◌else◌}
 use Rattle.hk_words.specs.declared.geometry.Geometry.{Geometry}
 use Rattle.hk_words.specs.declared.call.Call.{Call}
 use Rattle.hk_words.specs.declared.call.Call.TheVariants as call
-use Rattle.hk_words.specs.Geometry.{tasks, numbers, list_length}
+use Rattle.hk_words.specs.Geometry.{tasks, numbers}
 use Rattle.hk_words.specs.Calls.{RegistersFit}
 use Rattle.hk_words.specs.Layout as layout
 use Rattle.hk_core.specs.declared.flight.Flight.{Flight}
 use Rattle.hk_core.specs.declared.spot.Spot.{Spot}
 use Rattle.hk_core.specs.declared.spot.Line.{Line}
 use Rattle.hk_core.specs.declared.spot.Line.TheVariants as line
-use Rattle.hk_core.specs.Begin.{copied}
 use Rattle.hk_core.specs.Collect.{next_list}
 use Rattle.hk_core.specs.Counts.{count_below}
 use Rattle.hk_core.specs.Step.{reserved_fits}
@@ -23,12 +22,12 @@ use Rattle.hk_core.specs.View.{Words, Names, Contents}
 use Rattle.hk_core.specs.Flights as f
 use Rattle.hk_core.specs.Flights.{Hand, no_claim, to_reserve, to_link, hand_of_flight}
 use Rattle.hk_core.specs.Lines as l
-use Rattle.hk_core.specs.Colours.{Spaces, InCurrent, spaces_of, Shades, shades_of, held_by, IsGood, IsNullOrGood}
+use Rattle.hk_core.specs.Colours.{Spaces, InCurrent, Shades, shades_of, held_by, IsNullOrGood}
 use Rattle.hk_core.specs.Facts as fact
 use Rattle.hk_core.specs.Facts.{IsSettled, HoldsClaim, IsMoved}
 use Rattle.hk_core.specs.Lawful.{Facts, FactsOf, hands_of}
 use Rattle.hk_core.proofs.kinds.Seats.{KeptMeans, kept_means}
-use Rattle.hk_core.proofs.kinds.WriteCell.{IsGreyIn, ShadesMean, shades_mean, fresh_when_done}
+use Rattle.hk_core.proofs.kinds.WriteCell.{ShadesMean, fresh_when_done}
 use Rattle.hk_core.proofs.kinds.LoadRead.{some_words}
 use Rattle.hk_core.proofs.kinds.Spots.{SpotFacts}
 use Rattle.hk_core.proofs.kinds.SpotSweepCounts.{count_none}
@@ -210,7 +209,7 @@ hand_reserves g x item c e = parts (x.claimer && f.reserves_at x.call x.place) r
 
     parts : (b : Bool) → (x.claimer && f.reserves_at x.call x.place) ≡ b
         → (if b then to_reserve x.item (layout.w0_cycle x.word)
-            else if x.claimer && (f.links_at x.call x.place && reserved_fits g x.offset x.item) then to_link x.item (layout.w0_cycle x.word) x.offset else no_claim) ≡ to_reserve item c
+        else if x.claimer && (f.links_at x.call x.place && reserved_fits g x.offset x.item) then to_link x.item (layout.w0_cycle x.word) x.offset else no_claim) ≡ to_reserve item c
         → (f.reserves_at x.call x.place ≡ true) × (x.item ≡ item)
     parts true is e = let same : x.item ≡ item = cc in ((and_parts _ _ is).1, same)
     parts false is e = absurd (linking (x.claimer && (f.links_at x.call x.place && reserved_fits g x.offset x.item)) e)

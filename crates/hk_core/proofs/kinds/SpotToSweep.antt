@@ -1,19 +1,16 @@
 -- The step into the sweep: the pass has come to the end, and no number is grey. The state is settled then. No word changes, but
 -- the collector looks for no objects any more: white numbers aren't kept from here on, and no register word and no reference of a
 -- call in flight names one.
-use Rattle.std.proofs.Common.{◌≡◌, ◌≢◌, ◌⊎◌, ℕ, ◌+◌, ◌*◌, ◌<◌, ◌≤◌, Bool, true, false, inl, inr, refl, sym, ◌∙◌, ap, arith, Option, Some, None}
-use Rattle.std.proofs.lemmas.Bool.{both_ways, cases_eq, cases_Bool, cases_lt, or_cases, and_parts, and_from, and_left, eqb-true, eq-eqb, ne_eqb, le-leb, lt-ltb}
+use Rattle.std.proofs.Common.{◌≡◌, ◌≢◌, ◌⊎◌, ℕ, ◌+◌, ◌*◌, ◌<◌, ◌≤◌, Bool, true, false, inl, inr, refl, sym, ◌∙◌, ap, arith, Option, Some}
+use Rattle.std.proofs.lemmas.Bool.{cases_Bool, or_cases, and_parts, and_from, and_left, eqb-true, eq-eqb, ne_eqb, le-leb, lt-ltb}
 use Rattle.std.proofs.lemmas.Bool.Decides.{nat_tests}
-use Rattle.std.specs.Prelude.{nat_eq, nat_le, nat_lt, ◌&&◌, ◌||◌, if◌then◌else◌}
+use Rattle.std.specs.Prelude.{nat_eq, nat_le, nat_lt, ◌&&◌}
 use Rattle.hk_words.specs.declared.geometry.Geometry.{Geometry}
 use Rattle.hk_words.specs.declared.call.Call.{Call}
 use Rattle.hk_words.specs.declared.call.Call.TheVariants as call
 use Rattle.hk_words.specs.Geometry.{tasks, numbers, list_length, space_words}
-use Rattle.hk_words.specs.Layout as layout
-use Rattle.hk_words.specs.Row.{place_at}
 use Rattle.hk_core.specs.declared.flight.Flight.{Flight}
 use Rattle.hk_core.specs.declared.spot.Spot.{Spot}
-use Rattle.hk_core.specs.declared.spot.Line.{Line}
 use Rattle.hk_core.specs.declared.spot.Line.TheVariants as line
 use Rattle.hk_core.specs.declared.spot.Stage.TheVariants as stage
 use Rattle.hk_core.specs.Collect.{old_space, next_list, is_in_space}
@@ -149,10 +146,14 @@ module _ (g : Geometry) (w : Words) (z : Spaces) (sh : Shades) (flight : ℕ →
   link_stays_kept : (n b i : ℕ) → kept' n ≡ true → names.bearer n ≡ Some b → i < names.refs b → IsNullOrKept kept' names (contents.link b i)
   link_stays_kept n b i kept borne within = elim (h.links_kept n b (was_kept n kept) borne i within) [
     | inl none ↦ inl none
-    | inr found ↦ inr (found.0, found.1, record {
+    | inr found ↦ inr (
+      found.0,
+      found.1,
+      record {
         is_kept = dark_kept _ found.2.is_kept (h.black_leads_to_no_white n b (was_kept n kept) (marked_black n kept) borne i found.0 within found.1);
         bears = found.2.bears;
-      })
+      },
+    )
   ]
 
   -- an object that covers a word of the current space and is kept stays kept
@@ -245,7 +246,7 @@ to_sweep g w flight begun t names contents range marking hand settled h =
     let p = and_parts _ _ e in and_from _ _ p.0 (and_from _ _ (and_parts _ _ p.1).0 (fresh_now w.cycle false (w.mark n) marked)) in
     rw hands
     (to_sweep_facts g w (spaces_of g w.cycle) sh flight begun (hands_of g flight t) t names contents range h
-        (shades_mean g w flight t.line names) (colours_mean g w flight t.line names) marking settled kept' was_kept is_marked stays)
+    (shades_mean g w flight t.line names) (colours_mean g w flight t.line names) marking settled kept' was_kept is_marked stays)
 
 -- THE PASS
 

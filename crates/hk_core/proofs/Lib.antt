@@ -24,3 +24,6 @@ pub mod RowOfStore
 pub mod Linked
 pub mod Actions
 pub mod Seven
+pub mod Unused
+pub mod Room
+pub mod Turns

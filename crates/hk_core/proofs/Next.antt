@@ -44,11 +44,11 @@ event_at_place : (c : State) (s : ℕ) (e : Option Event) (y : Flight) (o : Opti
 unfolding event_by flight_at
 event_at_place c s e y o does = does.event
 
-found_at_place : (c : State) (s : ℕ) (e : Option Event) (y : Flight) (o : Option Entry) → DoesPlace c s e y o → found_by c s ≡ learnt c.row e
+pub found_at_place : (c : State) (s : ℕ) (e : Option Event) (y : Flight) (o : Option Entry) → DoesPlace c s e y o → found_by c s ≡ learnt c.row e
 unfolding found_by
 found_at_place c s e y o does = ap (learnt c.row) (event_at_place c s e y o does)
 
-history_at_place : (c : State) (history : History) (s : ℕ) (e : Option Event) (y : Flight) (o : Option Entry) → DoesPlace c s e y o
+pub history_at_place : (c : State) (history : History) (s : ℕ) (e : Option Event) (y : Flight) (o : Option Entry) → DoesPlace c s e y o
     → history_after c s history ≡ history ++ option_to_list o
 unfolding history_after flight_at
 history_at_place c history s e y o does =

@@ -2,7 +2,6 @@
 -- lawful state lawful, and leaves the objects alone that calls are inside.
 use Rattle.std.proofs.Common.{◌≡◌, ◌≢◌, ℕ, ◌<◌, ◌≤◌, true, false, refl, sym, ◌∙◌, ap, Option, Some, None}
 use Rattle.std.proofs.lemmas.Bool.{ltb-true}
-use Rattle.hk_words.specs.declared.geometry.Geometry.{Geometry}
 use Rattle.hk_words.specs.declared.call.Call.{Call}
 use Rattle.hk_words.specs.declared.call.Call.TheVariants as call
 use Rattle.hk_words.specs.declared.shape.Shape.{Shape}
@@ -15,11 +14,10 @@ use Rattle.hk_model.specs.View.{upd}
 use Rattle.hk_model.proofs.Updates.{upd_other}
 use Rattle.hk_core.specs.declared.event.Event.{Event}
 use Rattle.hk_core.specs.declared.event.Event.TheVariants as event
-use Rattle.hk_core.specs.declared.flight.Flight.{Flight}
 use Rattle.hk_core.specs.Event.{fired_if, learnt}
 use Rattle.hk_core.specs.State.{State}
 use Rattle.hk_core.specs.Step.{reference_cell, event_of, took_of, effect_of}
-use Rattle.hk_core.specs.View.{Words, Names, Contents, words_of, names_of, contents_of, flight_at, begun_at}
+use Rattle.hk_core.specs.View.{Words, words_of, names_of, contents_of, flight_at, begun_at}
 use Rattle.hk_core.specs.Flights as f
 use Rattle.hk_core.specs.Colours.{shades_of}
 use Rattle.hk_core.specs.Lawful.{FactsOf, Lawful}
@@ -28,8 +26,8 @@ use Rattle.hk_core.proofs.Columns.{fired_if_none}
 use Rattle.hk_core.proofs.Next.{StepsTo, StepsWell, steps_to, steps_to_silent, steps_on_row, steps_well, steps_well_kept}
 use Rattle.hk_core.proofs.Inside.{shapes_fit, reference_in_spaces}
 use Rattle.hk_core.proofs.Rows.{words_some}
-use Rattle.hk_core.proofs.RowOfLoad.{LoadPlaces, load_steps}
-use Rattle.hk_core.proofs.RowOfStore.{StorePlaces, store_steps}
+use Rattle.hk_core.proofs.RowOfLoad.{load_steps}
+use Rattle.hk_core.proofs.RowOfStore.{store_steps}
 use Rattle.hk_core.proofs.Plain.{get_steps, put_steps, move_steps, clear_steps}
 use Rattle.hk_core.proofs.kinds.Words.{words-load, words-write_register, words-write_cell}
 use Rattle.hk_core.proofs.kinds.WriteRegister.{writing_words}
@@ -42,7 +40,7 @@ use Rattle.hk_core.proofs.kinds.ReserveSeats.{SparesObjects, bearers_have_fields
 use Rattle.hk_core.proofs.kinds.ReserveSeats.{load_claims_row, load_claims_spare, load_claim_entry, load_reserves_row, load_reserves_spare, load_reserve_entry}
 use Rattle.hk_core.proofs.kinds.ReserveSeats.{store_claims_row, store_claims_spare, store_claim_entry, store_reserves_row, store_reserves_spare, store_reserve_entry}
 use Rattle.hk_core.proofs.kinds.LinkSeats.{load_links_row, load_links_spare, load_link_entry, store_links_row, store_links_spare, store_link_entry}
-use Rattle.hk_core.proofs.kinds.NewSteps.{NewStep, new_step}
+use Rattle.hk_core.proofs.kinds.NewSteps.{new_step}
 
 module _ (c : State) (history : History) (s : ℕ) (below : s < tasks c.geometry) (h : Lawful c history) where
   -- the words after the event of the place

@@ -1,22 +1,31 @@
 -- Laws of the machine, over its definitions alone.
-use Rattle.std.specs.Prelude.{◌≡◌, ◌↔◌, ℕ, ◌<◌, ◌≤◌, true, false, Some, None}
+use Rattle.std.specs.Prelude.{◌≡◌, ◌↔◌, ℕ, ◌<◌, ◌≤◌, true, false, Some, None, List, ◌+◌}
 use Rattle.hk_words.specs.declared.call.Call.{Call}
+use Rattle.hk_words.specs.declared.call.Call.TheVariants.{New}
+use Rattle.hk_words.specs.declared.shape.Shape.{Shape}
 use Rattle.hk_words.specs.Geometry.{tasks}
 use Rattle.hk_words.specs.Layout.{reference_number}
 use Rattle.hk_words.specs.Calls.{RegistersFit}
-use Rattle.hk_model.specs.History.{History, is_question}
+use Rattle.hk_model.specs.Heap.{opening_of}
+use Rattle.hk_model.specs.History.{History, Legal, after, is_question}
 use Rattle.hk_core.specs.declared.outcome.Fault.{Fault}
+use Rattle.hk_core.specs.declared.outcome.Step.TheVariants.{Ended}
+use Rattle.hk_core.specs.declared.outcome.Outcome.TheVariants.{Full}
 use Rattle.hk_core.specs.State.{State, IsSized, flight_of}
 use Rattle.hk_core.specs.Step.{places_of, next, answer_by, history_after}
 use Rattle.hk_core.specs.Begin.{refusal, first_flight, after_begin}
-use Rattle.hk_core.specs.Run.{registers_fit}
+use Rattle.hk_core.specs.Run.{Action, Running, run, registers_fit}
 use Rattle.hk_core.specs.Fits.{CanStep}
-use Rattle.hk_core.specs.View.{words_of}
+use Rattle.hk_core.specs.View.{words_of, names_of}
 use Rattle.hk_core.specs.Flights.{in_object}
-use Rattle.hk_core.specs.Colours.{Covers}
+use Rattle.hk_core.specs.Colours.{Covers, IsKeptBirth}
 use Rattle.hk_core.specs.Lawful.{Lawful}
-use Rattle.hk_core.specs.Places.{GoesOn, Ends, KeepsOthers}
-use Rattle.hk_core.specs.Inside.{cell_written, IsLeftAlone, size_in, StandsApart}
+use Rattle.hk_core.specs.Places.{GoesOn, Ends, KeepsOthers, RowLengths}
+use Rattle.hk_core.specs.Turns.{steps_of, StandsLater}
+use Rattle.hk_core.specs.Refused.{TellsRoom, EndsFull}
+use Rattle.hk_core.specs.Fresh.{IsFresh}
+use Rattle.hk_core.specs.Reach.{Reached}
+use Rattle.hk_core.specs.Inside.{cell_written, IsLeftAlone, kept_in, size_in, StandsApart}
 
 -- LAWFUL STATES
 
@@ -29,6 +38,10 @@ BeginKeepsLawful = (c : State) (history : History) (seat : ℕ) (call : Call) �
 abbrev pub StepKeepsLawful : Type 0
 StepKeepsLawful = (c : State) (history : History) (seat : ℕ) → seat < tasks c.geometry → 1 ≤ (flight_of c.flights seat).place
     → Lawful c history → Lawful (next c seat) (history_after c seat history)
+
+-- each reply in the history of a lawful state is the one that the plain heap gives at that point
+abbrev pub LawfulIsLegal : Type 0
+LawfulIsLegal = (c : State) (history : History) → Lawful c history → Legal (opening_of c.geometry) history
 
 -- in a lawful state each seat in flight can step, whatever its call
 abbrev pub LawfulCanStep : Type 0
@@ -66,12 +79,55 @@ StepEnds = (c : State) (seat : ℕ) → IsSized c → seat < tasks c.geometry �
     → (flight_of c.flights seat).place ≡ places_of (flight_of c.flights seat).call
     → Ends (flight_of c.flights seat) (flight_of (next c seat).flights seat) (answer_by c seat)
 
+-- so a call ends at its tenth step where it is a Load, and at its seventh where it is a Store or a New
+abbrev pub RowsAreSoLong : Type 0
+RowsAreSoLong = RowLengths
+
 abbrev pub StepsAlone : Type 0
 StepsAlone = (c : State) (seat : ℕ) → IsSized c → seat < tasks c.geometry → KeepsOthers c (next c seat) seat
 
 -- a test of the registers of a call says that they fit
 abbrev pub RegistersTested : Type 0
 RegistersTested = (registers : ℕ) (call : Call) → (registers_fit registers call ≡ true) ↔ RegistersFit registers call
+
+-- Whatever begins, steps of other seats and events of the collector come between, a call in flight stands one place later
+-- for each step of its own seat.
+abbrev pub TakesItsSteps : Type 0
+TakesItsSteps = (r : Running) (seat : ℕ) (actions : List Action) → IsSized r.core → seat < tasks r.core.geometry
+    → 1 ≤ (flight_of r.core.flights seat).place
+    → (flight_of r.core.flights seat).place + steps_of seat actions ≤ places_of (flight_of r.core.flights seat).call
+    → StandsLater (flight_of r.core.flights seat) (flight_of (run r actions).core.flights seat) (steps_of seat actions)
+
+-- So it ends at exactly the step that its row says: a Load at its tenth, a Store or a New at its seventh.
+abbrev pub EndsAtItsLastStep : Type 0
+EndsAtItsLastStep = (r : Running) (seat : ℕ) (actions : List Action) → IsSized r.core → seat < tasks r.core.geometry
+    → 1 ≤ (flight_of r.core.flights seat).place
+    → (flight_of r.core.flights seat).place + steps_of seat actions ≡ places_of (flight_of r.core.flights seat).call
+    → let c = (run r actions).core in
+    Ends (flight_of c.flights seat) (flight_of (next c seat).flights seat) (answer_by c seat)
+
+-- NEWS
+
+-- a step of a New tells whether there was room
+abbrev pub NewTellsRoom : Type 0
+NewTellsRoom = (c : State) (history : History) (seat dest : ℕ) (shape : Shape) → seat < tasks c.geometry → 1 ≤ (flight_of c.flights seat).place
+    → (flight_of c.flights seat).call ≡ New dest shape → Lawful c history → TellsRoom c history seat dest shape
+
+-- and a step answers that there was none exactly at the last place of a New that is full
+abbrev pub AnswersFull : Type 0
+AnswersFull = (c : State) (seat words : ℕ) → (answer_by c seat ≡ Ended (Full words)) ↔ EndsFull (flight_of c.flights seat) words
+
+-- every birth of the plain heap that can be reached is kept: it is the last that bears its number, which is the number of
+-- an object of the machine
+abbrev pub ReachedIsKept : Type 0
+ReachedIsKept = (c : State) (history : History) (birth : ℕ) → Lawful c history → Reached c.geometry (after (opening_of c.geometry) history) birth
+    → IsKeptBirth (kept_in c history) (names_of c.geometry history) birth
+
+-- the number that a New loads from its entry is in use nowhere
+abbrev pub NumbersAreFresh : Type 0
+NumbersAreFresh = (c : State) (history : History) (seat dest : ℕ) (shape : Shape) → seat < tasks c.geometry
+    → (flight_of c.flights seat).call ≡ New dest shape → (flight_of c.flights seat).place ≡ 4 → (flight_of c.flights seat).full ≡ false → Lawful c history
+    → IsFresh c history seat (flight_of (next c seat).flights seat).number
 
 -- OBJECTS THAT CALLS ARE INSIDE
 

@@ -16,4 +16,7 @@ pub mod Stands
 pub mod Fits
 pub mod Places
 pub mod Inside
+pub mod Turns
+pub mod Refused
+pub mod Fresh
 pub mod Laws

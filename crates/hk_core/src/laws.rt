@@ -1,15 +1,17 @@
 //! Laws of the machine, over its definitions alone.
-ghost use Rattle.hk_core.specs.Laws.{BeginKeepsLawful, StepKeepsLawful, LawfulCanStep, RefusedChangesNothing, BeginsAtFirst, BeginsAlone, StaysInRow, StepGoesOn, StepEnds, StepsAlone, RegistersTested, StepsLeaveAlone, InsideStandsApart, InsideKnowsPlace, WritesOwn};
+ghost use Rattle.hk_core.specs.Laws.{BeginKeepsLawful, StepKeepsLawful, LawfulCanStep, LawfulIsLegal, NewTellsRoom, AnswersFull, ReachedIsKept, NumbersAreFresh, RowsAreSoLong, TakesItsSteps, EndsAtItsLastStep, RefusedChangesNothing, BeginsAtFirst, BeginsAlone, StaysInRow, StepGoesOn, StepEnds, StepsAlone, RegistersTested, StepsLeaveAlone, InsideStandsApart, InsideKnowsPlace, WritesOwn};
 
-/// Begins and steps keep a lawful state lawful, for the history that they lead to; and no seat in flight is ever stuck.
+/// Begins and steps keep a lawful state lawful, for the history that they lead to, whatever the call; each reply in that
+/// history is the one of the plain heap; and no seat in flight is ever stuck.
 pub fn lawful_states()
     ensures begin { BeginKeepsLawful }
     ensures step { StepKeepsLawful }
+    ensures legal { LawfulIsLegal }
     ensures can_step { LawfulCanStep }
 {}
 
 /// A call goes through the places of its row one by one: it begins at the first, each step leads to the next, and the
-/// step at the last place ends it. A begin that is refused changes nothing, and no begin or step changes the flight of
+/// step at the last place ends it: the tenth of a Load, the seventh of a Store or a New. A begin that is refused changes nothing, and no begin or step changes the flight of
 /// another seat.
 pub fn places_in_order()
     ensures refused { RefusedChangesNothing }
@@ -18,6 +20,7 @@ pub fn places_in_order()
     ensures in_row { StaysInRow }
     ensures goes_on { StepGoesOn }
     ensures ends { StepEnds }
+    ensures lengths { RowsAreSoLong }
     ensures steps_alone { StepsAlone }
     ensures registers { RegistersTested }
 {}
@@ -29,4 +32,26 @@ pub fn inside_an_object()
     ensures apart { InsideStandsApart }
     ensures place { InsideKnowsPlace }
     ensures own { WritesOwn }
+{}
+
+/// Whatever others do in between, a call goes on by the steps of its own seat, one place at each, and ends at exactly the
+/// last one of its row.
+pub fn steps_of_a_call()
+    ensures later { TakesItsSteps }
+    ensures ends { EndsAtItsLastStep }
+{}
+
+/// A New that is full answers at its last place how many words were used where it found too few, and no other step answers
+/// so. It is full exactly where the W0 that it loaded left too few words for its seat, or the W0 that it raised left too
+/// few for anybody. That place, and no other, adds to the history that there was no room, which changes nothing of the
+/// plain heap.
+pub fn news_without_room()
+    ensures tells { NewTellsRoom }
+    ensures answers { AnswersFull }
+{}
+
+/// Every birth that can be reached is kept, and a New is given no number that is in use.
+pub fn fresh_numbers()
+    ensures kept { ReachedIsKept }
+    ensures fresh { NumbersAreFresh }
 {}

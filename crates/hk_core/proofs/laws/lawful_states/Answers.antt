@@ -15,3 +15,6 @@ returns-clause-step c = λ state history seat below flying h. (seat_steps state 
 pub returns-clause-can_step : goal.returns-clause-can_step
 unfolding flight_at
 returns-clause-can_step c = λ state history seat below flying h. can_step state history seat below h flying
+
+pub returns-clause-legal : goal.returns-clause-legal
+returns-clause-legal c = λ state history h. h.legal

@@ -57,3 +57,4 @@ pub mod SpotSweepRead
 pub mod SpotSweepEmpty
 pub mod SpotSweepRow
 pub mod SpotSweepStep
+pub mod SpotMoveRows

@@ -67,7 +67,7 @@ facts_as g w z sh flight begun hand other t names contents range same h =
     (hands_as g w z sh hand other range same (hand_facts g w z sh flight begun hand t names contents range h))
 
 -- the collector's claim in hand
-own_hand : (g : Geometry) (flight : ℕ → Flight) (t : Spot) → hands_of g flight t (tasks g) ≡ l.hand_of_spot t
+pub own_hand : (g : Geometry) (flight : ℕ → Flight) (t : Spot) → hands_of g flight t (tasks g) ≡ l.hand_of_spot t
 own_hand g flight t = hands_changed g flight t t (tasks g) (omega arith) ∙ upd_same (hands_of g flight t) (tasks g) (l.hand_of_spot t)
 
 -- the spot goes on with another claim in hand
@@ -496,11 +496,11 @@ cell_by i true first second = refl
 cell_by i false first second = refl
 
 -- the claim in hand on each of these lines
-register_hand : (t : Spot) (s r : ℕ) (now : Stage) → t.line ≡ line.Register s r now → l.hand_of_spot t ≡ l.hand_at t now
+pub register_hand : (t : Spot) (s r : ℕ) (now : Stage) → t.line ≡ line.Register s r now → l.hand_of_spot t ≡ l.hand_at t now
 unfolding l.hand_of_spot l.hand_at_line
 register_hand t s r now e = ap (l.hand_at_line t) e
 
-cell_hand : (t : Spot) (i : ℕ) (now : Stage) → t.line ≡ line.Cell i now → l.hand_of_spot t ≡ l.hand_at t now
+pub cell_hand : (t : Spot) (i : ℕ) (now : Stage) → t.line ≡ line.Cell i now → l.hand_of_spot t ≡ l.hand_at t now
 unfolding l.hand_of_spot l.hand_at_line
 cell_hand t i now e = ap (l.hand_at_line t) e
 
@@ -512,7 +512,7 @@ reserve_stage : (t : Spot) → l.hand_at t stage.Reserve ≡ to_reserve t.cell t
 unfolding l.hand_at
 reserve_stage t = refl
 
-tie_stage : (t : Spot) → l.hand_at t stage.Tie ≡ to_link t.cell t.cycle t.offset
+pub tie_stage : (t : Spot) → l.hand_at t stage.Tie ≡ to_link t.cell t.cycle t.offset
 unfolding l.hand_at
 tie_stage t = refl
 

@@ -250,7 +250,7 @@ module _ (g : Geometry) (w : Words) (z : Spaces) (sh : Shades) (flight : ℕ →
 
 -- THE WRITE OF A CELL
 
-cell_marks : (ln : Line) (i : ℕ) → ln ≡ line.Cell i stage.Write → l.is_marking ln ≡ true
+pub cell_marks : (ln : Line) (i : ℕ) → ln ≡ line.Cell i stage.Write → l.is_marking ln ≡ true
 unfolding l.is_marking
 cell_marks ln i e = ap l.is_marking e
 

@@ -2,15 +2,16 @@
 -- still that one, no call was inside the object since, so the cells that the collector has copied are the object's, and its
 -- references are null or claimed in this cycle. So the object is moved: it was grey, and is black, and its words are those of
 -- its range.
-use Rattle.std.proofs.Common.{◌≡◌, ◌≢◌, ◌⊎◌, ℕ, zero, suc, ◌+◌, ◌-◌, ◌*◌, ◌%◌, ◌<◌, ◌≤◌, Bool, true, false, inl, inr, refl, sym, ◌∙◌, ap, subst, arith, Option, Some, None}
+use Rattle.std.proofs.Common.{◌≡◌, ◌≢◌, ◌⊎◌, ℕ, zero, suc, ◌+◌, ◌-◌, ◌*◌, ◌%◌, ◌^◌, ◌<◌, ◌≤◌, Bool, true, false, inl, inr, refl, sym, ◌∙◌, ap, subst, arith, Option, Some, None}
 use Rattle.std.proofs.lemmas.Bool.{cases_eq, cases_lt, lt-ltb, le-leb, eq-eqb, ne_eqb, and_parts, and_from, and_right}
 use Rattle.std.proofs.lemmas.Bool.Decides.{nat_tests}
 use Rattle.std.specs.Prelude.{nat_eq, nat_lt, nat_le, not, ◌&&◌}
 use Rattle.hk_words.specs.declared.geometry.Geometry.{Geometry}
 use Rattle.hk_words.specs.declared.call.Call.{Call}
 use Rattle.hk_words.specs.declared.call.Call.TheVariants as call
-use Rattle.hk_words.specs.Geometry.{tasks}
+use Rattle.hk_words.specs.Geometry.{tasks, numbers}
 use Rattle.hk_words.specs.Layout as layout
+use Rattle.hk_words.specs.Row.{place_at}
 use Rattle.hk_model.specs.View.{upd}
 use Rattle.hk_model.proofs.Updates.{upd_same, upd_other, is_upd}
 use Rattle.hk_core.specs.declared.flight.Flight.{Flight}
@@ -575,6 +576,19 @@ scan_hand : (t : Spot) (scan : ℕ) → l.hand_of_spot (scanning t scan) ≡ l.h
 unfolding l.hand_of_spot l.hand_at_line
 scan_hand t scan = refl
 
+-- the item is one of the geometry's numbers, and its new place fits the bits of a place
+pub record IsThere (g : Geometry) (t : Spot) : Type 0 where
+  pub within : moved_number t < numbers g
+  pub few : moved_to g t < 2 ^ layout.place_bits
+
+few_places : (g : Geometry) (cycle scan size : ℕ) → scan + size ≤ g.live → place_at g (current_space cycle) scan < 2 ^ layout.place_bits
+few_places g cycle scan size fits = by_side (cycle % 2) (omega arith)
+  where
+    by_side : (side : ℕ) → side ≤ 1 → place_at g side scan < 2 ^ layout.place_bits
+    by_side zero few = let live = g.live_few in let alloc = g.alloc_few in omega arith
+    by_side (suc zero) few = let live = g.live_few in let alloc = g.alloc_few in omega arith
+    by_side (suc (suc side)) few = absurd (omega arith)
+
 -- the new place of the object
 new_there : (g : Geometry) (t : Spot) (cycle : ℕ) → t.cycle ≡ cycle → (spaces_of g cycle).current + t.scan ≡ moved_to g t
 new_there g t cycle e = rw (← e) (omega arith)
@@ -614,7 +628,7 @@ module _ (g : Geometry) (w : Words) (flight : ℕ → Flight) (begun : ℕ → �
       on_spot g w flight begun t other names contents range (left_hand t at) (goes.to ∙ sym goes.from) h
       (marking_on g w z sh flight begun (hands_of g flight t) t names contents range h other goes works)
 
-  module _ (fit : ShapesFit names) (same : w.version (moved_number t) ≡ layout.header_version t.first) where
+  module _ (fit : ShapesFit names) where
     item_moves : IsMoving (spaces_of g w.cycle) (shades_of g w flight t.line names) t.scan t.item range
     item_moves = moving g w (spaces_of g w.cycle) (shades_of g w flight t.line names) flight begun (hands_of g flight t) t names contents range h
         (shades_mean g w flight t.line names) fit (trade_marks t.line at) trading.in_object.at_item
@@ -626,28 +640,6 @@ module _ (g : Geometry) (w : Words) (flight : ℕ → Flight) (begun : ℕ → �
     shows_item : t.item ≡ reference_at names (moved_number t)
     shows_item = item_shows g w (spaces_of g w.cycle) (shades_of g w flight t.line names) flight begun (hands_of g flight t) t names contents range h
         (shades_mean g w flight t.line names) fit (trade_marks t.line at) trading.in_object.at_item
-
-    can_move : CanMove w (spaces_of g w.cycle) (shades_of g w flight t.line names) names range t.scan (moved_number t)
-    can_move =
-        let z = spaces_of g w.cycle in
-        let sh = shades_of g w flight t.line names in
-        let m = shades_mean g w flight t.line names in
-        let n = moved_number t in
-        let size : reference_size t.item ≡ sh.size n = item_moves.size in
-        let placed : layout.header_place t.first ≡ w.place n = trading.in_object.behind.placed in
-        let item : AtItem g w z sh t range = trading.in_object.at_item in
-        let parts = reference_parts g names n t.item (m.kept n item_moves.is_kept).within fit shows_item in
-        let refs : layout.reference_refs t.item ≡ refs_at names n = parts.1 in
-        record {
-          is_kept = item_moves.is_kept;
-          is_grey = grey_item;
-          has_range = item_moves.has_range;
-          fits = item_moves.fits;
-          linked = λ none. item.some (sym item.linked ∙ none);
-          nobody = trading.in_object.behind.same_accessors same;
-          copied = λ i below. trading.in_object.copied i same (omega arith) ∙ ap (λ p. w.cell (p + 1 + i)) placed;
-          passed = λ i below. subst (λ (p : ℕ). IsNullOrMarked w.cycle w.mark (w.cell (p + 1 + i))) placed (trading.in_object.passed i same (omega arith) (omega arith));
-        }
 
     place_moves : Moves (spaces_of g w.cycle) w.cycle (w.place (moved_number t)) (w.mark (moved_number t)) ((spaces_of g w.cycle).current + t.scan)
     place_moves =
@@ -667,23 +659,55 @@ module _ (g : Geometry) (w : Words) (flight : ℕ → Flight) (begun : ℕ → �
           apart = m.spaces;
         }
 
-    -- all facts hold after the exchange of a header that is the one that the attempt loaded: the object is moved
-    pub object_traded : FactsOf g (moved_words w (moved_number t) (moved_to g t)) flight begun (scanning t (t.scan + reference_size t.item)) names contents range
-    object_traded =
-        let z = spaces_of g w.cycle in
-        let n = moved_number t in
-        let sh = shades_of g w flight line.Scan names in
-        let marks : l.is_marking line.Scan ≡ l.is_marking t.line = scan_marks ∙ sym (trade_marks t.line at) in
-        let shades : sh ≡ shades_of g w flight t.line names = shades_kept g w flight t.line line.Scan names marks in
-        let can : CanMove w z sh names range t.scan n = rw shades can_move in
-        let size : reference_size t.item ≡ (shades_of g w flight t.line names).size n = item_moves.size in
-        let sized : t.scan + sh.size n ≡ t.scan + reference_size t.item = ap (λ (a : Shades). t.scan + a.size n) shades ∙ ap (λ k. t.scan + k) (sym size) in
-        let there : z.current + t.scan ≡ moved_to g t = new_there g t w.cycle h.spot_knows_cycle in
-        let hands : hands_of g flight (scanning t (t.scan + sh.size n)) ≡ hands_of g flight (scanning t t.scan) =
-        hands_kept g flight (scanning t t.scan) (scanning t (t.scan + sh.size n)) (scan_hand t (t.scan + sh.size n)) in
-        let done : FactsOf g (moved_words w n (z.current + t.scan)) flight begun (scanning t (t.scan + sh.size n)) names contents range =
-        rw (shades_moved g w flight line.Scan names n (z.current + t.scan) place_moves, hands)
-        (move_facts g w z sh flight begun (hands_of g flight (scanning t t.scan)) t t.scan names contents range left_to_scan
-        (shades_mean g w flight line.Scan names) (colours_mean g w flight line.Scan names) (spaces_are g w.cycle) n can) in
-        subst (λ (p : ℕ). FactsOf g (moved_words w n p) flight begun (scanning t (t.scan + reference_size t.item)) names contents range) there
-        (subst (λ (k : ℕ). FactsOf g (moved_words w n (z.current + t.scan)) flight begun (scanning t k) names contents range) sized done)
+    pub item_there : IsThere g t
+    item_there =
+        let m = shades_mean g w flight t.line names in
+        let fits : t.scan + (shades_of g w flight t.line names).size (moved_number t) ≤ g.live = item_moves.fits in
+        record {
+          within = (m.kept (moved_number t) item_moves.is_kept).within;
+          few = few_places g t.cycle t.scan ((shades_of g w flight t.line names).size (moved_number t)) fits;
+        }
+
+    module _ (same : w.version (moved_number t) ≡ layout.header_version t.first) where
+      can_move : CanMove w (spaces_of g w.cycle) (shades_of g w flight t.line names) names range t.scan (moved_number t)
+      can_move =
+          let z = spaces_of g w.cycle in
+          let sh = shades_of g w flight t.line names in
+          let m = shades_mean g w flight t.line names in
+          let n = moved_number t in
+          let size : reference_size t.item ≡ sh.size n = item_moves.size in
+          let placed : layout.header_place t.first ≡ w.place n = trading.in_object.behind.placed in
+          let item : AtItem g w z sh t range = trading.in_object.at_item in
+          let parts = reference_parts g names n t.item (m.kept n item_moves.is_kept).within fit shows_item in
+          let refs : layout.reference_refs t.item ≡ refs_at names n = parts.1 in
+          record {
+            is_kept = item_moves.is_kept;
+            is_grey = grey_item;
+            has_range = item_moves.has_range;
+            fits = item_moves.fits;
+            linked = λ none. item.some (sym item.linked ∙ none);
+            nobody = trading.in_object.behind.same_accessors same;
+            copied = λ i below. trading.in_object.copied i same (omega arith) ∙ ap (λ p. w.cell (p + 1 + i)) placed;
+            passed = λ i below. subst (λ (p : ℕ). IsNullOrMarked w.cycle w.mark (w.cell (p + 1 + i))) placed (trading.in_object.passed i same (omega arith) (omega arith));
+          }
+
+      -- all facts hold after the exchange of a header that is the one that the attempt loaded: the object is moved
+      pub object_traded : FactsOf g (moved_words w (moved_number t) (moved_to g t)) flight begun (scanning t (t.scan + reference_size t.item)) names contents range
+      object_traded =
+          let z = spaces_of g w.cycle in
+          let n = moved_number t in
+          let sh = shades_of g w flight line.Scan names in
+          let marks : l.is_marking line.Scan ≡ l.is_marking t.line = scan_marks ∙ sym (trade_marks t.line at) in
+          let shades : sh ≡ shades_of g w flight t.line names = shades_kept g w flight t.line line.Scan names marks in
+          let can : CanMove w z sh names range t.scan n = rw shades can_move in
+          let size : reference_size t.item ≡ (shades_of g w flight t.line names).size n = item_moves.size in
+          let sized : t.scan + sh.size n ≡ t.scan + reference_size t.item = ap (λ (a : Shades). t.scan + a.size n) shades ∙ ap (λ k. t.scan + k) (sym size) in
+          let there : z.current + t.scan ≡ moved_to g t = new_there g t w.cycle h.spot_knows_cycle in
+          let hands : hands_of g flight (scanning t (t.scan + sh.size n)) ≡ hands_of g flight (scanning t t.scan) =
+          hands_kept g flight (scanning t t.scan) (scanning t (t.scan + sh.size n)) (scan_hand t (t.scan + sh.size n)) in
+          let done : FactsOf g (moved_words w n (z.current + t.scan)) flight begun (scanning t (t.scan + sh.size n)) names contents range =
+          rw (shades_moved g w flight line.Scan names n (z.current + t.scan) place_moves, hands)
+          (move_facts g w z sh flight begun (hands_of g flight (scanning t t.scan)) t t.scan names contents range left_to_scan
+          (shades_mean g w flight line.Scan names) (colours_mean g w flight line.Scan names) (spaces_are g w.cycle) n can) in
+          subst (λ (p : ℕ). FactsOf g (moved_words w n p) flight begun (scanning t (t.scan + reference_size t.item)) names contents range) there
+          (subst (λ (k : ℕ). FactsOf g (moved_words w n (z.current + t.scan)) flight begun (scanning t k) names contents range) sized done)

@@ -6,10 +6,10 @@ use Rattle.std.specs.Prelude.{nat_eq, nat_lt, if◌then◌else◌}
 use Rattle.hk_words.specs.declared.geometry.Geometry.{Geometry}
 use Rattle.hk_words.specs.Geometry.{tasks, numbers, space_words}
 use Rattle.hk_words.specs.Layout as layout
-use Rattle.hk_words.specs.Row.{w0_at, w1_at, header_at, mark_at, frame_at, register_at, space_at, place_at, word_of}
+use Rattle.hk_words.specs.Row.{w0_at, w1_at, header_at, mark_at, frame_at, register_at, entry_at, space_at, place_at, word_of}
 use Rattle.hk_words.specs.Row.Slot.{Frame, Header}
 use Rattle.hk_model.specs.History.{History}
-use Rattle.hk_model.specs.View.{upd}
+use Rattle.hk_model.specs.View.{upd, upd2}
 use Rattle.hk_core.specs.declared.event.Event.{Event}
 use Rattle.hk_core.specs.declared.event.Event.TheVariants as event
 use Rattle.hk_core.specs.declared.spot.Line.{Line}
@@ -20,7 +20,7 @@ use Rattle.hk_core.specs.Event.{fired, fired_if, learnt, old_of, word_after}
 use Rattle.hk_core.specs.State.{State}
 use Rattle.hk_core.specs.Step.{reference_size}
 use Rattle.hk_core.specs.Collect as table
-use Rattle.hk_core.specs.Collect.{last_cycle, current_space, old_space, moved_from, moved_to, moved_number, spot_event, spot_took, event_at_line, took_at_line, is_old, is_in_space, after_pass}
+use Rattle.hk_core.specs.Collect.{last_cycle, current_space, old_space, next_list, moved_from, moved_to, moved_number, spot_event, spot_took, event_at_line, took_at_line, is_old, is_in_space, next_collected}
 use Rattle.hk_core.specs.View.{Words, words_of, decoded, names_of, contents_of, flight_at, begun_at, size_at}
 use Rattle.hk_core.specs.Flights as f
 use Rattle.hk_core.specs.Flights.{to_link}
@@ -38,7 +38,7 @@ use Rattle.hk_core.proofs.kinds.Claim.{claim_words}
 use Rattle.hk_core.proofs.kinds.Reserve.{reserve_words, reserve_range}
 use Rattle.hk_core.proofs.kinds.ReserveSeats.{bearers_have_fields}
 use Rattle.hk_core.proofs.kinds.WriteCell.{cell_words, shades_mean}
-use Rattle.hk_core.proofs.kinds.SpotWords.{words-flip, words-blacken, words-move, words-reset, found-claim, found-reserve, found-trade_frame, found-trade_header}
+use Rattle.hk_core.proofs.kinds.SpotWords.{words-blacken, words-move, found-claim, found-reserve, found-trade_frame, found-trade_header}
 use Rattle.hk_core.proofs.kinds.SpotLoadsRow.{AfterEvent, frame_loads_row, register_loads_row, frame_trade_lost_row, scan_loads_row, link_loads_row, look_loads_row, cell_loads_row, object_trade_lost_row, pass_loads_row, pass_head_loads_row, found-mark, found-header}
 use Rattle.hk_core.proofs.kinds.SpotClaim.{register_claims, register_reserves, register_links, cell_claims, cell_reserves, cell_links}
 use Rattle.hk_core.proofs.kinds.SpotTrade.{blackened_words, frame_traded}
@@ -46,11 +46,11 @@ use Rattle.hk_core.proofs.kinds.SpotCopy.{cell_copied, in_no_object}
 use Rattle.hk_core.proofs.kinds.SpotMove.{moved_words, object_traded}
 use Rattle.hk_core.proofs.kinds.SpotFlip.{flipped_words, flip, flip_took}
 use Rattle.hk_core.proofs.kinds.SpotToSweep.{pass_to_sweep, pass_head_to_sweep}
-use Rattle.hk_core.proofs.kinds.SpotSweepLines.{kept_current}
-use Rattle.hk_core.proofs.kinds.SpotClear.{clear}
-use Rattle.hk_core.proofs.kinds.SpotReset.{no_ranges, reset}
+use Rattle.hk_core.proofs.kinds.SpotSweepLines.{kept_marked, kept_current}
+use Rattle.hk_core.proofs.kinds.SpotSweepRow.{sweep_reads_row, sweep_writes_row, sweep_marks_row, sweep_empties_row, clear_row, reset_row, words-flip, words-reset, words-write_entry, words-write_mark, words-empty_header}
+use Rattle.hk_core.proofs.kinds.SpotReset.{no_ranges}
 use Rattle.hk_collect.proofs.Fitting.{in_space, own_hand, register_hand, cell_hand, cell_names, item_names, item_range, marks_at, formed, in_step, link_there, here_frame_trade, here_cell, here_object_trade}
-use Rattle.hk_collect.proofs.Collected.{Collected, Spares, collected_row, collected_at, spares_all, spares_beside, spares_outside}
+use Rattle.hk_collect.proofs.Collected.{Collected, Spares, collected_row, collected_at, inside_kept, spares_all, spares_beside, spares_outside}
 
 -- a write finds nothing
 found-write : (row : List ℕ) (word v : ℕ) → learnt row (Some (event.Write word v)) ≡ 0
@@ -423,3 +423,164 @@ module _ (c : State) (history : History) (h : Lawful c history) where
                 (spares_all c history h w refl refl)
           ]
       ]
+
+  -- THE SWEEP
+
+  pub sweep_read_well : (n : ℕ) → c.spot.line ≡ line.Sweep n stage.Read → Collected c history
+  unfolding event_at_line table.sweep_event
+  sweep_read_well n at =
+      loads (line.Sweep n stage.Read) at (mark_at c.geometry n) refl
+      (sweep_reads_row c.geometry c.row (flight_at c) (begun_at c) c.spot (names_of c.geometry history) (contents_of c.geometry history) h.range h.sized.row h.facts n at)
+
+  pub sweep_write_well : (n : ℕ) → c.spot.line ≡ line.Sweep n stage.Write → Collected c history
+  unfolding event_at_line table.sweep_event
+  sweep_write_well n at =
+      let g = c.geometry in
+      let w = words_of g c.row in
+      let e = event.Write (entry_at g (next_list c.spot.cycle) c.spot.entries) n in
+      let w' = record w { entry = upd2 w.entry (next_list c.spot.cycle) c.spot.entries n } in
+      collected_row c history h h.range w' (sweep_writes_row g c.row (flight_at c) (begun_at c) c.spot (names_of g history) (contents_of g history) h.range h.sized.row h.facts n at)
+      (words_at (line.Sweep n stage.Write) at e refl w' (words-write_entry g c.row h.sized.row (next_list c.spot.cycle) c.spot.entries n (omega arith) (in_step c history h (line.Sweep n stage.Write) at).0))
+      (spares_all c history h w' refl refl)
+
+  pub sweep_mark_well : (n : ℕ) → c.spot.line ≡ line.Sweep n stage.Mark → Collected c history
+  unfolding event_at_line table.sweep_event
+  sweep_mark_well n at =
+      let g = c.geometry in
+      let w = words_of g c.row in
+      let e = event.Write (mark_at g n) (c.spot.cycle + 1) in
+      let w' = record w { mark = upd w.mark n (c.spot.cycle + 1) } in
+      collected_row c history h h.range w' (sweep_marks_row g c.row (flight_at c) (begun_at c) c.spot (names_of g history) (contents_of g history) h.range h.sized.row h.facts n at)
+      (words_at (line.Sweep n stage.Mark) at e refl w' (words-write_mark g c.row h.sized.row n (c.spot.cycle + 1) (formed c history h (line.Sweep n stage.Mark) at).0))
+      (spares_all c history h w' refl refl)
+
+  -- the number whose header is emptied is marked for the next cycle, so it isn't kept
+  emptied_outside : (n : ℕ) → c.spot.line ≡ line.Sweep n stage.Empty → (s : ℕ) → s < tasks c.geometry → f.in_object (flight_at c s) ≡ true → object_of (flight_at c s) ≢ n
+  unfolding l.is_marking l.marked l.unmarked_at
+  emptied_outside n at s below inside same =
+      let g = c.geometry in
+      let w = words_of g c.row in
+      let names = names_of g history in
+      let sh = shades_of g w (flight_at c) c.spot.line names in
+      let quiet : l.is_marking c.spot.line ≡ false = ap l.is_marking at in
+      let kept : kept_in c history (object_of (flight_at c s)) ≡ true = inside_kept c history h s below inside in
+      let now : w.mark (object_of (flight_at c s)) ≡ w.cycle =
+      kept_marked g w (spaces_of g w.cycle) sh (flight_at c) (begun_at c) (hands_of g (flight_at c) c.spot) c.spot names (contents_of g history) h.range h.facts
+      (shades_mean g w (flight_at c) c.spot.line names) quiet (object_of (flight_at c s)) kept in
+      let step = in_step c history h (line.Sweep n stage.Empty) at in
+      let some : 0 < c.spot.entries = step.0 in
+      let all : l.marked g c.spot c.spot.line ≡ c.spot.entries - 0 = ap (l.marked g c.spot) at in
+      let last : w.mark (w.entry (next_list w.cycle) (c.spot.entries - 1)) ≡ w.cycle + 1 = h.facts.written_marked (c.spot.entries - 1) (omega arith) in
+      let later : w.mark n ≡ w.cycle + 1 = ap w.mark (sym step.2) ∙ last in
+      let one : w.mark (object_of (flight_at c s)) ≡ w.mark n = ap w.mark same in
+      omega arith
+
+  pub sweep_empty_well : (n : ℕ) → c.spot.line ≡ line.Sweep n stage.Empty → Collected c history
+  unfolding event_at_line table.sweep_event
+  sweep_empty_well n at =
+      let g = c.geometry in
+      let w = words_of g c.row in
+      let e = event.Write (header_at g n) 0 in
+      let w' = record w { accessors = upd w.accessors n 0; place = upd w.place n 0; version = upd w.version n 0 } in
+      collected_row c history h h.range w' (sweep_empties_row g c.row (flight_at c) (begun_at c) c.spot (names_of g history) (contents_of g history) h.range h.sized.row h.facts n at)
+      (words_at (line.Sweep n stage.Empty) at e refl w' (words-empty_header g c.row h.sized.row n (formed c history h (line.Sweep n stage.Empty) at).0))
+      (spares_outside c history h w' n 0 refl refl (emptied_outside n at))
+
+  -- THE CLEARING
+
+  -- a word of the old space lies in no kept object, once the sweep is over
+  old_beside : (i : ℕ) → c.spot.line ≡ line.Clear i → i < space_words c.geometry → (n : ℕ) → kept_in c history n ≡ true
+      → ¬ Covers ((words_of c.geometry c.row).place n) (size_in c history n) (place_at c.geometry (old_space c.spot.cycle) i)
+  unfolding l.is_marking shades_of
+  old_beside i at within n kept covered =
+      let g = c.geometry in
+      let w = words_of g c.row in
+      let z = spaces_of g w.cycle in
+      let names = names_of g history in
+      let sh = shades_of g w (flight_at c) c.spot.line names in
+      let m = shades_mean g w (flight_at c) c.spot.line names in
+      let quiet : l.is_marking c.spot.line ≡ false = ap l.is_marking at in
+      let knows : c.spot.cycle ≡ w.cycle = h.facts.spot_knows_cycle in
+      let there : (spaces_of g c.spot.cycle).old + i ≡ place_at g (old_space c.spot.cycle) i = omega arith in
+      let p : z.old + i ≡ place_at g (old_space c.spot.cycle) i = ap (λ (k : ℕ). (spaces_of g k).old + i) (sym knows) ∙ there in
+      let lies = kept_current g w z sh (flight_at c) (begun_at c) (hands_of g (flight_at c) c.spot) c.spot names (contents_of g history) h.range h.facts m quiet n kept in
+      let from : z.current ≤ w.place n = lies.after in
+      let to : w.place n + sh.size n ≤ z.current + (z.live + z.alloc) = lies.before in
+      let size : sh.size n ≡ size_in c history n = m.size n in
+      let after : w.place n ≤ place_at g (old_space c.spot.cycle) i = covered.after in
+      let before : place_at g (old_space c.spot.cycle) i < w.place n + size_in c history n = covered.before in
+      elim m.spaces [ inl a ↦ omega arith | inr a ↦ omega arith ]
+
+  pub clear_well : (i : ℕ) → c.spot.line ≡ line.Clear i → Collected c history
+  unfolding event_at_line table.clear_event
+  clear_well i at =
+      let g = c.geometry in
+      let w = words_of g c.row in
+      let p = place_at g (old_space c.spot.cycle) i in
+      let within : i < space_words g = formed c history h (line.Clear i) at in
+      let lies = in_space g (old_space c.spot.cycle) i (omega arith) within in
+      collected_row c history h h.range (cell_words w p 0) (clear_row g c.row (flight_at c) (begun_at c) c.spot (names_of g history) (contents_of g history) h.range h.sized.row h.facts i at)
+      (words_at (line.Clear i) at (event.Write (space_at g p) 0) refl (cell_words w p 0) (words-write_cell g c.row h.sized.row p 0 lies.some lies.within))
+      (spares_beside c history h (cell_words w p 0) p 0 refl refl (old_beside i at within))
+
+  pub reset_well : c.spot.line ≡ line.Reset → Collected c history
+  unfolding event_at_line table.reset_event
+  reset_well at =
+      let g = c.geometry in
+      let w = words_of g c.row in
+      let w' = record w { reserved = 0 } in
+      collected_row c history h no_ranges w' (reset_row g c.row (flight_at c) (begun_at c) c.spot (names_of g history) (contents_of g history) h.range h.sized.row h.facts at)
+      (words_at line.Reset at (event.Write (w1_at g) 0) refl w' (words-reset g c.row h.sized.row)) (spares_all c history h w' refl refl)
+
+  -- ALL LINES
+
+  register_well : (s r : ℕ) (stage : Stage) → c.spot.line ≡ line.Register s r stage → l.IsRegisterStage stage → Collected c history
+  register_well s r stage.Read at o = register_read_well s r at
+  register_well s r stage.Claim at o = register_claim_well s r at
+  register_well s r stage.Reserve at o = register_reserve_well s r at
+  register_well s r stage.Tie at o = register_link_well s r at
+  register_well s r stage.Write at o = absurd o
+  register_well s r stage.Mark at o = absurd o
+  register_well s r stage.Empty at o = absurd o
+
+  cell_well : (i : ℕ) (stage : Stage) → c.spot.line ≡ line.Cell i stage → l.IsCellStage stage → Collected c history
+  cell_well i stage.Read at o = cell_read_well i at
+  cell_well i stage.Claim at o = cell_claim_well i at
+  cell_well i stage.Reserve at o = cell_reserve_well i at
+  cell_well i stage.Tie at o = cell_link_well i at
+  cell_well i stage.Write at o = cell_write_well i at
+  cell_well i stage.Mark at o = absurd o
+  cell_well i stage.Empty at o = absurd o
+
+  sweep_well : (n : ℕ) (stage : Stage) → c.spot.line ≡ line.Sweep n stage → l.IsSweepStage stage → Collected c history
+  sweep_well n stage.Read at o = sweep_read_well n at
+  sweep_well n stage.Claim at o = absurd o
+  sweep_well n stage.Reserve at o = absurd o
+  sweep_well n stage.Tie at o = absurd o
+  sweep_well n stage.Write at o = sweep_write_well n at
+  sweep_well n stage.Mark at o = sweep_mark_well n at
+  sweep_well n stage.Empty at o = sweep_empty_well n at
+
+  line_well : (ln : Line) → c.spot.line ≡ ln → Collected c history
+  line_well line.Rest at = rest_well at
+  line_well (line.Frame s) at = frame_well s at
+  line_well (line.Register s r stage) at = register_well s r stage at (formed c history h (line.Register s r stage) at).2
+  line_well (line.FrameTrade s) at = frame_trade_well s at
+  line_well line.Scan at = scan_well at
+  line_well line.Link at = link_well at
+  line_well line.Look at = look_well at
+  line_well (line.Cell i stage) at = cell_well i stage at (formed c history h (line.Cell i stage) at).1
+  line_well line.ObjectTrade at = object_trade_well at
+  line_well (line.Pass n) at = pass_well n at
+  line_well (line.PassHead n) at = pass_head_well n at
+  line_well (line.Sweep n stage) at = sweep_well n stage at (formed c history h (line.Sweep n stage) at).1
+  line_well (line.Clear i) at = clear_well i at
+  line_well line.Reset at = reset_well at
+
+  -- the event of the collector, whatever its line
+  pub collects : Collected c history
+  collects = line_well c.spot.line refl
+
+-- the collector keeps a lawful state lawful, for the same history
+pub lawful_collected : (c : State) (history : History) → Lawful c history → Lawful (next_collected c) history
+lawful_collected c history h = (collects c history h).lawful

@@ -19,7 +19,7 @@ use Rattle.hk_core.specs.Collect.{last_cycle, moved_number, moved_to, is_old, sp
 use Rattle.hk_collect.specs.Works.{Loads, Flips, IsWorn, LosesFrame, LosesObject, Loses, FindsBusyFrame, FindsBusyObject, FindsUnlinked, FindsGrey, FindsLiveOver, HasCauses}
 
 -- the cause of an answer
-Cause : State → Work → Type 0
+abbrev Cause : State → Work → Type 0
 Cause c work.Useful = ⊤
 Cause c work.Flipped = Flips c
 Cause c (work.Lost events) = Loses c events
@@ -119,3 +119,139 @@ module _ (c : State) where
   live_over_answers words o =
       let found : found_by_collector c ≡ words = found_load line.Scan o.at W1 refl ∙ sym o.reserved in
       work_at line.Scan o.at ∙ rw (found, lt-ltb c.geometry.live words o.over) refl
+
+  -- AN ANSWER HAS ITS CAUSE
+
+  frame_cause : (seat : ℕ) → c.spot.line ≡ line.Frame seat → Cause c (table.frame_work seat (found_by_collector c))
+  unfolding table.frame_work event_at_line table.frame_event
+  frame_cause seat at = by_test (nat_lt 0 (frame_accessors (found_by_collector c))) refl
+    where
+      by_test : (test : Bool) → nat_lt 0 (frame_accessors (found_by_collector c)) ≡ test → Cause c (if test then work.BusyFrame seat else work.Useful)
+      by_test true e = record {
+        at = at;
+        loads = event_at (line.Frame seat) at;
+        busy = subst (λ (k : ℕ). 0 < frame_accessors k) (found_load (line.Frame seat) at (Frame seat) refl) (ltb-true 0 (frame_accessors (found_by_collector c)) e);
+      }
+      by_test false e = tt
+
+  frame_trade_cause : (seat : ℕ) → c.spot.line ≡ line.FrameTrade seat → Cause c (table.frame_trade_work c.spot (found_by_collector c))
+  unfolding table.frame_trade_work event_at_line table.frame_trade_event
+  frame_trade_cause seat at = by_test (nat_eq (found_by_collector c) c.spot.first) refl
+    where
+      by_test : (test : Bool) → nat_eq (found_by_collector c) c.spot.first ≡ test → Cause c (if test then work.Useful else work.Lost (c.spot.spent + 1))
+      by_test true e = tt
+      by_test false e = inl (seat, record {
+        at = at;
+        exchanges = event_at (line.FrameTrade seat) at;
+        another = λ same. eqb-false (found_by_collector c) c.spot.first e (found_trade (line.FrameTrade seat) at (Frame seat) c.spot.first (frame_blackened c.spot.first c.spot.cycle) refl ∙ same);
+        counted = refl;
+      })
+
+  object_trade_cause : c.spot.line ≡ line.ObjectTrade → Cause c (table.object_trade_work c.spot (found_by_collector c))
+  unfolding table.object_trade_work event_at_line table.object_trade_event
+  object_trade_cause at = by_test (nat_eq (found_by_collector c) c.spot.first) refl
+    where
+      by_test : (test : Bool) → nat_eq (found_by_collector c) c.spot.first ≡ test → Cause c (if test then work.Useful else work.Lost (c.spot.spent + 1))
+      by_test true e = tt
+      by_test false e = inr (record {
+        at = at;
+        exchanges = event_at line.ObjectTrade at;
+        another = λ same. eqb-false (found_by_collector c) c.spot.first e
+            (found_trade line.ObjectTrade at (Header (moved_number c.spot)) c.spot.first (header_moved c.spot.first (moved_to c.geometry c.spot)) refl ∙ same);
+        counted = refl;
+      })
+
+  look_cause : c.spot.line ≡ line.Look → Cause c (table.look_work c.spot (found_by_collector c))
+  unfolding table.look_work event_at_line table.look_event
+  look_cause at = by_test (nat_lt 0 (header_accessors (found_by_collector c))) refl
+    where
+      by_test : (test : Bool) → nat_lt 0 (header_accessors (found_by_collector c)) ≡ test → Cause c (if test then work.BusyObject (moved_number c.spot) else work.Useful)
+      by_test true e = record {
+        at = at;
+        moved = refl;
+        loads = event_at line.Look at;
+        busy = subst (λ (k : ℕ). 0 < header_accessors k) (found_load line.Look at (Header (moved_number c.spot)) refl) (ltb-true 0 (header_accessors (found_by_collector c)) e);
+      }
+      by_test false e = tt
+
+  link_cause : c.spot.line ≡ line.Link → Cause c (table.link_work c.geometry c.spot (found_by_collector c))
+  unfolding table.link_work event_at_line table.link_event
+  link_cause at = by_test (nat_eq (found_by_collector c) 0) refl
+    where
+      by_test : (test : Bool) → nat_eq (found_by_collector c) 0 ≡ test → Cause c (if test then work.Unlinked (moved_to c.geometry c.spot) else work.Useful)
+      by_test true e = record {
+        at = at;
+        there = refl;
+        loads = event_at line.Link at;
+        unlinked = sym (found_load line.Link at (Space (moved_to c.geometry c.spot)) refl) ∙ eqb-true (found_by_collector c) 0 e;
+      }
+      by_test false e = tt
+
+  scan_cause : c.spot.line ≡ line.Scan → Cause c (table.scan_work c.geometry (found_by_collector c))
+  unfolding table.scan_work event_at_line table.scan_event
+  scan_cause at = by_test (nat_lt c.geometry.live (found_by_collector c)) refl
+    where
+      by_test : (test : Bool) → nat_lt c.geometry.live (found_by_collector c) ≡ test → Cause c (if test then work.LiveOver (found_by_collector c) else work.Useful)
+      by_test true e = record {
+        at = at;
+        loads = event_at line.Scan at;
+        reserved = found_load line.Scan at W1 refl;
+        over = ltb-true c.geometry.live (found_by_collector c) e;
+      }
+      by_test false e = tt
+
+  pass_head_cause : (number : ℕ) → c.spot.line ≡ line.PassHead number → Cause c (table.pass_head_work c.geometry c.spot number (found_by_collector c))
+  unfolding table.pass_head_work event_at_line table.pass_head_event
+  pass_head_cause number at = by_test (is_old c.geometry c.spot (found_by_collector c)) refl
+    where
+      by_test : (test : Bool) → is_old c.geometry c.spot (found_by_collector c) ≡ test → Cause c (if test then work.Grey number else work.Useful)
+      by_test true e = record {
+        at = at;
+        loads = event_at (line.PassHead number) at;
+        old = subst (λ (k : ℕ). is_old c.geometry c.spot k ≡ true) (found_load (line.PassHead number) at (Header number) refl) e;
+      }
+      by_test false e = tt
+
+  rest_cause : c.spot.line ≡ line.Rest → Cause c (table.rest_work c.spot)
+  unfolding table.rest_work event_at_line table.rest_event
+  rest_cause at = by_test (nat_eq c.spot.cycle last_cycle) refl
+    where
+      by_test : (test : Bool) → nat_eq c.spot.cycle last_cycle ≡ test → Cause c (if test then work.Worn else work.Flipped)
+      by_test true e = worn at (eqb-true c.spot.cycle last_cycle e)
+      by_test false e = record { rests = at; swaps = event_at line.Rest at ∙ rw e refl }
+
+  line_cause : (ln : Line) → c.spot.line ≡ ln → Cause c (work_at_line c.geometry c.spot (found_by_collector c) ln)
+  unfolding work_at_line
+  line_cause line.Rest at = rest_cause at
+  line_cause (line.Frame seat) at = frame_cause seat at
+  line_cause (line.Register seat reg stage) at = tt
+  line_cause (line.FrameTrade seat) at = frame_trade_cause seat at
+  line_cause line.Scan at = scan_cause at
+  line_cause line.Link at = link_cause at
+  line_cause line.Look at = look_cause at
+  line_cause (line.Cell index stage) at = tt
+  line_cause line.ObjectTrade at = object_trade_cause at
+  line_cause (line.Pass number) at = tt
+  line_cause (line.PassHead number) at = pass_head_cause number at
+  line_cause (line.Sweep number stage) at = tt
+  line_cause (line.Clear word) at = tt
+  line_cause line.Reset at = tt
+
+  has_cause : Cause c (work_by_collector c)
+  has_cause = subst (Cause c) (sym (work_at c.spot.line refl)) (line_cause c.spot.line refl)
+
+  cause_of : (answer : Work) → work_by_collector c ≡ answer → Cause c answer
+  cause_of answer e = subst (Cause c) e has_cause
+
+  -- each answer, and its cause
+  pub has_causes : HasCauses c (work_by_collector c)
+  has_causes = record {
+    flipped = (cause_of work.Flipped, flips_answers);
+    lost = λ events. (cause_of (work.Lost events), loses_answers events);
+    busy_frame = λ seat. (cause_of (work.BusyFrame seat), busy_frame_answers seat);
+    busy_object = λ number. (cause_of (work.BusyObject number), busy_object_answers number);
+    unlinked = λ place. (cause_of (work.Unlinked place), unlinked_answers place);
+    grey = λ number. (cause_of (work.Grey number), grey_answers number);
+    live_over = λ words. (cause_of (work.LiveOver words), live_over_answers words);
+    worn = (cause_of work.Worn, worn_answers);
+  }

@@ -2,3 +2,4 @@ pub mod Fitting
 pub mod Collected
 pub mod EachLine
 pub mod Causes
+pub mod Running

@@ -1,1 +1,4 @@
 pub mod SpotFits
+pub mod Works
+pub mod Runs
+pub mod Laws

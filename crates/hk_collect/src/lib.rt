@@ -3,13 +3,13 @@
 
 #[cfg(test)]
 mod checks;
+mod collector;
 mod decide;
 mod follow;
-mod step;
 #[cfg(test)]
 mod walk;
 
+pub use collector::{advance, step};
 pub use decide::event;
 pub use follow::took;
 pub use hk_core::Work;
-pub use step::advance;

@@ -186,8 +186,11 @@ impl Draws {
         self.below(2) as u8
     }
 
-    fn call(&mut self) -> Call {
-        match self.below(7) {
+    /// One of the first so many kinds of calls: the first four go through no reference cell and make nothing.
+    fn call(&mut self, kinds: u64) -> Call
+        requires { 0 < kinds }
+    {
+        match self.below(kinds) {
             0 => Call::Get {
                 reg: self.reg(),
                 field: self.field(),
@@ -197,21 +200,21 @@ impl Draws {
                 field: self.field(),
                 value: self.below(1000),
             },
-            2 => Call::Load {
+            2 => Call::Move {
+                dest: self.dest(),
+                from: self.reg(),
+            },
+            3 => Call::Clear { dest: self.dest() },
+            4 => Call::Load {
                 dest: self.dest(),
                 reg: self.reg(),
                 field: self.field(),
             },
-            3 => Call::Store {
+            5 => Call::Store {
                 reg: self.reg(),
                 field: self.field(),
                 from: self.reg(),
             },
-            4 => Call::Move {
-                dest: self.dest(),
-                from: self.reg(),
-            },
-            5 => Call::Clear { dest: self.dest() },
             _ => self.make(),
         }
     }
@@ -351,47 +354,90 @@ fn ended(rt: &impl Abort, walk: &mut Walk, outcome: Outcome, answered: Option<Re
     }
 }
 
-/// One action of a walk.
-fn act(rt: &impl Abort, alloc: Global, walk: &mut Walk, draws: &mut Draws) -> Result<(), Memory> {
-    let seat = draws.below(5) as u8;
-    if seat >= 3 {
-        match collect(rt, &mut walk.core) {
-            Work::Flipped => walk.flips = walk.flips.wrapping_add(1),
-            Work::Lost(_) => walk.lost = walk.lost.wrapping_add(1),
-            _ => {}
-        }
-        return Ok(());
-    }
+/// The walk before its first action.
+fn walk_of(alloc: Global, g: Geometry) -> Result<Walk, Memory> {
+    Ok(Walk {
+        core: Core::open(alloc, g)?,
+        mirror: Mirror::open(alloc, g.board())?,
+        answered: [None; 3],
+        flips: 0,
+        lost: 0,
+        done: 0,
+        full: 0,
+    })
+}
+
+/// One action of a seat: a begin of one of the first so many kinds of calls where it is idle, and else a step.
+fn act(
+    rt: &impl Abort,
+    alloc: Global,
+    walk: &mut Walk,
+    draws: &mut Draws,
+    seat: u8,
+    kinds: u64,
+) -> Result<(), Memory>
+    requires { 0 < kinds }
+{
     assert!(rt; seat < walk.core.geometry().tasks());
     let flight = walk.core.flight(seat);
     if flight.place == 0 {
-        let call = draws.call();
+        let call = draws.call(kinds);
         begin_some(rt, alloc, walk, seat, call)
     } else {
         step_some(rt, alloc, walk, &flight)
     }
 }
 
+/// One action of a seat, or one event of the collector.
+fn act_or_collect(
+    rt: &impl Abort,
+    alloc: Global,
+    walk: &mut Walk,
+    draws: &mut Draws,
+) -> Result<(), Memory> {
+    let seat = draws.below(5) as u8;
+    if seat < 3 {
+        return act(rt, alloc, walk, draws, seat, 7);
+    }
+    match collect(rt, &mut walk.core) {
+        Work::Flipped => walk.flips = walk.flips.wrapping_add(1),
+        Work::Lost(_) => walk.lost = walk.lost.wrapping_add(1),
+        _ => {}
+    }
+    Ok(())
+}
+
 #[test]
 fn replies_of_the_plain_heap(rt: HostRuntime) -> Result<(), Fail> {
     for number in 1..4 {
         let g = Geometry::new(64, 64, 16, 2, 1, 2, 1)?;
-        let mut walk = Walk {
-            core: Core::open(rt.alloc(), g)?,
-            mirror: Mirror::open(rt.alloc(), g.board())?,
-            answered: [None; 3],
-            flips: 0,
-            lost: 0,
-            done: 0,
-            full: 0,
-        };
+        let mut walk = walk_of(rt.alloc(), g)?;
         let mut draws = Draws { state: number };
         for _ in 0..20_000 {
-            act(&rt, rt.alloc(), &mut walk, &mut draws)?;
+            act_or_collect(&rt, rt.alloc(), &mut walk, &mut draws)?;
         }
         assert!(rt;
             walk.flips > 5 && walk.lost > 5 && walk.done > 1000 && walk.full > 5,
             "in walk {number}"
+        );
+    }
+    Ok(())
+}
+
+/// Three seats alone: calls that go through no reference cell, and calls of all kinds, until the heap is full.
+#[test]
+fn replies_without_a_collector(rt: HostRuntime) -> Result<(), Fail> {
+    for (kinds, actions, fills) in [(4, 2_000, false), (7, 5_000, true)] {
+        let g = Geometry::new(64, 64, 16, 2, 1, 2, 1)?;
+        let mut walk = walk_of(rt.alloc(), g)?;
+        let mut draws = Draws { state: kinds };
+        for _ in 0..actions {
+            let seat = draws.below(3) as u8;
+            act(&rt, rt.alloc(), &mut walk, &mut draws, seat, kinds)?;
+        }
+        assert!(rt;
+            walk.flips == 0 && walk.done > 300 && (walk.full > 5) == fills,
+            "with {kinds} kinds of calls"
         );
     }
     Ok(())

@@ -27,3 +27,6 @@ pub mod Actions
 pub mod Seven
 pub mod Unused
 pub mod Room
+pub mod Turns
+pub mod Replied
+pub mod Entries

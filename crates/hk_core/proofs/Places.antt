@@ -145,7 +145,7 @@ module _ (g : Geometry) (x : Flight) (old : ℕ) (some : 1 ≤ x.place) where
 
 module _ (c : State) (s : ℕ) where
   -- the flights after a step
-  flight_stepped : s < length c.flights → flight_of (next c s).flights s ≡ took_of c.geometry (flight_of c.flights s) (found_by c s)
+  pub flight_stepped : s < length c.flights → flight_of (next c s).flights s ≡ took_of c.geometry (flight_of c.flights s) (found_by c s)
   unfolding flight_at
   flight_stepped below = ap (λ (f : ℕ → Flight). f s) (flight_at-next c s below) ∙ upd_same (flight_at c) s _
 

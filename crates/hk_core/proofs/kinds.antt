@@ -40,6 +40,7 @@ pub mod SpotLoadsScan
 pub mod SpotLoadsCells
 pub mod SpotLoadsPass
 pub mod SpotLoadsRow
+pub mod SpotWords
 pub mod SpotTrade
 pub mod SpotCopy
 pub mod SpotMove

@@ -1,5 +1,5 @@
 -- Laws of the machine, over its definitions alone.
-use Rattle.std.specs.Prelude.{◌≡◌, ◌↔◌, ℕ, ◌<◌, ◌≤◌, true, false, Some, None}
+use Rattle.std.specs.Prelude.{◌≡◌, ◌↔◌, ℕ, ◌<◌, ◌≤◌, true, false, Some, None, List, ◌+◌}
 use Rattle.hk_words.specs.declared.call.Call.{Call}
 use Rattle.hk_words.specs.declared.call.Call.TheVariants.{New}
 use Rattle.hk_words.specs.declared.shape.Shape.{Shape}
@@ -7,20 +7,22 @@ use Rattle.hk_words.specs.Geometry.{tasks}
 use Rattle.hk_words.specs.Layout.{reference_number}
 use Rattle.hk_words.specs.Calls.{RegistersFit}
 use Rattle.hk_model.specs.Heap.{opening_of}
-use Rattle.hk_model.specs.History.{History, Legal, after, is_question}
+use Rattle.hk_model.specs.History.{History, Legal, after, of_seat, is_question}
 use Rattle.hk_core.specs.declared.outcome.Fault.{Fault}
 use Rattle.hk_core.specs.declared.outcome.Step.TheVariants.{Ended}
 use Rattle.hk_core.specs.declared.outcome.Outcome.TheVariants.{Full}
 use Rattle.hk_core.specs.State.{State, IsSized, flight_of}
 use Rattle.hk_core.specs.Step.{places_of, next, answer_by, history_after}
 use Rattle.hk_core.specs.Begin.{refusal, first_flight, after_begin}
-use Rattle.hk_core.specs.Run.{registers_fit}
+use Rattle.hk_core.specs.Run.{Action, Running, run, registers_fit}
 use Rattle.hk_core.specs.Fits.{CanStep}
 use Rattle.hk_core.specs.View.{words_of, names_of}
 use Rattle.hk_core.specs.Flights.{in_object}
 use Rattle.hk_core.specs.Colours.{Covers, IsKeptBirth}
 use Rattle.hk_core.specs.Lawful.{Lawful}
 use Rattle.hk_core.specs.Places.{GoesOn, Ends, KeepsOthers, RowLengths}
+use Rattle.hk_core.specs.Turns.{steps_of, StandsLater}
+use Rattle.hk_core.specs.Replied.{AnswersEntry}
 use Rattle.hk_core.specs.Refused.{TellsRoom, EndsFull}
 use Rattle.hk_core.specs.Fresh.{IsFresh}
 use Rattle.hk_core.specs.Reach.{Reached}
@@ -88,6 +90,30 @@ StepsAlone = (c : State) (seat : ℕ) → IsSized c → seat < tasks c.geometry 
 -- a test of the registers of a call says that they fit
 abbrev pub RegistersTested : Type 0
 RegistersTested = (registers : ℕ) (call : Call) → (registers_fit registers call ≡ true) ↔ RegistersFit registers call
+
+-- Whatever begins, steps of other seats and events of the collector come between, a call in flight stands one place later
+-- for each step of its own seat.
+abbrev pub TakesItsSteps : Type 0
+TakesItsSteps = (r : Running) (seat : ℕ) (actions : List Action) → IsSized r.core → seat < tasks r.core.geometry
+    → 1 ≤ (flight_of r.core.flights seat).place
+    → (flight_of r.core.flights seat).place + steps_of seat actions ≤ places_of (flight_of r.core.flights seat).call
+    → StandsLater (flight_of r.core.flights seat) (flight_of (run r actions).core.flights seat) (steps_of seat actions)
+
+-- So it ends at exactly the step that its row says: a Load at its tenth, a Store or a New at its seventh.
+abbrev pub EndsAtItsLastStep : Type 0
+EndsAtItsLastStep = (r : Running) (seat : ℕ) (actions : List Action) → IsSized r.core → seat < tasks r.core.geometry
+    → 1 ≤ (flight_of r.core.flights seat).place
+    → (flight_of r.core.flights seat).place + steps_of seat actions ≡ places_of (flight_of r.core.flights seat).call
+    → let c = (run r actions).core in
+    Ends (flight_of c.flights seat) (flight_of (next c seat).flights seat) (answer_by c seat)
+
+-- From its begin to its last step, whatever comes between, a call adds one entry of its seat to the history, and the last
+-- step answers what the entry says. Where the history is legal, this is what the plain heap answers at that point.
+abbrev pub AnswersItsEntry : Type 0
+AnswersItsEntry = (r : Running) (seat : ℕ) (call : Call) (actions : List Action) → Lawful r.core r.history → seat < tasks r.core.geometry
+    → refusal r.core seat call ≡ None → 1 + steps_of seat actions ≡ places_of call
+    → let later = run (record r { core = after_begin r.core seat call }) actions in
+    AnswersEntry later.core later.history (of_seat r.history seat) seat call
 
 -- NEWS
 

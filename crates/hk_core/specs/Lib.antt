@@ -16,6 +16,8 @@ pub mod Stands
 pub mod Fits
 pub mod Places
 pub mod Inside
+pub mod Turns
+pub mod Replied
 pub mod Refused
 pub mod Fresh
 pub mod Laws

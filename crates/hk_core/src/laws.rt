@@ -1,5 +1,5 @@
 //! Laws of the machine, over its definitions alone.
-ghost use Rattle.hk_core.specs.Laws.{BeginKeepsLawful, StepKeepsLawful, LawfulCanStep, LawfulIsLegal, NewTellsRoom, AnswersFull, ReachedIsKept, NumbersAreFresh, RowsAreSoLong, RefusedChangesNothing, BeginsAtFirst, BeginsAlone, StaysInRow, StepGoesOn, StepEnds, StepsAlone, RegistersTested, StepsLeaveAlone, InsideStandsApart, InsideKnowsPlace, WritesOwn};
+ghost use Rattle.hk_core.specs.Laws.{BeginKeepsLawful, StepKeepsLawful, LawfulCanStep, LawfulIsLegal, NewTellsRoom, AnswersFull, ReachedIsKept, NumbersAreFresh, RowsAreSoLong, TakesItsSteps, EndsAtItsLastStep, AnswersItsEntry, RefusedChangesNothing, BeginsAtFirst, BeginsAlone, StaysInRow, StepGoesOn, StepEnds, StepsAlone, RegistersTested, StepsLeaveAlone, InsideStandsApart, InsideKnowsPlace, WritesOwn};
 
 /// Begins and steps keep a lawful state lawful, for the history that they lead to, whatever the call; each reply in that
 /// history is the one of the plain heap; and no seat in flight is ever stuck.
@@ -32,6 +32,14 @@ pub fn inside_an_object()
     ensures apart { InsideStandsApart }
     ensures place { InsideKnowsPlace }
     ensures own { WritesOwn }
+{}
+
+/// Whatever others do in between, a call goes on by the steps of its own seat, one place at each, and ends at exactly the
+/// last one of its row. By then it has added one entry to the history, and it answers what the entry says.
+pub fn steps_of_a_call()
+    ensures later { TakesItsSteps }
+    ensures ends { EndsAtItsLastStep }
+    ensures answers { AnswersItsEntry }
 {}
 
 /// A New that is full answers at its last place how many words were used where it found too few, and no other step answers

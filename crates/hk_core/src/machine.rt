@@ -1,4 +1,4 @@
-ghost use Rattle.std.specs.Prelude.{◌≡◌, ◌↔◌, ◌<◌, ◌≤◌, [], length, IsTrue, true, false, IfNone, IfOk, MatchResult, slice_index};
+ghost use Rattle.std.specs.Prelude.{◌≡◌, ◌↔◌, ℕ, ◌<◌, ◌≤◌, [], length, IsTrue, true, false, IfNone, IfOk, MatchResult, slice_index};
 ghost use Rattle.hk_words.specs.Geometry.{tasks};
 ghost use Rattle.hk_words.specs.Layout.{w0_words, w0_cycle};
 ghost use Rattle.hk_words.specs.Row.{W0, W1, IsRegister, word_of};
@@ -13,6 +13,9 @@ ghost use Rattle.hk_core.specs.Step.{next, answer_by, history_after};
 ghost use Rattle.hk_core.specs.Begin.{most_calls, register_word, entered_word, copied_word, has_field, first_flight, after_begin, refusal};
 ghost use Rattle.hk_core.specs.Fits.{CanStep};
 ghost use Rattle.hk_core.specs.Lawful.{Lawful, IsLawful};
+ghost use Rattle.hk_core.specs.Refused.{EndsFull};
+ghost use Rattle.hk_core.specs.declared.outcome.Step.TheVariants.{Ended};
+ghost use Rattle.hk_core.specs.declared.outcome.Outcome.TheVariants.{Full};
 
 use crate::opening::{opening_begun, opening_flights, opening_row, opening_spot};
 use crate::{Event, Fault, Flight, Spot, Step};
@@ -208,14 +211,16 @@ impl Core {
         step
     }
 
-    /// Does the next place of a call in flight. The machine is lawful for each history for which it was, with the entry of
-    /// the place at its end where the place is the call's effect.
+    /// Does the next place of a call in flight, whatever the call. The machine is lawful for each history for which it was,
+    /// with the entry of the place at its end where the place is the call's effect. It answers that there was no room exactly
+    /// at the last place of a New that found too few words, with the words used that it found.
     pub fn step(&mut self, seat: u8) -> Step
         requires seat { seat < tasks self.old.geometry }
         requires flying { 1 ≤ (flight_of self.old.flights seat).place }
         requires lawful { IsLawful self.old }
         ensures next { self.new ≡ next self.old seat }
         ensures step { result ≡ answer_by self.old seat }
+        ensures full { (words : ℕ) → (result ≡ Ended (Full words)) ↔ EndsFull (flight_of self.old.flights seat) words }
         ensures lawful { (history : History) → Lawful self.old history → Lawful self.new (history_after self.old seat history) }
     {
         self.advance(seat)

@@ -1,6 +1,6 @@
 //! Rows of steps that were worked out by hand, on a machine that is lawful all along.
 use crate::{Core, Fault, Memory, Outcome, Step};
-use hk_words::{Call, Geometry, Reply};
+use hk_words::{Call, Geometry, Reply, Shape};
 use std::alloc::Global;
 use std::marker::Model;
 use std::process::Abort;
@@ -43,14 +43,15 @@ impl Machine {
     /// One step of a seat.
     fn step(&mut self, rt: &impl Abort, seat: u8) -> Step {
         assert!(rt; seat < self.core.geometry().tasks());
-        let flight = self.core.flight(seat);
-        assert!(rt; 1 <= flight.place);
-        match flight.call {
-            Call::Get { .. } | Call::Put { .. } | Call::Move { .. } | Call::Clear { .. } => {
-                self.core.step(seat)
-            }
-            _ => panic!(rt; "another call"),
-        }
+        assert!(rt; 1 <= self.core.flight(seat).place);
+        self.core.step(seat)
+    }
+
+    /// Two registers of a seat refer to one object, or are both null.
+    fn same(&self, rt: &impl Abort, seat: u8, a: u8, b: u8) -> bool {
+        let g = self.core.geometry();
+        assert!(rt; seat < g.tasks() && a < g.registers() && b < g.registers());
+        self.core.same(seat, a, b)
     }
 
     /// A call of a seat, begun and stepped to its end: at which step it ended, and how.
@@ -126,6 +127,50 @@ fn put_between_the_places_of_a_get(rt: HostRuntime) -> Result<(), Fail> {
         assert_eq!(rt;
             machine.step(&rt, 0),
             Step::Ended(Outcome::Done(Reply::Num(value)))
+        );
+    }
+    Ok(())
+}
+
+const DONE: Outcome = Outcome::Done(Reply::Unit);
+
+/// A Load of null, a Store of null, and a Store and a Load of the board: each goes through all places of its row.
+#[test]
+fn references_in_the_board(rt: HostRuntime) -> Result<(), Fail> {
+    let g = Geometry::new(8, 16, 0, 1, 0, 1, 0)?;
+    let mut machine = Machine::open(rt.alloc(), g)?;
+    let load = Call::Load {
+        dest: 1,
+        reg: 0,
+        field: 0,
+    };
+    for (from, is_board) in [(2, false), (0, true)] {
+        let store = Call::Store {
+            reg: 0,
+            field: 0,
+            from,
+        };
+        assert_eq!(rt; machine.whole(&rt, 0, store), Some((7, DONE)));
+        assert_eq!(rt; machine.whole(&rt, 0, load), Some((10, DONE)));
+        assert_eq!(rt; machine.same(&rt, 0, 0, 1), is_board);
+    }
+    Ok(())
+}
+
+/// The low seat leaves the reserve, and the high one takes it.
+#[test]
+fn full_by_seats(rt: HostRuntime) -> Result<(), Fail> {
+    let g = Geometry::new(8, 16, 8, 1, 1, 1, 0)?;
+    let mut machine = Machine::open(rt.alloc(), g)?;
+    let shape = Shape::new(1, 0).ok_or("a shape")?;
+    let make = Call::New { dest: 1, shape };
+    for (seat, words) in [(1, 8), (0, 16)] {
+        for _ in 0..4 {
+            assert_eq!(rt; machine.whole(&rt, seat, make), Some((7, DONE)));
+        }
+        assert_eq!(rt;
+            machine.whole(&rt, seat, make),
+            Some((7, Outcome::Full { words }))
         );
     }
     Ok(())

@@ -1,4 +1,4 @@
-use Rattle.std.proofs.Common.{ℕ, ◌<◌, length, arith}
+use Rattle.std.proofs.Common.{ℕ, ◌<◌, length, refl, arith}
 use Rattle.hk_words.specs.Geometry.{tasks}
 use Rattle.hk_core.specs.State.{State, IsSized}
 use Rattle.hk_core.specs.View.{flight_at}
@@ -28,6 +28,17 @@ returns-clause-goes_on c = λ state seat sized below some few. goes_on state sea
 
 pub returns-clause-ends : goal.returns-clause-ends
 returns-clause-ends c = λ state seat sized below some at. ends state seat (has_flight state seat sized below) some at
+
+pub returns-clause-lengths : goal.returns-clause-lengths
+returns-clause-lengths c = record {
+  get = λ reg field. refl;
+  put = λ reg field value. refl;
+  load = λ dest reg field. refl;
+  store = λ reg field from. refl;
+  move = λ dest from. refl;
+  clear = λ dest. refl;
+  new = λ dest shape. refl;
+}
 
 pub returns-clause-steps_alone : goal.returns-clause-steps_alone
 returns-clause-steps_alone c = λ state seat sized below. others_kept state seat (has_flight state seat sized below)

@@ -1,0 +1,5 @@
+pub mod Fitting
+pub mod Collected
+pub mod EachLine
+pub mod Causes
+pub mod Running

@@ -97,3 +97,69 @@ history_kept r = refl
 pub flights_kept : (r : Running) → (act r collect).core.flights ≡ r.core.flights
 unfolding act next_collected
 flights_kept r = refl
+
+-- OPERATIONS
+
+-- a seat that stands at a place of a call goes on from there, and ends at the last one
+stands_at : (c : State) (seat : ℕ) (call : Call) (place : ℕ) → IsSized c → seat < tasks c.geometry → (flight_of c.flights seat).call ≡ call → (flight_of c.flights seat).place ≡ place → 1 ≤ place
+    → StandsAt c seat call place
+stands_at c seat call place sized below its_call its_place some =
+    let there : seat < length c.flights = let flights = sized.flights in omega arith in
+    let same : places_of (flight_of c.flights seat).call ≡ places_of call = ap places_of its_call in
+    record {
+      call = its_call;
+      place = its_place;
+      goes_on = λ more. goes_on c seat there (omega arith) (omega arith);
+      ends = λ last. ends c seat there (omega arith) (omega arith);
+    }
+
+begun_if : (r : Running) (seat : ℕ) (call : Call) → may_begin r.core seat call ≡ true → act r (begin seat call) ≡ record r { core = after_begin r.core seat call }
+unfolding act
+begun_if r seat call may = rw may refl
+
+run_append : (r : Running) (before later : List Action) → run r (before ++ later) ≡ run (run r before) later
+unfolding run
+run_append r before later = fold-append act r before later
+
+run_on : (g : Geometry) (before : List Action) (action : Action) (later : List Action)
+    → run_from_opening g (before ++ action ∷ later) ≡ run (act (run_from_opening g before) action) later
+unfolding run_from_opening run
+run_on g before action later = run_append (record { core = opening g; history = [] }) before (action ∷ later)
+
+-- what a test of a begin says
+idle_seat : (c : State) (seat : ℕ) (call : Call) → may_begin c seat call ≡ true → (seat < tasks c.geometry) × ((flight_of c.flights seat).place ≡ 0)
+idle_seat c seat call may =
+    let p = and_parts (is_idle c seat) (not (is_question call) && registers_fit c.geometry.registers call) may in
+    let idle = and_parts (nat_lt seat (tasks c.geometry)) (nat_eq (flight_of c.flights seat).place 0) p.0 in
+    (ltb-true seat (tasks c.geometry) idle.0, eqb-true (flight_of c.flights seat).place 0 idle.1)
+
+operation_ends : (r : Running) (later : List Action) (seat : ℕ) (call : Call) → IsLawfulRun r → may_begin r.core seat call ≡ true → refusal r.core seat call ≡ None
+    → steps_of seat later < places_of call → StandsAt (run (act r (begin seat call)) later).core seat call (steps_of seat later + 1)
+unfolding first_flight
+operation_ends r later seat call h may accepts few =
+    let idle = idle_seat r.core seat call may in
+    let there : seat < length r.core.flights = let flights = h.sized.flights in let below : seat < tasks r.core.geometry = idle.0 in omega arith in
+    let r1 = act r (begin seat call) in
+    let is : r1 ≡ record r { core = after_begin r.core seat call } = begun_if r seat call may in
+    let first : flight_of r1.core.flights seat ≡ first_flight r.core seat call =
+    ap (λ (x : Running). flight_of x.core.flights seat) is ∙ begins_first r.core seat there call accepts in
+    let place : (flight_of r1.core.flights seat).place ≡ 1 = ap (λ (x : Flight). x.place) first in
+    let its : (flight_of r1.core.flights seat).call ≡ call = ap (λ (x : Flight). x.call) first in
+    let same : places_of (flight_of r1.core.flights seat).call ≡ places_of call = ap places_of its in
+    let h1 : IsLawfulRun r1 = lawful_act r (begin seat call) h in
+    let tasks1 : tasks r1.core.geometry ≡ tasks r.core.geometry = ap tasks (act_geometry r (begin seat call)) in
+    let below1 : seat < tasks r1.core.geometry = let below : seat < tasks r.core.geometry = idle.0 in omega arith in
+    let stands : StandsLater (flight_of r1.core.flights seat) (flight_of (run r1 later).core.flights seat) (steps_of seat later) =
+    stands_later r1 seat later h1.sized below1 (omega arith) (omega arith) in
+    let further = stands.place in
+    let h2 : IsLawfulRun (run r1 later) = lawful_run r1 later h1 in
+    let tasks2 : tasks (run r1 later).core.geometry ≡ tasks r1.core.geometry = ap tasks (run_geometry r1 later) in
+    stands_at (run r1 later).core seat call (steps_of seat later + 1) h2.sized (omega arith) (stands.call ∙ its) (omega arith) (omega arith)
+
+pub operations_end : (g : Geometry) (before later : List Action) (seat : ℕ) (call : Call)
+    → may_begin (run_from_opening g before).core seat call ≡ true → refusal (run_from_opening g before).core seat call ≡ None
+    → steps_of seat later < places_of call
+    → StandsAt (run_from_opening g (before ++ begin seat call ∷ later)).core seat call (steps_of seat later + 1)
+operations_end g before later seat call may accepts few =
+    subst (λ (r : Running). StandsAt r.core seat call (steps_of seat later + 1)) (sym (run_on g before (begin seat call) later))
+    (operation_ends (run_from_opening g before) later seat call (lawful_from_opening g before) may accepts few)

@@ -111,3 +111,74 @@ module _ (g : Geometry) (t : Spot) (old : ℕ) where
   pub attempt_goes_on : l.LineFits g t t.line → in_attempt t.line ≡ true → in_attempt (spot_took g t old).line ≡ true → (spot_took g t old).spent ≡ t.spent + 1
   unfolding spot_took
   attempt_goes_on fits out on = goes_at t.line refl fits out on
+
+  -- THE PASS
+
+  module _ (number : ℕ) where
+    abbrev AfterMark : Line → Type 0
+    AfterMark ln = ln ≡ line.PassHead number → (t.line ≡ line.Pass number) × (old ≡ t.cycle)
+
+    -- the spot that stays on a line other than the header's
+    stays_off : (ln : Line) → t.line ≡ ln → (ln ≡ line.PassHead number → ⊥) → AfterMark t.line
+    stays_off ln at other = λ e. absurd (other (sym at ∙ e))
+
+    after_pass_off : (n : ℕ) → AfterMark (table.after_pass g n)
+    after_pass_off n = pick AfterMark (nat_lt (n + 1) (numbers g)) (line.Pass (n + 1)) (line.Sweep 0 stage.Read) (λ e. absurd (cc)) (λ e. absurd (cc))
+
+    after_register_off : (s r : ℕ) → AfterMark (table.after_register g s r)
+    after_register_off s r = pick AfterMark (nat_lt (r + 1) g.registers) (line.Register s (r + 1) stage.Read) (line.FrameTrade s) (λ e. absurd (cc)) (λ e. absurd (cc))
+
+    after_frame_off : (s : ℕ) → AfterMark (table.after_frame g s)
+    after_frame_off s = pick AfterMark (nat_lt (s + 1) (tasks g)) (line.Frame (s + 1)) line.Scan (λ e. absurd (cc)) (λ e. absurd (cc))
+
+    after_cell_off : (i : ℕ) → AfterMark (table.after_cell t i)
+    after_cell_off i = pick AfterMark (nat_lt (i + 2) (reference_size t.item)) (line.Cell (i + 1) stage.Read) line.ObjectTrade (λ e. absurd (cc)) (λ e. absurd (cc))
+
+    mark_found : (n : ℕ) → t.line ≡ line.Pass n → (test : Bool) → nat_eq old t.cycle ≡ test → AfterMark (if test then line.PassHead n else table.after_pass g n)
+    mark_found n at true same = λ e. let one : n ≡ number = cc in (at ∙ ap line.Pass one, eqb-true old t.cycle same)
+    mark_found n at false other = after_pass_off n
+
+    came_at : (ln : Line) → t.line ≡ ln → AfterMark (took_at_line g t old ln).line
+    unfolding took_at_line table.rest_took table.frame_took table.register_took table.frame_trade_took table.scan_took table.link_took table.look_took table.cell_took table.object_trade_took table.pass_took table.pass_head_took table.sweep_took table.clear_took
+    came_at line.Rest at = pick (λ (x : Spot). AfterMark x.line) (nat_eq t.cycle last_cycle) t _ (stays_off line.Rest at (λ e. cc)) (λ e. absurd (cc))
+    came_at (line.Frame seat) at = pick (λ (x : Spot). AfterMark x.line) (nat_lt 0 (frame_accessors old)) t _ (stays_off (line.Frame seat) at (λ e. cc)) (λ e. absurd (cc))
+    came_at (line.Register seat reg stage.Read) at = pick AfterMark (nat_eq old 0) _ (line.Register seat reg stage.Claim) (after_register_off seat reg) (λ e. absurd (cc))
+    came_at (line.Register seat reg stage.Claim) at = pick AfterMark (nat_lt old t.cycle) (line.Register seat reg stage.Reserve) _ (λ e. absurd (cc)) (after_register_off seat reg)
+    came_at (line.Register seat reg stage.Reserve) at = pick AfterMark (reserved_fits g old t.cell) (line.Register seat reg stage.Tie) _ (λ e. absurd (cc)) (after_register_off seat reg)
+    came_at (line.Register seat reg stage.Tie) at = after_register_off seat reg
+    came_at (line.Register seat reg stage.Write) at = stays_off (line.Register seat reg stage.Write) at (λ e. cc)
+    came_at (line.Register seat reg stage.Mark) at = stays_off (line.Register seat reg stage.Mark) at (λ e. cc)
+    came_at (line.Register seat reg stage.Empty) at = stays_off (line.Register seat reg stage.Empty) at (λ e. cc)
+    came_at (line.FrameTrade seat) at = pick AfterMark (nat_eq old t.first) _ (line.Frame seat) (after_frame_off seat) (λ e. absurd (cc))
+    came_at line.Scan at =
+        pick (λ (x : Spot). AfterMark x.line) (nat_lt g.live old) t _ (stays_off line.Scan at (λ e. cc))
+        (pick AfterMark (nat_lt t.scan old) line.Link (line.Pass 0) (λ e. absurd (cc)) (λ e. absurd (cc)))
+    came_at line.Link at = pick (λ (x : Spot). AfterMark x.line) (nat_eq old 0) _ _ (λ e. absurd (cc)) (λ e. absurd (cc))
+    came_at line.Look at = pick (λ (x : Spot). AfterMark x.line) (nat_lt 0 (header_accessors old)) t _ (stays_off line.Look at (λ e. cc)) (λ e. absurd (cc))
+    came_at (line.Cell index stage.Read) at = λ e. absurd (cc)
+    came_at (line.Cell index stage.Claim) at = λ e. absurd (cc)
+    came_at (line.Cell index stage.Reserve) at = λ e. absurd (cc)
+    came_at (line.Cell index stage.Tie) at = λ e. absurd (cc)
+    came_at (line.Cell index stage.Write) at = after_cell_off index
+    came_at (line.Cell index stage.Mark) at = stays_off (line.Cell index stage.Mark) at (λ e. cc)
+    came_at (line.Cell index stage.Empty) at = stays_off (line.Cell index stage.Empty) at (λ e. cc)
+    came_at line.ObjectTrade at = pick (λ (x : Spot). AfterMark x.line) (nat_eq old t.first) _ _ (λ e. absurd (cc)) (λ e. absurd (cc))
+    came_at (line.Pass n) at = mark_found n at (nat_eq old t.cycle) refl
+    came_at (line.PassHead n) at = pick AfterMark (is_old g t old) line.Scan _ (λ e. absurd (cc)) (after_pass_off n)
+    came_at (line.Sweep n stage.Read) at = pick AfterMark (nat_lt old t.cycle) (line.Sweep n stage.Write) (line.Sweep (n + 1) stage.Read) (λ e. absurd (cc)) (λ e. absurd (cc))
+    came_at (line.Sweep n stage.Claim) at = stays_off (line.Sweep n stage.Claim) at (λ e. cc)
+    came_at (line.Sweep n stage.Reserve) at = stays_off (line.Sweep n stage.Reserve) at (λ e. cc)
+    came_at (line.Sweep n stage.Tie) at = stays_off (line.Sweep n stage.Tie) at (λ e. cc)
+    came_at (line.Sweep n stage.Write) at = λ e. absurd (cc)
+    came_at (line.Sweep n stage.Mark) at = λ e. absurd (cc)
+    came_at (line.Sweep n stage.Empty) at = pick AfterMark (nat_lt t.entries (list_length g)) (line.Sweep (n + 1) stage.Read) (line.Clear 0) (λ e. absurd (cc)) (λ e. absurd (cc))
+    came_at (line.Clear word) at = pick AfterMark (nat_lt (word + 1) (space_words g)) (line.Clear (word + 1)) line.Reset (λ e. absurd (cc)) (λ e. absurd (cc))
+    came_at line.Reset at = λ e. absurd (cc)
+
+    comes : (t.line ≡ line.Pass number) × (old ≡ t.cycle) → (spot_took g t old).line ≡ line.PassHead number
+    unfolding took_at_line table.pass_took
+    comes o = ap (λ (x : Spot). x.line) (took_at g t (line.Pass number) old o.0) ∙ rw (eq-eqb old t.cycle o.1) refl
+
+    pub header_after_mark : ((spot_took g t old).line ≡ line.PassHead number) ↔ ((t.line ≡ line.Pass number) × (old ≡ t.cycle))
+    unfolding spot_took
+    header_after_mark = (came_at t.line refl, comes)

@@ -3,3 +3,4 @@ pub mod Collected
 pub mod EachLine
 pub mod Causes
 pub mod Running
+pub mod Attempts

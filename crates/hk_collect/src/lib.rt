@@ -6,6 +6,7 @@ mod checks;
 mod collector;
 mod decide;
 mod follow;
+mod laws;
 #[cfg(test)]
 mod walk;
 
@@ -13,3 +14,7 @@ pub use collector::{advance, step};
 pub use decide::event;
 pub use follow::took;
 pub use hk_core::Work;
+pub use laws::{
+    collector_keeps_history, events_are_counted, inside_stays, operations_end, runs_are_lawful,
+    runs_give_fresh_numbers,
+};

@@ -2,16 +2,13 @@
 //! jobs end in time, and that the heap has room for what they make while the collector works.
 #![tactic(auto)]
 
-
+mod admission;
 mod checked;
-
+mod declared;
 mod numbers;
 mod refused;
+mod responses;
 
-
-
+pub use admission::{admit, check_heap};
 pub use checked::{Admitted, Checked};
 pub use refused::Refused;
-
-
-

@@ -1,7 +1,7 @@
 //! Why a sheet isn't admitted.
 
 use hk_sheet::Name;
-use std::alloc::AllocError;
+use std::alloc::{AllocError, AllocFailed};
 
 /// Why a sheet isn't admitted: the first reason, in this order. Of the reasons that name a task each looks at all high
 /// tasks, in sheet order, before the next is looked at.
@@ -32,7 +32,23 @@ pub enum Refused {
 }
 
 impl From<AllocError> for Refused {
+    ghost use Rattle.std.specs.Prelude.{◌≡◌};
+    ghost use Rattle.hk_admit.specs.declared.refused.Refused.TheVariants.{Memory};
+
+    ghost from_gives = { λ _ refused. refused ≡ Memory };
+
     fn from(_error: AllocError) -> Refused {
+        Refused::Memory
+    }
+}
+
+impl<T: Drop> From<AllocFailed<T>> for Refused {
+    ghost use Rattle.std.specs.Prelude.{◌≡◌};
+    ghost use Rattle.hk_admit.specs.declared.refused.Refused.TheVariants.{Memory};
+
+    ghost from_gives = { λ _ refused. refused ≡ Memory };
+
+    fn from(_error: AllocFailed<T>) -> Refused {
         Refused::Memory
     }
 }

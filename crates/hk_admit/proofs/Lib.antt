@@ -1,0 +1,4 @@
+pub mod Sizes
+pub mod Readable
+pub mod Found
+pub mod Owed

@@ -1,0 +1,42 @@
+-- Sizes of objects: their bounds, and the greatest of some.
+use Rattle.std.proofs.Common.{◌≡◌, ◌∙◌, ap, refl, ℕ, ◌+◌, ◌<◌, ◌≤◌, zero, suc, max, Bool, ◌||◌, ltb, List, [], ◌∷◌, length, get_or, take, map, arith}
+use Rattle.std.proofs.lemmas.Bool.Decides.{nat_tests}
+use Rattle.std.specs.List.{fold}
+use Rattle.std.proofs.Math.Nat.{add-one}
+use Rattle.hk_words.specs.declared.shape.Shape.{Shape}
+use Rattle.hk_script.specs.declared.statement.Statement.{Statement}
+use Rattle.hk_script.specs.declared.statement.Statement.TheVariants as statement
+use Rattle.hk_script.specs.Cost.{words_of, largest_of}
+use Rattle.hk_admit.specs.Analysis.{greatest, is_new, makes}
+use Rattle.hk_admit.specs.Ranges.{MOST_MADE}
+
+-- a statement makes an object of at most so many words
+words_made_le : (s : Statement) → words_of s ≤ MOST_MADE
+words_made_le (statement.New dest shape) = let few = shape.few in omega arith
+words_made_le s = omega arith
+
+pub largest_made_le : (script : List Statement) → largest_of script ≤ MOST_MADE
+largest_made_le [] = omega arith
+largest_made_le (s ∷ rest) = omega (arith, words_made_le s, largest_made_le rest)
+
+-- a statement takes words exactly where it makes an object
+new_is : (s : Statement) → ltb 0 (words_of s) ≡ is_new s
+new_is (statement.New dest shape) = grind (arith, nat_tests)
+new_is s = refl
+
+positive_max : (m n : ℕ) → ltb 0 (max m n) ≡ (ltb 0 m || ltb 0 n)
+positive_max m n = grind (arith, nat_tests)
+
+pub makes_is : (script : List Statement) → ltb 0 (largest_of script) ≡ makes script
+makes_is [] = refl
+makes_is (s ∷ rest) =
+    positive_max (words_of s) (largest_of rest) ∙ ap (λ (b : Bool). b || ltb 0 (largest_of rest)) (new_is s) ∙ ap (λ (b : Bool). is_new s || b) (makes_is rest)
+
+-- the greatest of one more
+grows : {X : Type 0} (f : X → ℕ) (a : ℕ) (xs : List X) (i : ℕ) (d : X) → i < length xs → fold max a (map f (take (suc i) xs)) ≡ max (fold max a (map f (take i xs))) (f (get_or xs i d))
+grows f a [] i d h = absurd (omega arith)
+grows f a (x ∷ xs) zero d h = refl
+grows f a (x ∷ xs) (suc i) d h = grows f (max a (f x)) xs i d (omega arith)
+
+pub greatest_more : {X : Type 0} (f : X → ℕ) (xs : List X) (i : ℕ) (d : X) → i < length xs → greatest (map f (take (i + 1) xs)) ≡ max (greatest (map f (take i xs))) (f (get_or xs i d))
+greatest_more f xs i d h = rw add-one (grows f 0 xs i d h)

@@ -2,3 +2,4 @@ pub mod Sizes
 pub mod Readable
 pub mod Found
 pub mod Owed
+pub mod Parted

@@ -1,6 +1,7 @@
 //! The numbers of the analysis. No sum in them is above 64 bits.
 
 ghost use Rattle.std.specs.Prelude.{◌≡◌, ◌+◌, ◌≤◌, All, IfOk, MatchOption, map, sum_by};
+ghost use Rattle.std.specs.List.{list_any};
 ghost use Rattle.hk_rta.specs.Busy.{IsOverfull};
 ghost use Rattle.hk_script.specs.Cost.{largest_of};
 ghost use Rattle.hk_sheet.specs.Valid.{IsSheet};
@@ -87,12 +88,25 @@ fn makes(script: &Script) -> bool
     largest(script) > 0
 }
 
+/// Whether the script of some high task makes an object.
+fn some_high_makes(tasks: &[High]) -> bool
+    ensures { result ≡ list_any (λ task. makes task.script) tasks.now }
+{
+    tasks.iter().any(|task| makes(&task.script))
+}
+
+/// Whether the script of some low task makes an object.
+fn some_low_makes(tasks: &[Low]) -> bool
+    ensures { result ≡ list_any (λ task. makes task.script) tasks.now }
+{
+    tasks.iter().any(|task| makes(&task.script))
+}
+
 /// Whether the script of some task makes an object.
 fn some_makes(sheet: &Sheet) -> bool
     ensures { result ≡ some_makes sheet.now }
 {
-    sheet.high.items.iter().any(|task| makes(&task.script))
-        || sheet.low.items.iter().any(|task| makes(&task.script))
+    some_high_makes(&sheet.high.items) || some_low_makes(&sheet.low.items)
 }
 
 /// The most events of an attempt that a job can spoil, 0 where no script makes an object.

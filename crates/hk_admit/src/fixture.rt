@@ -79,3 +79,10 @@ pub(crate) fn sheet(
         low: Lows { items: lows },
     })
 }
+
+/// Whether a sheet can be read.
+pub(crate) fn is_sheet(sheet: &Sheet) -> bool
+    ensures { IsTrue result → IsSheet sheet.now }
+{
+    sheet.ticks > 0
+}

@@ -12,3 +12,9 @@ mod responses;
 pub use admission::{admit, check_heap};
 pub use checked::{Admitted, Checked};
 pub use refused::Refused;
+
+#[cfg(test)]
+mod fixture;
+
+#[cfg(test)]
+mod tests;

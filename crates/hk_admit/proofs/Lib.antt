@@ -3,3 +3,4 @@ pub mod Readable
 pub mod Found
 pub mod Owed
 pub mod Parted
+pub mod Letters

@@ -2,6 +2,7 @@ use super::*;
 use crate::fixture::{Heap, Task, is_sheet, sheet};
 use hk_sheet::Name;
 use std::alloc::{AllocError, Global};
+use std::process::Abort;
 use std::test::Fail;
 
 /// A sheet, by its heap, its high tasks and its low tasks' scripts, and what it is answered.
@@ -21,8 +22,8 @@ const STATS: &str = "load r1 r0 2;if null r1;else;get v0 r1 0;end;put r0 2 v0;cl
 const LARGE: &str = "repeat 65535;new r1 31 31;new r1 31 31;new r1 31 31;new r1 31 31;new r1 1 2;end;new r1 31 31;new r1 31 31;new r1 31 31;new r1 31 31;new r1 1 2";
 const LARGEST: &str = "repeat 65535;new r1 31 31;new r1 31 31;new r1 31 31;new r1 31 31;new r1 31 31;end";
 
-/// Worked by hand.
-const CASES: &[Case] = &[
+/// All of it, worked by hand.
+const WHOLE: &[Case] = &[
     // the smallest run
     (H, &[(2, 10, 10, 0, "work 1;out v0")], &[], "work 4179 attempt 0 busy 2 debt 0 responses 2"),
     // three tasks
@@ -45,6 +46,10 @@ const CASES: &[Case] = &[
     (((10, 512, 129, 11), (2, 2)), &[(7, 1000, 1000, 5, "new r1 1 3")], &[], "work 3711 attempt 34 busy 96 debt 89 responses 7"),
     // a realistic sheet: fast, mid and slow, log and stats
     (((256, 1024, 128, 11), (5, 4)), &[(90, 500, 500, 3, FAST), (139, 1000, 1000, 0, MID), (222, 2000, 2000, 2, SLOW)], &[LOG, STATS], "work 9645 attempt 47 busy 918 debt 367 responses 90 229 451"),
+];
+
+/// Ticks and words.
+const TICKS_AND_WORDS: &[Case] = &[
     // a script too long to be told
     (H, &[(2, 10, 10, 0, "repeat 65535;work 65535;end")], &[], "cost a need none declared 2"),
     // the tests of a repeat count
@@ -65,6 +70,10 @@ const CASES: &[Case] = &[
     (H, &[(2359296, 16777216, 16777216, 16777216, LARGE)], &[], "busy"),
     // and one word less is declared
     (H, &[(2359296, 16777216, 16777216, 16777215, LARGE)], &[], "words a need 16777216 declared 16777215"),
+];
+
+/// The order of tasks and of refusals.
+const ORDER: &[Case] = &[
     // the first of two costs
     (H, &[(2, 10, 10, 0, "work 3"), (2, 10, 10, 0, "work 4")], &[], "cost a need 3 declared 2"),
     // the second task's cost
@@ -87,6 +96,10 @@ const CASES: &[Case] = &[
     (H, &[(1, 4, 4, 0, "work 1"), (2, 6, 6, 0, "work 2"), (3, 12, 9, 0, "work 3")], &[], "response c"),
     // and before the reserve
     (((62, 512, 12, 11), (2, 2)), &[(40, 1000, 39, 3, "new r1 1 1;work 33")], &["new r1 1 1"], "response a"),
+];
+
+/// Responses.
+const RESPONSES: &[Case] = &[
     // a cost that is the deadline
     (H, &[(10, 10, 10, 0, "work 10")], &[], "work 4179 attempt 0 busy 10 debt 0 responses 10"),
     // and one above it
@@ -105,6 +118,10 @@ const CASES: &[Case] = &[
     (H, &[(4, 10, 10, 0, "work 1"), (2, 10, 10, 0, "work 1")], &[], "work 4213 attempt 0 busy 6 debt 0 responses 4 6"),
     // twenty tasks
     (((62, 512, 129, 13), (2, 2)), &[(1, 20, 20, 0, "work 1"); 20], &[], "work 4825 attempt 0 busy 20 debt 0 responses 1 2 3 4 5 6 7 8 9 10 11 12 13 14 15 16 17 18 19 20"),
+];
+
+/// Busy periods.
+const BUSY_PERIODS: &[Case] = &[
     // a word is owed in each period: 13 ticks in 10
     (H, &[(2, 10, 10, 1, "work 1;out v0")], &[], "busy"),
     // what is owed fills the period
@@ -137,6 +154,10 @@ const CASES: &[Case] = &[
     (H, &[], &["new r1 1 2", "new r1 1 1"], "rate have 4169 need 4213"),
     // a high task's object doesn't
     (H, &[(7, 1000, 1000, 4, "new r1 1 2")], &[], "work 4179 attempt 34 busy 85 debt 78 responses 7"),
+];
+
+/// Attempts.
+const ATTEMPTS: &[Case] = &[
     // a board of 63 words: 2 + 5 * 62
     (((64, 512, 129, 11), (31, 31)), &[(7, 1000, 1000, 2, "new r1 1 0")], &[], "work 4197 attempt 312 busy 341 debt 334 responses 7"),
     // nothing is made, so no attempt is spoiled
@@ -149,6 +170,10 @@ const CASES: &[Case] = &[
     (((62, 512, 129, 11), (2, 5)), &[(7, 1000, 1000, 2, "new r1 1 0")], &[], "work 4179 attempt 37 busy 66 debt 59 responses 7"),
     // a script that makes an object in a block alone
     (H, &[(14, 1000, 1000, 3, "if v0 < v1;else;new r1 1 1;end;work 6")], &[], "work 4179 attempt 34 busy 81 debt 67 responses 14"),
+];
+
+/// The rate and the reserve.
+const ROOM: &[Case] = &[
     // no word is outside the reserve
     (((62, 512, 512, 11), (2, 2)), &[(2, 10, 10, 0, "work 1")], &[], "rate have 0 need 4179"),
     // fewer words are outside than an object has
@@ -271,10 +296,9 @@ fn part(alloc: Global, answer: &Result<Checked, Refused>) -> Result<String, Allo
     }
 }
 
-#[test]
-fn admits(rt: HostRuntime) -> Result<(), Fail> {
-    let alloc = rt.alloc();
-    for (heap, high, low, want) in CASES {
+/// Admits the sheets of a table.
+fn admit_all(rt: &impl Abort, alloc: Global, cases: &[Case]) -> Result<(), Fail> {
+    for (heap, high, low, want) in cases {
         let sheet = sheet(alloc, *heap, high, low)?;
         assert!(rt; is_sheet(&sheet), "a sheet for {want}");
         let line = whole(alloc, &admit(alloc, sheet))?;
@@ -283,14 +307,53 @@ fn admits(rt: HostRuntime) -> Result<(), Fail> {
     Ok(())
 }
 
-#[test]
-fn checks_the_heap_alone(rt: HostRuntime) -> Result<(), Fail> {
-    let alloc = rt.alloc();
-    for (heap, high, low, want) in HEAP_CASES {
+/// Checks the heaps of the sheets of a table.
+fn check_all(rt: &impl Abort, alloc: Global, cases: &[Case]) -> Result<(), Fail> {
+    for (heap, high, low, want) in cases {
         let sheet = sheet(alloc, *heap, high, low)?;
         assert!(rt; is_sheet(&sheet), "a sheet for {want}");
         let line = part(alloc, &check_heap(alloc, sheet))?;
         assert_eq!(rt; line.as_str(), *want);
     }
     Ok(())
+}
+
+#[test]
+fn worked_sheets(rt: HostRuntime) -> Result<(), Fail> {
+    admit_all(&rt, rt.alloc(), WHOLE)
+}
+
+#[test]
+fn ticks_and_words(rt: HostRuntime) -> Result<(), Fail> {
+    admit_all(&rt, rt.alloc(), TICKS_AND_WORDS)
+}
+
+#[test]
+fn first_refusals(rt: HostRuntime) -> Result<(), Fail> {
+    admit_all(&rt, rt.alloc(), ORDER)
+}
+
+#[test]
+fn response_times(rt: HostRuntime) -> Result<(), Fail> {
+    admit_all(&rt, rt.alloc(), RESPONSES)
+}
+
+#[test]
+fn busy_periods(rt: HostRuntime) -> Result<(), Fail> {
+    admit_all(&rt, rt.alloc(), BUSY_PERIODS)
+}
+
+#[test]
+fn attempts(rt: HostRuntime) -> Result<(), Fail> {
+    admit_all(&rt, rt.alloc(), ATTEMPTS)
+}
+
+#[test]
+fn rates_and_reserves(rt: HostRuntime) -> Result<(), Fail> {
+    admit_all(&rt, rt.alloc(), ROOM)
+}
+
+#[test]
+fn heaps_alone(rt: HostRuntime) -> Result<(), Fail> {
+    check_all(&rt, rt.alloc(), HEAP_CASES)
 }

@@ -4,7 +4,7 @@ use Rattle.std.proofs.lemmas.Bool.Decides.{nat_tests}
 use Rattle.std.specs.List.{find, list_any}
 
 -- the first of two failed tests has failed, and so has the second
-failed : (a b : Bool) → (a || b) ≡ false → (a ≡ false) × (b ≡ false)
+pub failed : (a b : Bool) → (a || b) ≡ false → (a ≡ false) × (b ≡ false)
 failed true b h = absurd (cc)
 failed false b h = (refl, h)
 

@@ -4,3 +4,5 @@ pub mod Found
 pub mod Owed
 pub mod Parted
 pub mod Letters
+pub mod Kept
+pub mod Excluded

@@ -6,7 +6,6 @@ use Rattle.hk_rta.specs.declared.Load.{Load}
 use Rattle.hk_rta.specs.declared.TheConstants.{MAX_TICKS}
 use Rattle.hk_rta.specs.Busy.{Busy}
 use Rattle.hk_rta.specs.Demand.{starts_in}
-use Rattle.hk_admit.specs.declared.numbers.TheConstants.{LONGEST}
 use Rattle.hk_script.specs.declared.statement.Statement.{Statement}
 use Rattle.hk_script.specs.declared.statement.Statement.TheVariants as statement
 use Rattle.hk_script.specs.Cost.{largest_of}
@@ -89,14 +88,14 @@ loads sheet = map (load_of sheet.heap.rate (attempt_events sheet)) sheet.high
 abbrev pub if_low : Sheet → ℕ → ℕ
 if_low sheet n = if length sheet.low == 0 then 0 else n
 
--- the events that low tasks can make the collector owe before a busy period, of which one operation may be in
--- mid-course as it begins: an object, and an attempt
+-- the events that a low task can make the collector owe as a busy period begins, by the one operation that is then in
+-- mid-course: the rate for each word of an object, and an attempt
 abbrev pub low_events : Sheet → ℕ
 low_events sheet = if_low sheet (sheet.heap.rate * largest_low sheet + attempt_events sheet)
 
--- the ticks that can wait as a busy period begins: the longest operation of a low task, and its events
+-- the ticks that can wait as a busy period begins: those of the longest operation, a load, and the low task's events
 abbrev pub base : Sheet → ℕ
-base sheet = if_low sheet (LONGEST + (sheet.heap.rate * largest_low sheet + attempt_events sheet))
+base sheet = if_low sheet (10 + (sheet.heap.rate * largest_low sheet + attempt_events sheet))
 
 -- x is the length of the busy period: from the arrival of a job to the first tick at which no high job is left and the
 -- collector owes nothing

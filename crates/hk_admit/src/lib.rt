@@ -5,12 +5,14 @@
 mod admission;
 mod checked;
 mod declared;
+mod laws;
 mod numbers;
 mod refused;
 mod responses;
 
 pub use admission::{admit, check_heap};
 pub use checked::{Admitted, Checked};
+pub use laws::no_refusal;
 pub use refused::Refused;
 
 #[cfg(test)]

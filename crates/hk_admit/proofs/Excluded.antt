@@ -1,12 +1,12 @@
 -- What the types keep of a sheet excludes each of its refusals.
-use Rattle.std.proofs.Common.{◌≡◌, ◌∙◌, refl, sym, subst, ap, ℕ, ◌<◌, ◌≤◌, Bool, true, false, ◌||◌, cond, Option, Some, None, List, [], ◌∷◌, slice_index, arith}
+use Rattle.std.proofs.Common.{◌≡◌, refl, ap, ℕ, Bool, false, Some, None, List, [], ◌∷◌, arith}
 use Rattle.std.specs.List.{find, list_any}
 use Rattle.std.specs.Option.{option_map}
 use Rattle.hk_sheet.specs.declared.sheet.High.{High}
 use Rattle.hk_sheet.specs.declared.sheet.Sheet.{Sheet}
 use Rattle.hk_admit.specs.declared.refused.Refused.{Refused}
 use Rattle.hk_admit.specs.declared.refused.Refused.TheVariants as refused
-use Rattle.hk_admit.specs.Analysis.{timings_of, base, loads, IsBusy, most_owed}
+use Rattle.hk_admit.specs.Analysis.{timings_of, IsBusy, most_owed}
 use Rattle.hk_admit.specs.Conditions.{is_too_long, is_too_large, AreResponses}
 use Rattle.hk_admit.specs.Facts.{IsChecked}
 use Rattle.hk_admit.specs.Refusals.{too_long, too_large, IsHeapRefusal, IsRefusal}

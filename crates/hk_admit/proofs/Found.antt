@@ -1,6 +1,5 @@
 -- The first element that passes a test, and the conditions and refusals that go by it.
-use Rattle.std.proofs.Common.{◌≡◌, refl, sym, ℕ, ◌<◌, zero, suc, Bool, true, false, cond, ◌||◌, Option, Some, None, List, [], ◌∷◌, length, get_or, take, ap, arith}
-use Rattle.std.proofs.lemmas.Bool.Decides.{nat_tests}
+use Rattle.std.proofs.Common.{◌≡◌, refl, ℕ, ◌<◌, zero, suc, Bool, true, false, cond, ◌||◌, Some, List, [], ◌∷◌, length, get_or, take, arith}
 use Rattle.std.specs.List.{find, list_any}
 
 -- the first of two failed tests has failed, and so has the second

@@ -1,12 +1,11 @@
 -- What the tests ask of their sheets makes them sheets that can be read: names of one letter each, which rise from task to
 -- task, are distinct.
-use Rattle.std.proofs.Common.{◌≡◌, ◌∙◌, refl, sym, ap, subst, ℕ, ◌+◌, ◌<◌, zero, suc, Bool, true, false, ◌||◌, List, [], ◌∷◌, ◌++◌, map, length, get_or, None, All, arith}
+use Rattle.std.proofs.Common.{◌≡◌, ◌∙◌, refl, sym, ap, subst, ℕ, ◌+◌, ◌<◌, suc, Bool, true, false, ◌||◌, List, [], ◌∷◌, ◌++◌, map, length, get_or, None, All, arith}
 use Rattle.std.proofs.lemmas.Bool.Decides.{nat_tests}
 use Rattle.std.proofs.lemmas.List.{length-map}
 use Rattle.std.specs.Prelude.{bytes_eq}
 use Rattle.std.proofs.lemmas.List.Elements.{recursion_from_All}
 use Rattle.hk_words.specs.Geometry.{first_error}
-use Rattle.hk_sheet.specs.declared.sheet.HeapKeys.{HeapKeys}
 use Rattle.hk_sheet.specs.declared.sheet.High.{High}
 use Rattle.hk_sheet.specs.declared.sheet.Low.{Low}
 use Rattle.hk_sheet.specs.declared.sheet.Sheet.{Sheet}
@@ -33,11 +32,10 @@ apart c from (name ∷ rest) less are =
 
 distinct : (from : ℕ) (names : List (List ℕ)) → AreLetters from names → AreDistinct names
 distinct from [] are = tt
-distinct from (name ∷ rest) are =
-    (
-      λ among. let apart : is_among rest name ≡ false = subst (λ (n : List ℕ). is_among rest n ≡ false) (sym are.0) (apart from (from + 1) rest (omega arith) are.1) in absurd (cc),
-      distinct (from + 1) rest are.1,
-    )
+distinct from (name ∷ rest) are = (
+  λ among. let apart : is_among rest name ≡ false = subst (λ (n : List ℕ). is_among rest n ≡ false) (sym are.0) (apart from (from + 1) rest (omega arith) are.1) in absurd (cc),
+  distinct (from + 1) rest are.1,
+)
 
 joined : (from n : ℕ) (xs ys : List (List ℕ)) → n ≡ from + length xs → AreLetters from xs → AreLetters n ys → AreLetters from (xs ++ ys)
 joined from n [] ys e p q = subst (λ (m : ℕ). AreLetters m ys) (omega arith) q
@@ -45,19 +43,17 @@ joined from n (x ∷ xs) ys e p q = (p.0, joined (from + 1) n xs ys (omega arith
 
 high_letters : (from : ℕ) (tasks : List High) → ((k : ℕ) (d : High) → k < length tasks → (get_or tasks k d).name ≡ (from + k) ∷ []) → AreLetters from (map (λ (task : High). task.name) tasks)
 high_letters from [] named = tt
-high_letters from (task ∷ rest) named =
-    (
-      named 0 task (omega arith) ∙ ap (λ (n : ℕ). n ∷ []) (omega arith),
-      high_letters (from + 1) rest (λ k d within. named (suc k) d (omega arith) ∙ ap (λ (n : ℕ). n ∷ []) (omega arith)),
-    )
+high_letters from (task ∷ rest) named = (
+  named 0 task (omega arith) ∙ ap (λ (n : ℕ). n ∷ []) (omega arith),
+  high_letters (from + 1) rest (λ k d within. named (suc k) d (omega arith) ∙ ap (λ (n : ℕ). n ∷ []) (omega arith)),
+)
 
 low_letters : (from : ℕ) (tasks : List Low) → ((k : ℕ) (d : Low) → k < length tasks → (get_or tasks k d).name ≡ (from + k) ∷ []) → AreLetters from (map (λ (task : Low). task.name) tasks)
 low_letters from [] named = tt
-low_letters from (task ∷ rest) named =
-    (
-      named 0 task (omega arith) ∙ ap (λ (n : ℕ). n ∷ []) (omega arith),
-      low_letters (from + 1) rest (λ k d within. named (suc k) d (omega arith) ∙ ap (λ (n : ℕ). n ∷ []) (omega arith)),
-    )
+low_letters from (task ∷ rest) named = (
+  named 0 task (omega arith) ∙ ap (λ (n : ℕ). n ∷ []) (omega arith),
+  low_letters (from + 1) rest (λ k d within. named (suc k) d (omega arith) ∙ ap (λ (n : ℕ). n ∷ []) (omega arith)),
+)
 
 pub all_distinct : (high : List High) (low : List Low) → ((k : ℕ) (d : High) → k < length high → (get_or high k d).name ≡ (97 + k) ∷ []) → ((k : ℕ) (d : Low) → k < length low → (get_or low k d).name ≡ (97 + length high + k) ∷ []) → AreDistinct (map (λ (task : High). task.name) high ++ map (λ (task : Low). task.name) low)
 all_distinct high low highs lows =

@@ -1,5 +1,5 @@
 -- The refusals of the parts of a check are those of the whole.
-use Rattle.std.proofs.Common.{◌≡◌, ◌∙◌, refl, sym, ap, subst, ℕ, ◌<◌, ◌≤◌, Bool, true, false, Option, Some, None, List, [], length, map, get_or, take, slice_index, arith}
+use Rattle.std.proofs.Common.{◌≡◌, ◌∙◌, sym, ap, subst, ℕ, ◌<◌, ◌≤◌, Bool, true, false, Some, List, [], length, get_or, take, slice_index}
 use Rattle.std.specs.List.{find, list_any}
 use Rattle.std.specs.Option.{option_map}
 use Rattle.std.proofs.lemmas.List.{length-map, get_or-map}
@@ -11,7 +11,7 @@ use Rattle.hk_sheet.specs.declared.sheet.Sheet.{Sheet}
 use Rattle.hk_admit.specs.declared.refused.Refused.{Refused}
 use Rattle.hk_admit.specs.declared.refused.Refused.TheVariants as refused
 use Rattle.hk_admit.specs.Analysis.{timings_of}
-use Rattle.hk_admit.specs.Conditions.{is_too_long, is_too_large, KeepsToDeclared, AreInTime, IsFirstLate, AreResponses}
+use Rattle.hk_admit.specs.Conditions.{is_too_long, is_too_large, KeepsToDeclared, AreInTime, AreResponses}
 use Rattle.hk_admit.specs.Refusals.{too_long, too_large, first_too_long, first_too_large, IsFirstLateName, IsHeapRefusal, IsRefusal}
 use Rattle.hk_admit.specs.Parts.{IsThat, IsDeclaredRefusal, IsLateRefusal}
 use Rattle.hk_admit.proofs.Found.{find_at}

@@ -1,11 +1,8 @@
 -- What follows for a sheet that can be read.
-use Rattle.std.proofs.Common.{◌≡◌, refl, subst, ℕ, ◌+◌, ◌*◌, ◌%◌, ◌^◌, ◌≤◌, Bool, true, false, not, ◌||◌, nat_lt, ◌==◌, ltb, eqb, Option, Some, None, List, map, length, All, if◌then◌else◌, arith}
+use Rattle.std.proofs.Common.{◌≡◌, refl, subst, ℕ, ◌+◌, ◌%◌, ◌≤◌, Bool, true, false, not, ◌||◌, nat_lt, ◌==◌, ltb, eqb, Option, Some, None, List, map, length, All, if◌then◌else◌, arith}
 use Rattle.std.proofs.lemmas.Bool.Decides.{nat_tests}
-use Rattle.std.proofs.lemmas.List.{length-map}
 use Rattle.std.proofs.lemmas.List.Elements.{All-from_recursion, All-weaker, All-map}
-use Rattle.hk_rta.specs.declared.Timing.{Timing}
 use Rattle.std.proofs.lemmas.Nat.{mul-le}
-use Rattle.hk_rta.specs.declared.Load.{Load}
 use Rattle.hk_rta.specs.Demand.{IsTimed, IsLoad}
 use Rattle.hk_words.specs.declared.geometry.GeoError.{GeoError}
 use Rattle.hk_words.specs.declared.geometry.GeoError.TheVariants.{Odd, Small, Large, Reserve, Tasks, Board}
@@ -34,13 +31,13 @@ few_of n h = grind (arith, nat_tests)
 few_in : (s : Sizes) → first_error s ≡ None → s.high + s.low ≤ 31
 few_in s h =
     few_of (s.high + s.low) (
-      fifth (not (s.live % 2 == 0) || not (s.alloc % 2 == 0))
-      (nat_lt s.live (1 + s.refs + s.nums) || nat_lt s.alloc MIN_ALLOC)
-      (nat_lt MAX_WORDS s.live || nat_lt MAX_WORDS s.alloc)
-      (nat_lt s.alloc s.reserve)
-      (s.high + s.low == 0 || nat_lt MAX_TASKS (s.high + s.low))
-      (if s.refs + s.nums == 0 || nat_lt MAX_FIELDS (s.refs + s.nums) then Some Board else None)
-      h)
+    fifth (not (s.live % 2 == 0) || not (s.alloc % 2 == 0))
+    (nat_lt s.live (1 + s.refs + s.nums) || nat_lt s.alloc MIN_ALLOC)
+    (nat_lt MAX_WORDS s.live || nat_lt MAX_WORDS s.alloc)
+    (nat_lt s.alloc s.reserve)
+    (s.high + s.low == 0 || nat_lt MAX_TASKS (s.high + s.low))
+    (if s.refs + s.nums == 0 || nat_lt MAX_FIELDS (s.refs + s.nums) then Some Board else None)
+    h)
 
 -- there are at most 31 tasks
 pub few_tasks : (sheet : Sheet) → IsSheet sheet → length sheet.high + length sheet.low ≤ 31

@@ -1,5 +1,5 @@
 -- The numbers of the analysis of a sheet. Events are steps of the collector, one a tick; sizes are in words, times in ticks.
-use Rattle.std.specs.Prelude.{ℕ, ◌+◌, ◌-◌, ◌*◌, ◌≤◌, max, Bool, true, false, ◌||◌, ◌==◌, if◌then◌else◌, List, ◌++◌, length, map, fold, sum_by}
+use Rattle.std.specs.Prelude.{ℕ, ◌+◌, ◌-◌, ◌*◌, ◌≤◌, max, Bool, true, false, ◌||◌, ◌==◌, if◌then◌else◌, List, length, map, fold, sum_by}
 use Rattle.std.specs.List.{list_any}
 use Rattle.hk_rta.specs.declared.Timing.{Timing}
 use Rattle.hk_rta.specs.declared.Load.{Load}

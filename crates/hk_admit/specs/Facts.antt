@@ -1,9 +1,9 @@
 -- What the types of the analysis keep of every value.
-use Rattle.std.specs.Prelude.{◌≡◌, ℕ, ◌≤◌, List}
+use Rattle.std.specs.Prelude.{◌≡◌, ℕ, ◌≤◌}
 use Rattle.hk_sheet.specs.declared.sheet.Sheet.{Sheet}
 use Rattle.hk_sheet.specs.Valid.{IsSheet}
-use Rattle.hk_admit.specs.Analysis.{timings_of, cycle_events, attempt_events, IsBusy, most_owed, events_outside, events_in_reserve}
-use Rattle.hk_admit.specs.Conditions.{KeepsToDeclared, AreResponses}
+use Rattle.hk_admit.specs.Analysis.{cycle_events, attempt_events, IsBusy, most_owed, events_outside, events_in_reserve}
+use Rattle.hk_admit.specs.Conditions.{KeepsToDeclared}
 
 -- The sheet can be read, its high tasks keep to what they declare, the numbers are those of the sheet, and the heap has
 -- room: the collector ends a cycle before the words outside the reserve are taken, and the reserve lasts for what is

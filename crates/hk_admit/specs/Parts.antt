@@ -1,10 +1,10 @@
 -- What the parts of a check answer.
-use Rattle.std.specs.Prelude.{◌≡◌, false, List, Option, None, Some, Result, Ok, Err}
+use Rattle.std.specs.Prelude.{◌≡◌, false, List, Option, Some}
 use Rattle.std.specs.List.{list_any}
 use Rattle.hk_sheet.specs.declared.sheet.High.{High}
 use Rattle.hk_admit.specs.declared.refused.Refused.{Refused}
 use Rattle.hk_admit.specs.declared.refused.Refused.TheVariants.{Cost, Words, Response, Memory}
-use Rattle.hk_admit.specs.Conditions.{is_too_long, is_too_large, KeepsToDeclared}
+use Rattle.hk_admit.specs.Conditions.{is_too_long}
 use Rattle.hk_admit.specs.Refusals.{first_too_long, first_too_large, IsFirstLateName}
 
 -- a refusal that was looked for, or want of memory

@@ -1,6 +1,6 @@
 -- Each of the facts that the types keep has at most one proof.
 use Rattle.std.specs.Prelude.{ℕ, List, [], ◌∷◌}
-use Rattle.std.specs.Coded.{×_prop, Unit-prop}
+use Rattle.std.specs.Coded.{×_prop}
 use Rattle.std.proofs.Props.{props}
 use Rattle.hk_rta.specs.declared.Timing.{Timing}
 use Rattle.hk_script.specs.declared.statement.Statement.{Statement}

@@ -7,7 +7,9 @@ ghost use Rattle.hk_admit.specs.Refusals.{IsHeapRefusal, IsRefusal};
 
 use crate::checked::{Admitted, Checked};
 use crate::declared::check_declared;
-use crate::numbers::{attempt_events, busy, cycle_events, events_in_reserve, events_outside, most_owed};
+use crate::numbers::{
+    attempt_events, busy, cycle_events, events_in_reserve, events_outside, most_owed,
+};
 use crate::refused::Refused;
 use crate::responses::responses;
 use hk_sheet::Sheet;

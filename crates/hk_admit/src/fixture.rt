@@ -10,7 +10,9 @@ ghost use Rattle.hk_sheet.specs.Valid.{IsFrom, IsHeap, IsTiming, AreArrivals, Is
 
 use hk_rta::Timing;
 use hk_script::parse;
-use hk_sheet::{Arrivals, HeapKeys, High, Highs, Low, Lows, MAX_RATE, MAX_SIZE, MAX_TICKS, Name, Sheet};
+use hk_sheet::{
+    Arrivals, HeapKeys, High, Highs, Low, Lows, MAX_RATE, MAX_SIZE, MAX_TICKS, Name, Sheet,
+};
 use hk_words::Geometry;
 use std::alloc::Global;
 use std::test::Fail;

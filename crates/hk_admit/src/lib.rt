@@ -17,6 +17,5 @@ pub use refused::Refused;
 
 #[cfg(test)]
 mod fixture;
-
 #[cfg(test)]
 mod tests;

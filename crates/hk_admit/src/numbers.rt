@@ -147,12 +147,7 @@ fn load_of(rate: u64, attempt: u64, task: &High) -> Load
 }
 
 /// What each high task brings at each arrival.
-fn loads(
-    alloc: Global,
-    rate: u64,
-    attempt: u64,
-    tasks: &[High],
-) -> Result<Vec<Load>, AllocError>
+fn loads(alloc: Global, rate: u64, attempt: u64, tasks: &[High]) -> Result<Vec<Load>, AllocError>
     requires rate { rate ≤ MAX_RATE }
     requires attempt { attempt ≤ MOST_ATTEMPT }
     requires tasks { All IsInRange tasks.now }

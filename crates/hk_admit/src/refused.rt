@@ -24,9 +24,15 @@ pub enum Refused {
     /// There are busy periods above 2^24 ticks, or without an end.
     Busy,
     /// The collector does `have` events before the words outside the reserve are taken, and a cycle can need `need`.
-    Rate { have: u64, need: u64 },
+    Rate {
+        have: u64,
+        need: u64,
+    },
     /// The words of the reserve stand for `have` events, and in a busy period `need` can be owed.
-    Reserve { have: u64, need: u64 },
+    Reserve {
+        have: u64,
+        need: u64,
+    },
     /// There was no memory.
     Memory,
 }

@@ -3,7 +3,7 @@ use Rattle.std.proofs.lemmas.Result.{err_from_is_err_and}
 use Rattle.hk_sheet.specs.declared.sheet.High.{High}
 use Rattle.hk_sheet.specs.declared.sheet.Sheet.{Sheet}
 use Rattle.hk_admit.specs.Analysis.{timings_of}
-use Rattle.hk_admit.specs.Conditions.{AreResponses, AreInTime}
+use Rattle.hk_admit.specs.Conditions.{AreInTime}
 use Rattle.hk_admit.proofs.Parted.{all_in_time, room_whole}
 use Rattle.hk_admit.proofs.admission.admit.Goals as goal
 

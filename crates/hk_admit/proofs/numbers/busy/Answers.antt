@@ -1,8 +1,8 @@
-use Rattle.std.proofs.Common.{◌∙◌, ap, sym, subst, All, arith}
+use Rattle.std.proofs.Common.{◌∙◌, ap, sym, subst, All}
 use Rattle.hk_rta.specs.Demand.{IsLoad}
 use Rattle.hk_sheet.specs.declared.sheet.Sheet.{Sheet}
 use Rattle.hk_admit.proofs.Owed.{same_loads, busy_answer}
-use Rattle.hk_admit.proofs.Readable.{all_in_range, sheet_loads}
+use Rattle.hk_admit.proofs.Readable.{sheet_loads}
 use Rattle.hk_admit.proofs.numbers.busy.Goals as goal
 
 pub busy-requires-clause-loads : goal.busy-requires-clause-loads

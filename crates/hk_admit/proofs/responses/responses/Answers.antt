@@ -1,4 +1,4 @@
-use Rattle.std.proofs.Common.{◌∙◌, sym, refl, subst, ℕ, ◌<◌, ◌≤◌, List, All, slice_index, arith}
+use Rattle.std.proofs.Common.{◌∙◌, sym, refl, subst, ◌≤◌, List, All, slice_index, arith}
 use Rattle.hk_rta.specs.declared.Timing.{Timing}
 use Rattle.hk_rta.specs.Demand.{IsTimed, deadline_at}
 use Rattle.hk_rta.specs.Response.{Response, IsLate}

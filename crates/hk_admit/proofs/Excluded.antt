@@ -20,13 +20,13 @@ find_none p (task ∷ rest) none =
     let split = failed (p task) (list_any p rest) none in
     rw split.0 (find_none p rest split.1)
 
-never : (f : High → Refused) (p : High → Bool) (tasks : List High) (r : Refused) → list_any p tasks ≡ false → ¬ (option_map f (find p tasks) ≡ Some r)
+pub never : (f : High → Refused) (p : High → Bool) (tasks : List High) (r : Refused) → list_any p tasks ≡ false → ¬ (option_map f (find p tasks) ≡ Some r)
 never f p tasks r none found =
     let e : option_map f (find p tasks) ≡ None = ap (option_map f) (find_none p tasks none) in
     absurd (cc)
 
 -- there is one busy period
-one_busy : (sheet : Sheet) (x y : ℕ) → IsBusy sheet x → IsBusy sheet y → x ≡ y
+pub one_busy : (sheet : Sheet) (x y : ℕ) → IsBusy sheet x → IsBusy sheet y → x ≡ y
 one_busy sheet x y p q = omega (arith, p.least.least y q.least.holds, q.least.least x p.least.holds)
 
 pub checked_excludes : (sheet : Sheet) (work attempt busy debt : ℕ) (r : Refused) → IsChecked sheet work attempt busy debt → IsHeapRefusal sheet r → r ≡ refused.Memory

@@ -6,3 +6,4 @@ pub mod Parted
 pub mod Letters
 pub mod Kept
 pub mod Excluded
+pub mod Unique

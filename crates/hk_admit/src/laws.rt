@@ -1,6 +1,6 @@
-//! The law of the answers.
+//! The laws of the answers.
 
-ghost use Rattle.std.specs.Prelude.{◌≡◌, ℕ, List};
+ghost use Rattle.std.specs.Prelude.{◌≡◌, ◌≢◌, ℕ, List};
 ghost use Rattle.hk_sheet.specs.declared.sheet.Sheet.{Sheet};
 ghost use Rattle.hk_admit.specs.declared.refused.Refused.{Refused};
 ghost use Rattle.hk_admit.specs.declared.refused.Refused.TheVariants.{Memory};
@@ -14,4 +14,10 @@ ghost use Rattle.hk_admit.specs.Refusals.{IsHeapRefusal, IsRefusal};
 pub fn no_refusal()
     ensures checked { (sheet : Sheet) (work attempt busy debt : ℕ) (refused : Refused) → IsChecked sheet work attempt busy debt → IsHeapRefusal sheet refused → refused ≡ Memory }
     ensures admitted { (sheet : Sheet) (work attempt busy debt : ℕ) (responses : List ℕ) (refused : Refused) → IsChecked sheet work attempt busy debt → AreResponses (timings_of sheet.high) responses → IsRefusal sheet refused → refused ≡ Memory }
+{}
+
+/// A sheet has one refusal at most, but for want of memory: the first, with its numbers.
+pub fn one_refusal()
+    ensures heap { (sheet : Sheet) (one other : Refused) → IsHeapRefusal sheet one → IsHeapRefusal sheet other → one ≢ Memory → other ≢ Memory → one ≡ other }
+    ensures whole { (sheet : Sheet) (one other : Refused) → IsRefusal sheet one → IsRefusal sheet other → one ≢ Memory → other ≢ Memory → one ≡ other }
 {}

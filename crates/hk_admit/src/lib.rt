@@ -12,7 +12,7 @@ mod responses;
 
 pub use admission::{admit, check_heap};
 pub use checked::{Admitted, Checked};
-pub use laws::no_refusal;
+pub use laws::{no_refusal, one_refusal};
 pub use refused::Refused;
 
 #[cfg(test)]

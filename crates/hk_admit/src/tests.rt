@@ -32,7 +32,7 @@ const LARGE: &str =
 const LARGEST: &str =
     "repeat 65535;new r1 31 31;new r1 31 31;new r1 31 31;new r1 31 31;new r1 31 31;end";
 
-/// All of it, worked by hand.
+/// Sheets that are whole, and such that fall short by one. All tables are worked by hand.
 const WHOLE: &[Case] = &[
     // the smallest run
     (
@@ -114,17 +114,6 @@ const WHOLE: &[Case] = &[
         &[(7, 1000, 1000, 5, "new r1 1 3")],
         &[],
         "work 3711 attempt 34 busy 96 debt 89 responses 7",
-    ),
-    // a realistic sheet: fast, mid and slow, log and stats
-    (
-        ((256, 1024, 128, 11), (5, 4)),
-        &[
-            (90, 500, 500, 3, FAST),
-            (139, 1000, 1000, 0, MID),
-            (222, 2000, 2000, 2, SLOW),
-        ],
-        &[LOG, STATS],
-        "work 9645 attempt 47 busy 918 debt 367 responses 90 229 451",
     ),
 ];
 
@@ -586,6 +575,66 @@ const ROOM: &[Case] = &[
     ),
 ];
 
+/// The high tasks of a control application.
+const LOOPS: &[Task] = &[
+    (90, 500, 500, 3, FAST),
+    (139, 1000, 1000, 0, MID),
+    (222, 2000, 2000, 2, SLOW),
+];
+
+/// The heap of a control application, sized step by step.
+const SIZES: &[Case] = &[
+    // a first guess
+    (
+        ((256, 1024, 128, 5), (5, 4)),
+        LOOPS,
+        &[LOG, STATS],
+        "rate have 4460 need 9645",
+    ),
+    // the least rate that will do
+    (
+        ((256, 1024, 128, 11), (5, 4)),
+        LOOPS,
+        &[LOG, STATS],
+        "work 9645 attempt 47 busy 918 debt 367 responses 90 229 451",
+    ),
+    // one less: 10 * 892
+    (
+        ((256, 1024, 128, 10), (5, 4)),
+        LOOPS,
+        &[LOG, STATS],
+        "rate have 8920 need 9645",
+    ),
+    // the least reserve that will do at that rate
+    (
+        ((256, 1024, 34, 11), (5, 4)),
+        LOOPS,
+        &[LOG, STATS],
+        "work 9645 attempt 47 busy 918 debt 367 responses 90 229 451",
+    ),
+    // one word less
+    (
+        ((256, 1024, 33, 11), (5, 4)),
+        LOOPS,
+        &[LOG, STATS],
+        "reserve have 363 need 367",
+    ),
+    // a small reserve leaves room for a lower rate
+    (
+        ((256, 1024, 36, 10), (5, 4)),
+        LOOPS,
+        &[LOG, STATS],
+        "work 9645 attempt 47 busy 906 debt 355 responses 90 229 451",
+    ),
+    // one word less
+    (
+        ((256, 1024, 35, 10), (5, 4)),
+        LOOPS,
+        &[LOG, STATS],
+        "reserve have 350 need 355",
+    ),
+];
+
 /// The same, where responses aren't looked at.
 const HEAP_CASES: &[Case] = &[
     // a late response isn't looked at
@@ -788,6 +837,11 @@ fn attempts(rt: HostRuntime) -> Result<(), Fail> {
 #[test]
 fn rates_and_reserves(rt: HostRuntime) -> Result<(), Fail> {
     admit_all(&rt, rt.alloc(), ROOM)
+}
+
+#[test]
+fn sizing(rt: HostRuntime) -> Result<(), Fail> {
+    admit_all(&rt, rt.alloc(), SIZES)
 }
 
 #[test]

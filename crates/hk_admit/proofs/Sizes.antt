@@ -5,7 +5,9 @@ use Rattle.std.specs.List.{fold}
 use Rattle.hk_script.specs.declared.statement.Statement.{Statement}
 use Rattle.hk_script.specs.declared.statement.Statement.TheVariants as statement
 use Rattle.hk_script.specs.Cost.{words_of, largest_of}
-use Rattle.hk_admit.specs.Analysis.{greatest, is_new, makes}
+use Rattle.hk_sheet.specs.declared.sheet.High.{High}
+use Rattle.hk_sheet.specs.declared.sheet.Low.{Low}
+use Rattle.hk_admit.specs.Analysis.{greatest, high_sizes, low_sizes, is_new, makes}
 use Rattle.hk_admit.specs.Ranges.{MOST_MADE}
 
 -- a statement makes an object of at most so many words
@@ -30,11 +32,13 @@ makes_is [] = refl
 makes_is (s ∷ rest) =
     positive_max (words_of s) (largest_of rest) ∙ ap (λ (b : Bool). b || ltb 0 (largest_of rest)) (new_is s) ∙ ap (λ (b : Bool). is_new s || b) (makes_is rest)
 
--- the greatest of one more
-grows : {X : Type 0} (f : X → ℕ) (a : ℕ) (xs : List X) (i : ℕ) (d : X) → i < length xs → fold max a (map f (take (suc i) xs)) ≡ max (fold max a (map f (take i xs))) (f (get_or xs i d))
-grows f a [] i d h = absurd (omega arith)
-grows f a (x ∷ xs) zero d h = refl
-grows f a (x ∷ xs) (suc i) d h = grows f (max a (f x)) xs i d (omega arith)
+-- the greatest of some sizes within a bound is within it
+within : {X : Type 0} (f : X → ℕ) (bound a : ℕ) (xs : List X) → a ≤ bound → ((x : X) → f x ≤ bound) → fold max a (map f xs) ≤ bound
+within f bound a [] first each = first
+within f bound a (x ∷ xs) first each = within f bound (max a (f x)) xs (omega (arith, each x)) each
 
-pub greatest_more : {X : Type 0} (f : X → ℕ) (xs : List X) (i : ℕ) (d : X) → i < length xs → greatest (map f (take (i + 1) xs)) ≡ max (greatest (map f (take i xs))) (f (get_or xs i d))
-greatest_more f xs i d h = rw add-one (grows f 0 xs i d h)
+pub high_made_le : (tasks : List High) → greatest (high_sizes tasks) ≤ MOST_MADE
+high_made_le tasks = within (λ (task : High). largest_of task.script) MOST_MADE 0 tasks (omega arith) (λ task. largest_made_le task.script)
+
+pub low_made_le : (tasks : List Low) → greatest (low_sizes tasks) ≤ MOST_MADE
+low_made_le tasks = within (λ (task : Low). largest_of task.script) MOST_MADE 0 tasks (omega arith) (λ task. largest_made_le task.script)

@@ -3,7 +3,6 @@
 ghost use Rattle.std.specs.Prelude.{◌≡◌, ◌+◌, ◌≤◌, All, IfOk, MatchOption, map, sum_by};
 ghost use Rattle.std.specs.List.{list_any};
 ghost use Rattle.hk_rta.specs.Busy.{IsOverfull};
-ghost use Rattle.hk_script.specs.Cost.{largest_of};
 ghost use Rattle.hk_sheet.specs.Valid.{IsSheet};
 ghost use Rattle.hk_admit.specs.Analysis.{cycle_events, greatest, high_sizes, low_sizes, largest_low, largest_object, board_size, makes, some_makes, attempt_events, job_events, load_of, loads, low_events, base, IsBusy, events_in, most_owed, events_outside, events_in_reserve};
 ghost use Rattle.hk_admit.specs.Ranges.{MOST_MADE, MOST_WORDS, MOST_ATTEMPT, MOST_EVENTS, IsInRange};
@@ -14,10 +13,10 @@ use hk_sheet::{HeapKeys, High, Low, MAX_RATE, Sheet};
 use std::alloc::{AllocError, Global};
 
 /// The ticks of the longest operation of a task, which is a load of a reference.
-pub(crate) const LONGEST: u64 = 10;
+const LONGEST: u64 = 10;
 
 /// The fewest events of an attempt that is counted: those on a frame with eight registers.
-pub(crate) const SHORTEST_ATTEMPT: u64 = 34;
+const SHORTEST_ATTEMPT: u64 = 34;
 
 /// The most events of a whole collection cycle.
 pub(crate) fn cycle_events(sheet: &Sheet) -> u64
@@ -28,25 +27,15 @@ pub(crate) fn cycle_events(sheet: &Sheet) -> u64
     3 + 34 * tasks + 9 * u64::from(sheet.heap.live) + 7 * u64::from(sheet.heap.alloc)
 }
 
-/// The size of the largest object that a script makes, 0 where it makes none.
-#[tactic(auto, using(crate::proofs::Sizes::largest_made_le))]
-fn largest_made(script: &Script) -> u32
-    ensures value { result ≡ largest_of script.now }
-    ensures small { result ≤ MOST_MADE }
-{
-    largest(script)
-}
-
 /// The size of the largest object that a high task makes, 0 where none makes any.
 fn largest_high(tasks: &[High]) -> u32
     ensures value { result ≡ greatest (high_sizes tasks.now) }
     ensures small { result ≤ MOST_MADE }
 {
-    let mut size: u32 = 0;
-    for task in tasks {
-        size = size.max(largest_made(&task.script));
-    }
-    size
+    tasks
+        .iter()
+        .map(|task| largest(&task.script))
+        .fold(0, |greatest, size| greatest.max(size))
 }
 
 /// The size of the largest object that a low task makes, 0 where none makes any.
@@ -54,11 +43,10 @@ fn largest_low(tasks: &[Low]) -> u32
     ensures value { result ≡ greatest (low_sizes tasks.now) }
     ensures small { result ≤ MOST_MADE }
 {
-    let mut size: u32 = 0;
-    for task in tasks {
-        size = size.max(largest_made(&task.script));
-    }
-    size
+    tasks
+        .iter()
+        .map(|task| largest(&task.script))
+        .fold(0, |greatest, size| greatest.max(size))
 }
 
 /// The size of the board.
@@ -153,11 +141,10 @@ fn loads(alloc: Global, rate: u64, attempt: u64, tasks: &[High]) -> Result<Vec<L
     requires tasks { All IsInRange tasks.now }
     ensures { IfOk result (λ v. v.items ≡ map (load_of rate attempt) tasks.now) }
 {
-    let mut loads = Vec::new(alloc);
-    for task in tasks {
-        loads.push(load_of(rate, attempt, task))?;
-    }
-    Ok(loads)
+    tasks
+        .iter()
+        .map(|task| load_of(rate, attempt, task))
+        .collect(alloc)
 }
 
 /// The events that low tasks can make the collector owe before a busy period.

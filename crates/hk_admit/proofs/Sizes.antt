@@ -1,5 +1,5 @@
 -- Sizes of objects: their bounds, and the greatest of some.
-use Rattle.std.proofs.Common.{◌≡◌, ◌∙◌, ap, refl, ℕ, ◌+◌, ◌<◌, ◌≤◌, zero, suc, max, Bool, ◌||◌, ltb, List, [], ◌∷◌, length, get_or, take, map, add-one, arith}
+use Rattle.std.proofs.Common.{◌≡◌, ◌∙◌, ap, refl, ℕ, ◌≤◌, max, Bool, ◌||◌, ltb, List, [], ◌∷◌, map, arith}
 use Rattle.std.proofs.lemmas.Bool.Decides.{nat_tests}
 use Rattle.std.specs.List.{fold}
 use Rattle.hk_script.specs.declared.statement.Statement.{Statement}

@@ -198,11 +198,10 @@ fn events_in(rate: u64, attempt: u64, window: u64, tasks: &[High]) -> u64
     requires few { sum_by (events_in rate attempt window) tasks.now ≤ MAX_TICKS }
     ensures { result ≡ sum_by (events_in rate attempt window) tasks.now }
 {
-    let mut sum = 0;
-    for task in tasks {
-        sum += window.div_ceil(task.timing.period) * job_events(rate, attempt, task);
-    }
-    sum
+    tasks
+        .iter()
+        .map(|task| window.div_ceil(task.timing.period) * job_events(rate, attempt, task))
+        .sum()
 }
 
 /// The most events that the collector can owe in the busy period.

@@ -41,10 +41,10 @@ pub same_loads : (sheet : Sheet) (rate attempt : ℕ) (tasks : List High) → ra
 same_loads sheet rate attempt tasks r a t = λ i. map (load_of (r i) (a i)) (t i)
 
 -- what is answered of the busy period
-pub busy_answer : (sheet : Sheet) (brought : List Load) (waiting : ℕ) (r : Option ℕ) → brought ≡ loads sheet → waiting ≡ base sheet → IfSome r (λ x. Busy brought waiting x) → IfSome r (λ x. x ≤ MAX_TICKS) → (IsNone r ↔ IsOverfull brought waiting MAX_TICKS) → MatchOption r (IsOverfull (loads sheet) (base sheet) MAX_TICKS) (λ x. IsBusy sheet x)
-busy_answer sheet brought waiting None b w found short none =
-    subst (λ (n : ℕ). IsOverfull (loads sheet) n MAX_TICKS) w (subst (λ (l : List Load). IsOverfull l waiting MAX_TICKS) b (none.0 refl))
-busy_answer sheet brought waiting (Some x) b w found short none = record {
+pub busy_answer : (sheet : Sheet) (brought : List Load) (waiting cap : ℕ) (r : Option ℕ) → brought ≡ loads sheet → waiting ≡ base sheet → cap ≡ MAX_TICKS → IfSome r (λ x. Busy brought waiting x) → IfSome r (λ x. x ≤ cap) → (IsNone r ↔ IsOverfull brought waiting cap) → MatchOption r (IsOverfull (loads sheet) (base sheet) MAX_TICKS) (λ x. IsBusy sheet x)
+busy_answer sheet brought waiting cap None b w e found short none =
+    subst (λ (n : ℕ). IsOverfull (loads sheet) (base sheet) n) e (subst (λ (n : ℕ). IsOverfull (loads sheet) n cap) w (subst (λ (l : List Load). IsOverfull l waiting cap) b (none.0 refl)))
+busy_answer sheet brought waiting cap (Some x) b w e found short none = record {
   least = subst (λ (n : ℕ). Busy (loads sheet) n x) w (subst (λ (l : List Load). Busy l waiting x) b found);
-  short = short;
+  short = subst (λ (n : ℕ). x ≤ n) e short;
 }

@@ -97,8 +97,8 @@ low_events sheet = if_low sheet (sheet.heap.rate * largest_low sheet + attempt_e
 abbrev pub base : Sheet → ℕ
 base sheet = if_low sheet (10 + (sheet.heap.rate * largest_low sheet + attempt_events sheet))
 
--- x is the length of the busy period: from the arrival of a job to the first tick at which no high job is left and the
--- collector owes nothing
+-- x is the length of the busy period in ticks, and is at most 2^24: the least window that has room for what waits as it
+-- begins and for all that the high tasks bring in it
 pub record IsBusy (sheet : Sheet) (x : ℕ) : Type 0 where
   pub least : Busy (loads sheet) (base sheet) x
   pub short : x ≤ MAX_TICKS

@@ -30,8 +30,8 @@ pub record IsFirstLateName (tasks : List High) (name : List ℕ) : Type 0 where
   pub first : IsFirstLate (timings_of tasks) place
   pub named : name ≡ slice_index_or (map (λ (task : High). task.name) tasks) place []
 
--- in this order: no busy period is short enough; the collector does too few events, before the words outside the
--- reserve are taken, for a whole cycle; the reserve stands for fewer events than can be owed in the busy period
+-- there is a busy period, and the collector does too few events for a whole cycle while the words outside the reserve
+-- are taken
 pub record IsRateShort (sheet : Sheet) (have need : ℕ) : Type 0 where
   pub busy : ℕ
   pub is_busy : IsBusy sheet busy
@@ -39,6 +39,8 @@ pub record IsRateShort (sheet : Sheet) (have need : ℕ) : Type 0 where
   pub needs : need ≡ cycle_events sheet
   pub short : have < need
 
+-- there is a busy period, the collector does enough for a cycle, and the words of the reserve stand for fewer events than
+-- can be owed in the busy period
 pub record IsReserveShort (sheet : Sheet) (have need : ℕ) : Type 0 where
   pub busy : ℕ
   pub is_busy : IsBusy sheet busy

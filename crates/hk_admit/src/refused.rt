@@ -21,7 +21,7 @@ pub enum Refused {
     },
     /// The response time of this high task is above its deadline.
     Response(Name),
-    /// There are busy periods above 2^24 ticks, or without an end.
+    /// The busy period is above 2^24 ticks, or has no end.
     Busy,
     /// The collector does `have` events before the words outside the reserve are taken, and a cycle can need `need`.
     Rate {

@@ -1,4 +1,4 @@
--- The refusals of the parts of a check are those of the whole.
+-- From the parts of a check to the refusals of the whole.
 use Rattle.std.proofs.Common.{◌≡◌, ◌∙◌, sym, ap, subst, ℕ, ◌<◌, ◌≤◌, Bool, true, false, Some, List, [], length, get_or, take, slice_index}
 use Rattle.std.specs.List.{find, list_any}
 use Rattle.std.specs.Option.{option_map}
@@ -11,9 +11,9 @@ use Rattle.hk_sheet.specs.declared.sheet.Sheet.{Sheet}
 use Rattle.hk_admit.specs.declared.refused.Refused.{Refused}
 use Rattle.hk_admit.specs.declared.refused.Refused.TheVariants as refused
 use Rattle.hk_admit.specs.Analysis.{timings_of}
-use Rattle.hk_admit.specs.Conditions.{is_too_long, is_too_large, KeepsToDeclared, AreInTime, AreResponses}
+use Rattle.hk_admit.specs.Conditions.{is_too_long, is_too_large, AreInTime, AreResponses}
 use Rattle.hk_admit.specs.Refusals.{too_long, too_large, first_too_long, first_too_large, IsFirstLateName, IsHeapRefusal, IsRefusal}
-use Rattle.hk_admit.specs.Parts.{IsThat, IsDeclaredRefusal, IsLateRefusal}
+use Rattle.hk_admit.specs.Parts.{IsThat}
 use Rattle.hk_admit.proofs.Found.{find_at}
 
 -- the first task that fails a test of what it declares
@@ -49,34 +49,7 @@ late_at tasks responses i task name within is named late each in_time = record {
 pub all_in_time : (tasks : List Timing) (responses : List ℕ) → AreResponses tasks responses → AreInTime tasks
 all_in_time tasks responses are i within = in_time_at tasks i (slice_index responses i) (are.each i within) (are.in_time i within)
 
--- the refusals of the parts are refusals of the whole
-pub declared_heap : (sheet : Sheet) (r : Refused) → IsDeclaredRefusal sheet.high r → IsHeapRefusal sheet r
-declared_heap sheet (refused.Cost task need declared) h = h
-declared_heap sheet (refused.Words task need declared) h = h
-declared_heap sheet (refused.Response task) h = h
-declared_heap sheet refused.Busy h = absurd h
-declared_heap sheet (refused.Rate have need) h = absurd h
-declared_heap sheet (refused.Reserve have need) h = absurd h
-declared_heap sheet refused.Memory h = h
-
-pub declared_whole : (sheet : Sheet) (r : Refused) → IsDeclaredRefusal sheet.high r → IsRefusal sheet r
-declared_whole sheet (refused.Cost task need declared) h = h
-declared_whole sheet (refused.Words task need declared) h = h
-declared_whole sheet (refused.Response task) h = absurd h
-declared_whole sheet refused.Busy h = absurd h
-declared_whole sheet (refused.Rate have need) h = absurd h
-declared_whole sheet (refused.Reserve have need) h = absurd h
-declared_whole sheet refused.Memory h = h
-
-pub late_whole : (sheet : Sheet) (r : Refused) → KeepsToDeclared sheet.high → IsLateRefusal sheet.high r → IsRefusal sheet r
-late_whole sheet (refused.Cost task need declared) keeps h = absurd h
-late_whole sheet (refused.Words task need declared) keeps h = absurd h
-late_whole sheet (refused.Response task) keeps h = (keeps, h)
-late_whole sheet refused.Busy keeps h = absurd h
-late_whole sheet (refused.Rate have need) keeps h = absurd h
-late_whole sheet (refused.Reserve have need) keeps h = absurd h
-late_whole sheet refused.Memory keeps h = h
-
+-- a refusal of the heap of a sheet whose tasks are in time is one of the whole
 pub room_whole : (sheet : Sheet) (r : Refused) → AreInTime (timings_of sheet.high) → IsHeapRefusal sheet r → IsRefusal sheet r
 room_whole sheet (refused.Cost task need declared) in_time h = h
 room_whole sheet (refused.Words task need declared) in_time h = h

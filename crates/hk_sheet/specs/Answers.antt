@@ -1,15 +1,26 @@
--- What a search answers.
-use Rattle.std.specs.Prelude.{Option, Some, None, Result, Ok, Err}
-use Rattle.hk_sheet.specs.declared.reader.ReadError.{ReadError}
-use Rattle.hk_sheet.specs.declared.reader.ReadError.TheVariants.{NotFirstForm, Memory}
+-- What reading bytes answers.
+use Rattle.std.specs.Prelude.{◌≡◌, ℕ, List, Some, Result, Ok, Err, IsUtf8}
+use Rattle.toml.specs.Data.{Members}
+use Rattle.toml.specs.Parse.{parse_document}
+use Rattle.hk_sheet.specs.declared.error.SheetError.{SheetError}
+use Rattle.hk_sheet.specs.declared.error.SheetError.TheVariants as error
+use Rattle.hk_sheet.specs.declared.sheet.Sheet.{Sheet}
+use Rattle.hk_sheet.specs.Faults.{sheet_of}
 
--- what was found is so, and nothing is where nothing was found
-abbrev pub Finds : {X : Type 0} → (X → Type 0) → Option X → Type 0
-Finds {X} P None = (x : X) → ¬ (P x)
-Finds {X} P (Some x) = P x
+-- the bytes are a TOML document
+pub record IsDocument (bytes : List ℕ) (document : Members) : Type 0 where
+  pub utf8 : IsUtf8 bytes
+  pub parsed : parse_document bytes ≡ Some document
 
--- what was read is so, and nothing is where nothing was read for another cause than memory
-abbrev pub Reads : {X : Type 0} → (X → Type 0) → Result X ReadError → Type 0
-Reads {X} P (Ok x) = P x
-Reads {X} P (Err NotFirstForm) = (x : X) → ¬ (P x)
-Reads {X} P (Err Memory) = Unit {0}
+-- the bytes are a TOML document, of which this is the sheet, or the first fault
+pub record IsRead (bytes : List ℕ) (answer : Result Sheet SheetError) : Type 0 where
+  pub document : Members
+  pub is : IsDocument bytes document
+  pub read : sheet_of document ≡ answer
+
+-- what was answered is right: the sheet or the first fault of the document, and `Text` where there is no document. Want of
+-- memory is free
+abbrev pub Answers : List ℕ → Result Sheet SheetError → Type 0
+Answers bytes (Err error.Text) = (document : Members) → ¬ (IsDocument bytes document)
+Answers bytes (Err error.Memory) = Unit {0}
+Answers bytes answer = IsRead bytes answer

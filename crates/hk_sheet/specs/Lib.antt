@@ -1,7 +1,6 @@
-pub mod Answers
 pub mod Arrivals
-pub mod Lines
-pub mod Script
-pub mod Keys
-pub mod Section
-pub mod FirstForm
+pub mod Rules
+pub mod Reading
+pub mod Faults
+pub mod Valid
+pub mod Answers

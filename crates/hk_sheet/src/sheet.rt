@@ -1,5 +1,6 @@
-use crate::{Arrivals, Script};
+use crate::Arrivals;
 use hk_rta::Timing;
+use hk_script::Script;
 use std::marker::Model;
 
 /// The most ticks of a run, and the greatest period, deadline, cost, first arrival and step.
@@ -16,6 +17,15 @@ pub const MAX_BOARD: u64 = 255;
 
 /// The most bytes of a name.
 pub const MAX_NAME: usize = 16;
+
+/// The most arrivals of a list.
+pub const MAX_ARRIVALS: usize = 4_096;
+
+/// The most bytes of a key that an error shows.
+pub const MAX_KEY: usize = 80;
+
+/// More tasks of a kind count as so many in the geometry, which has room for fewer.
+pub const MAX_COUNTED: u64 = 255;
 
 /// The name of a task: 1 to 16 bytes of `a` to `z`, `0` to `9` and `_`, a letter first. A contract sees the list of
 /// the bytes.

@@ -1,6 +1,0 @@
-mod AnswerLemmas
-mod NumberLemmas
-mod OneSheet
-mod ParseLemmas
-mod ScriptLemmas
-mod TableLemmas

@@ -1,0 +1,107 @@
+-- The sheet that a document declares, where it has no fault. Where it has one, these words say something without a meaning.
+use Rattle.std.specs.Prelude.{ℕ, List, [], ◌∷◌, map, filter_map, codes, unwrap_or, Option, Some, None, Result, Ok, Err, if◌then◌else◌}
+use Rattle.toml.specs.Data.{Data, string, array, table, Items, no_items, Members, no_members, get_member, as_table, as_str}
+use Rattle.hk_rta.specs.declared.Timing.{Timing}
+use Rattle.hk_script.specs.declared.statement.Statement.{Statement}
+use Rattle.hk_script.specs.declared.error.ScriptError.{ScriptError}
+use Rattle.hk_script.specs.Texts.{script_of}
+use Rattle.hk_sheet.specs.declared.arrivals.Arrivals.{Arrivals}
+use Rattle.hk_sheet.specs.declared.arrivals.Arrivals.TheVariants.{Every}
+use Rattle.hk_sheet.specs.declared.arrivals.Arrivals.TheVariants as arrivals
+use Rattle.hk_sheet.specs.declared.sheet.HeapKeys.{HeapKeys}
+use Rattle.hk_sheet.specs.declared.sheet.High.{High}
+use Rattle.hk_sheet.specs.declared.sheet.Low.{Low}
+use Rattle.hk_sheet.specs.declared.sheet.Sheet.{Sheet}
+use Rattle.hk_sheet.specs.Rules.{elements_of, number_of, number_at, has_list}
+
+-- the value at a key, and an empty array where there is none
+abbrev pub held : Option Data → Data
+held None = array no_items
+held (Some d) = d
+
+abbrev pub value_at : List ℕ → Members → Data
+value_at key entries = held (get_member key entries)
+
+-- the text at a key, the table at a key, the tables of the array at a key, and the numbers of the array at a key
+abbrev pub text_at : List ℕ → Members → List ℕ
+text_at key entries = unwrap_or (as_str (value_at key entries)) []
+
+abbrev pub table_at : List ℕ → Members → Members
+table_at key entries = unwrap_or (as_table (value_at key entries)) no_members
+
+abbrev pub tables_at : List ℕ → Members → List Members
+tables_at key entries = filter_map as_table (elements_of (value_at key entries))
+
+abbrev pub numbers_at : List ℕ → Members → List ℕ
+numbers_at key entries = map number_of (elements_of (value_at key entries))
+
+-- the two numbers of a pair
+abbrev pub first_of_pair : List ℕ → ℕ
+first_of_pair (first ∷ rest) = first
+first_of_pair [] = 0
+
+abbrev pub second_of_pair : List ℕ → ℕ
+second_of_pair (first ∷ second ∷ rest) = second
+second_of_pair numbers = 0
+
+-- the heap that a table declares
+unfoldable pub heap_in : Members → HeapKeys
+heap_in entries = record {
+  live = number_at (codes "live") entries;
+  alloc = number_at (codes "alloc") entries;
+  reserve = number_at (codes "reserve") entries;
+  rate = number_at (codes "rate") entries;
+  refs = first_of_pair (numbers_at (codes "board") entries);
+  nums = second_of_pair (numbers_at (codes "board") entries);
+}
+
+-- the arrivals that the table of a task declares
+unfoldable pub arrivals_in : Members → Arrivals
+arrivals_in entries = if has_list entries
+    then arrivals.List (numbers_at (codes "arrivals") entries)
+    else Every (number_at (codes "first") entries) (number_at (codes "every") entries)
+
+-- the script of a text that spells one
+abbrev pub read_script : Result (List Statement) ScriptError → List Statement
+read_script (Ok script) = script
+read_script (Err error) = []
+
+unfoldable pub script_in : Members → List Statement
+script_in entries = read_script (script_of (text_at (codes "script") entries))
+
+-- the times of a high task
+unfoldable pub timing_in : Members → Timing
+timing_in entries = record {
+  cost = number_at (codes "cost") entries;
+  period = number_at (codes "period") entries;
+  deadline = number_at (codes "deadline") entries;
+}
+
+-- the high task, and the low one, that a table declares
+unfoldable pub high_in : Members → High
+high_in entries = record {
+  name = text_at (codes "name") entries;
+  timing = timing_in entries;
+  words = number_at (codes "words") entries;
+  arrivals = arrivals_in entries;
+  script = script_in entries;
+}
+
+unfoldable pub low_in : Members → Low
+low_in entries = record { name = text_at (codes "name") entries; arrivals = arrivals_in entries; script = script_in entries }
+
+-- the tables of the high tasks, and of the low ones
+abbrev pub highs_of : Members → List Members
+highs_of document = tables_at (codes "high") document
+
+abbrev pub lows_of : Members → List Members
+lows_of document = tables_at (codes "low") document
+
+-- the sheet that a document declares
+unfoldable pub sheet_in : Members → Sheet
+sheet_in document = record {
+  ticks = number_at (codes "ticks") document;
+  heap = heap_in (table_at (codes "heap") document);
+  high = map high_in (highs_of document);
+  low = map low_in (lows_of document);
+}

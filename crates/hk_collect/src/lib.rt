@@ -4,6 +4,8 @@
 #[cfg(test)]
 mod checks;
 mod collector;
+#[cfg(test)]
+mod cycles;
 mod decide;
 mod follow;
 mod laws;

@@ -79,61 +79,6 @@ fn rest(rt: &impl Abort, core: &mut Core, seat: u8) -> (u32, Option<Outcome>) {
     (20, None)
 }
 
-/// How many events of the collector in a row are useful.
-fn useful(rt: &impl Abort, core: &mut Core) -> (u32, Work) {
-    for events in 0..200 {
-        let work = collect(rt, core);
-        if work != Work::Useful {
-            return (events, work);
-        }
-    }
-    (200, Work::Useful)
-}
-
-/// A store of the board into its own field, met by the collector.
-const STORE: Call = Call::Store {
-    reg: 0,
-    field: 0,
-    from: 0,
-};
-
-#[test]
-fn store_while_moved(rt: HostRuntime) -> Result<(), Fail> {
-    let g = Geometry::new(8, 16, 0, 1, 0, 1, 0)?;
-    let mut core = Core::open(rt.alloc(), g)?;
-    assert_eq!(rt; begin(&rt, &mut core, 0, STORE), Ok(()));
-    assert_eq!(rt; step(&rt, &mut core, 0), Step::Going);
-    assert_eq!(rt; collect(&rt, &mut core), Work::Flipped);
-    assert_eq!(rt; useful(&rt, &mut core), (15, Work::BusyObject(0)));
-    assert_eq!(rt; useful(&rt, &mut core), (0, Work::BusyObject(0)));
-    assert_eq!(rt;
-        rest(&rt, &mut core, 0),
-        (6, Some(Outcome::Done(Reply::Unit)))
-    );
-    for _ in 0..5 {
-        assert_eq!(rt; collect(&rt, &mut core), Work::Useful);
-    }
-    // The copy stands at the first word of space 0, whose place is 1; its cell is the next word.
-    assert_eq!(rt; core.word(g.space_at(2)), 1 + (1 << 20));
-    Ok(())
-}
-
-#[test]
-fn store_spoils_the_copy(rt: HostRuntime) -> Result<(), Fail> {
-    let g = Geometry::new(8, 16, 0, 1, 0, 1, 0)?;
-    let mut core = Core::open(rt.alloc(), g)?;
-    assert_eq!(rt; collect(&rt, &mut core), Work::Flipped);
-    for _ in 0..18 {
-        assert_eq!(rt; collect(&rt, &mut core), Work::Useful);
-    }
-    assert_eq!(rt;
-        whole(&rt, &mut core, 0, STORE),
-        (7, Some(Outcome::Done(Reply::Unit)))
-    );
-    assert_eq!(rt; collect(&rt, &mut core), Work::Lost(4));
-    Ok(())
-}
-
 #[test]
 fn full(rt: HostRuntime) -> Result<(), Fail> {
     let g = Geometry::new(8, 16, 8, 1, 1, 1, 0)?;

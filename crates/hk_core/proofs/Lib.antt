@@ -30,3 +30,4 @@ pub mod Room
 pub mod Turns
 pub mod Replied
 pub mod Entries
+pub mod PromisedNumbers

@@ -1,5 +1,5 @@
 -- A lawful state keeps all its promises.
-use Rattle.std.proofs.Common.{◌≡◌, ◌≢◌, ◌⊎◌, ℕ, ◌+◌, ◌<◌, ◌≤◌, true, inl, inr, refl, sym, ◌∙◌, ap, subst, arith, Option, Some}
+use Rattle.std.proofs.Common.{◌≡◌, ◌≢◌, ℕ, ◌+◌, refl, sym, ◌∙◌, ap, arith, Option, Some}
 use Rattle.hk_words.specs.declared.geometry.Geometry.{Geometry}
 use Rattle.hk_model.specs.History.{History}
 use Rattle.hk_core.specs.declared.flight.Flight.{Flight}
@@ -45,11 +45,11 @@ module _ (g : Geometry) (w : Words) (z : Spaces) (sh : Shades) (flight : ℕ →
   apart_in_use a b used used' differ =
       let o = in_use a used in
       let o' = in_use b used' in
-      let numbers_differ : names.number a ≢ names.number b = λ same.
-          let borne : Some a ≡ Some b = sym o.bears ∙ ap names.bearer same ∙ o'.bears in differ cc in
+      let borne : names.number a ≡ names.number b → Some a ≡ Some b = λ same. sym o.bears ∙ ap names.bearer same ∙ o'.bears in
+      let other : names.number a ≢ names.number b = λ same. let one = borne same in differ cc in
       let size : sh.size (names.number a) ≡ 1 + names.refs a + names.nums a = m.size (names.number a) ∙ size_borne names (names.number a) a o.bears in
       let size' : sh.size (names.number b) ≡ 1 + names.refs b + names.nums b = m.size (names.number b) ∙ size_borne names (names.number b) b o'.bears in
-      rw (← size, ← size') (h.objects_apart (names.number a) (names.number b) o.is_kept o'.is_kept numbers_differ)
+      rw (← size, ← size') (h.objects_apart (names.number a) (names.number b) o.is_kept o'.is_kept other)
 
   stands : Stands g w flight names contents
   stands = record {

@@ -1,9 +1,9 @@
 -- What a lawful state promises of colours: black objects and black frames refer to nothing white, a call that claimed
 -- something white is inside nothing black, and from the sweep on nothing white can be reached.
-use Rattle.std.proofs.Common.{◌≡◌, ◌≢◌, ◌⊎◌, ℕ, ◌+◌, ◌<◌, ◌≤◌, Bool, true, false, inl, inr, refl, sym, ◌∙◌, ap, subst, arith, Option, Some}
+use Rattle.std.proofs.Common.{◌≡◌, ◌≢◌, ℕ, ◌<◌, ◌≤◌, Bool, true, false, inl, inr, refl, sym, ◌∙◌, ap, arith, Option}
 use Rattle.std.proofs.lemmas.Bool.{cases_Bool, and_parts, and_from, or_left}
 use Rattle.std.proofs.lemmas.Bool.Decides.{nat_tests}
-use Rattle.std.specs.Prelude.{nat_eq, nat_le, not, ◌&&◌, if◌then◌else◌}
+use Rattle.std.specs.Prelude.{nat_eq, nat_le, not, ◌&&◌}
 use Rattle.hk_words.specs.declared.geometry.Geometry.{Geometry}
 use Rattle.hk_words.specs.declared.call.Call.{Call}
 use Rattle.hk_words.specs.declared.call.Call.TheVariants as call
@@ -11,7 +11,7 @@ use Rattle.hk_words.specs.Geometry.{tasks}
 use Rattle.hk_words.specs.Layout as layout
 use Rattle.hk_core.specs.declared.flight.Flight.{Flight}
 use Rattle.hk_core.specs.declared.spot.Spot.{Spot}
-use Rattle.hk_core.specs.View.{Words, Names, Contents, shown}
+use Rattle.hk_core.specs.View.{Words, Names, Contents}
 use Rattle.hk_core.specs.Flights as f
 use Rattle.hk_core.specs.Flights.{Hand}
 use Rattle.hk_core.specs.Colours.{Spaces, Shades, held_by, NamesNoWhite}
@@ -21,7 +21,6 @@ use Rattle.hk_core.specs.Lawful.{Facts}
 use Rattle.hk_core.specs.Reach.{Reach, in_register, in_cell}
 use Rattle.hk_core.specs.Stands.{BlackStands, ReadsStand, IsClean}
 use Rattle.hk_core.proofs.Inside.{inside_through}
-use Rattle.hk_core.proofs.kinds.Read.{refuted}
 use Rattle.hk_core.proofs.kinds.LoadRead.{ColoursMean, some_words, kept_number, shown_birth, settled_black}
 use Rattle.hk_core.proofs.kinds.WriteCell.{ShadesMean}
 use Rattle.hk_core.proofs.PromisedNumbers.{ShadesSay, kept_when_reached}

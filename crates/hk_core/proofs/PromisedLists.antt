@@ -1,12 +1,12 @@
 -- What a lawful state promises of the lists: they name nothing that is in use, and their unread numbers are free.
-use Rattle.std.proofs.Common.{◌≡◌, ◌≢◌, ◌⊎◌, ℕ, ◌+◌, ◌-◌, ◌<◌, ◌≤◌, true, false, inl, inr, refl, sym, ◌∙◌, ap, subst, arith, Option}
+use Rattle.std.proofs.Common.{◌≡◌, ◌≢◌, ◌⊎◌, ℕ, ◌+◌, ◌-◌, ◌<◌, true, false, inl, inr, refl, sym, ◌∙◌, ap, subst, arith, Option}
 use Rattle.std.proofs.lemmas.Bool.{cases_lt, cases_eq, cases_Bool, and_parts, and_from}
 use Rattle.std.proofs.lemmas.Bool.Decides.{nat_tests}
-use Rattle.std.specs.Prelude.{nat_le, ◌&&◌, if◌then◌else◌}
+use Rattle.std.specs.Prelude.{nat_le, ◌&&◌}
 use Rattle.hk_words.specs.declared.geometry.Geometry.{Geometry}
 use Rattle.hk_words.specs.declared.call.Call.{Call}
 use Rattle.hk_words.specs.declared.call.Call.TheVariants as call
-use Rattle.hk_words.specs.Geometry.{tasks, list_length}
+use Rattle.hk_words.specs.Geometry.{list_length}
 use Rattle.hk_words.specs.Layout as layout
 use Rattle.hk_core.specs.declared.flight.Flight.{Flight}
 use Rattle.hk_core.specs.declared.spot.Spot.{Spot}
@@ -14,7 +14,6 @@ use Rattle.hk_core.specs.declared.spot.Line.{Line}
 use Rattle.hk_core.specs.declared.spot.Line.TheVariants as line
 use Rattle.hk_core.specs.declared.spot.Stage.TheVariants as stage
 use Rattle.hk_core.specs.Collect.{current_space, next_list}
-use Rattle.hk_core.specs.Step.{new_place}
 use Rattle.hk_core.specs.View.{Words, Names, Contents}
 use Rattle.hk_core.specs.Flights as f
 use Rattle.hk_core.specs.Flights.{Hand}

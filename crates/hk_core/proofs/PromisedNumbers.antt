@@ -1,9 +1,9 @@
 -- Numbers and births of a lawful state: what their colours say, and that each birth that can be reached, or that a call is
 -- inside, is kept.
-use Rattle.std.proofs.Common.{◌≡◌, ◌≢◌, ◌⊎◌, ℕ, ◌+◌, ◌<◌, ◌≤◌, Bool, true, false, inl, inr, refl, sym, ◌∙◌, ap, subst, arith, List, Option, Some, None}
-use Rattle.std.proofs.lemmas.Bool.{cases_lt, cases_Bool, and_parts, and_from, or_cases, or_left, not_from_false, ltb-true, leb-true, eqb-true, lt-ltb, le-ltb, eq-eqb, ne_eqb}
+use Rattle.std.proofs.Common.{◌≡◌, ◌≢◌, ◌⊎◌, ℕ, ◌+◌, ◌<◌, ◌≤◌, Bool, true, false, inl, inr, refl, sym, ◌∙◌, arith, List, Option, Some, None}
+use Rattle.std.proofs.lemmas.Bool.{cases_lt, and_parts, and_from, or_cases, or_left, not_from_false, ltb-true, leb-true, eqb-true, lt-ltb, le-ltb, ne_eqb}
 use Rattle.std.proofs.lemmas.Bool.Decides.{nat_tests}
-use Rattle.std.specs.Prelude.{nat_eq, nat_lt, nat_le, is_some, not, ◌&&◌, ◌||◌, if◌then◌else◌}
+use Rattle.std.specs.Prelude.{nat_eq, nat_le, is_some}
 use Rattle.hk_words.specs.declared.geometry.Geometry.{Geometry}
 use Rattle.hk_words.specs.declared.call.Call.{Call}
 use Rattle.hk_words.specs.declared.call.Call.TheVariants as call
@@ -19,16 +19,16 @@ use Rattle.hk_core.specs.Collect.{current_space}
 use Rattle.hk_core.specs.View.{Words, Names, Contents, decoded, raw, word_if, words_of}
 use Rattle.hk_core.specs.Flights as f
 use Rattle.hk_core.specs.Flights.{Hand}
-use Rattle.hk_core.specs.Colours.{Spaces, spaces_of, Shades, shades_of, held_by, is_fresh, IsNullOrGood, IsKeptBirth, IsNullOrKept}
+use Rattle.hk_core.specs.Colours.{Spaces, spaces_of, Shades, shades_of, held_by, is_fresh, IsNullOrGood, IsKeptBirth}
 use Rattle.hk_core.specs.Lawful.{Facts}
 use Rattle.hk_core.specs.Reach.{Reach, in_register, in_cell}
 use Rattle.hk_core.specs.Stands.{IsInUse}
 use Rattle.hk_core.proofs.Inside.{inside_through}
-use Rattle.hk_core.proofs.kinds.WriteCell.{ShadesMean, BearersNumbered}
+use Rattle.hk_core.proofs.kinds.WriteCell.{BearersNumbered}
 
 -- COLOURS
 
--- what it says of a number that it is white, and that it is black; one that a birth bears is kept then
+-- a white number wasn't claimed in this cycle, and a black one that a birth bears and no New holds is kept
 pub record ShadesSay (g : Geometry) (w : Words) (z : Spaces) (sh : Shades) (flight : ℕ → Flight) (names : Names) : Type 0 where
   pub white : (n : ℕ) → sh.white n ≡ true → w.mark n < w.cycle
   pub kept : (n b : ℕ) → sh.black n ≡ true → names.bearer n ≡ Some b → held_by g flight n ≡ false → sh.kept n ≡ true
@@ -38,9 +38,11 @@ pub no_number_no_place : (g : Geometry) (row : List ℕ) (n : ℕ) → numbers g
 unfolding words_of decoded raw word_if
 no_number_no_place g row n above = rw (le-ltb n (numbers g) above) refl
 
+-- a place of a space isn't 0
 some_place : (g : Geometry) (space p : ℕ) → place_at g space 0 ≤ p → p ≢ 0
 some_place g space p after null = absurd (omega arith)
 
+-- what the shades of a state say, where only numbers of the geometry have places
 pub shades_say : (g : Geometry) (w : Words) (flight : ℕ → Flight) (ln : Line) (names : Names) → ((n : ℕ) → numbers g ≤ n → w.place n ≡ 0)
     → ShadesSay g w (spaces_of g w.cycle) (shades_of g w flight ln names) flight names
 unfolding shades_of
@@ -64,15 +66,17 @@ mark_fresh cycle marking mark fresh = elim (or_cases (nat_eq mark cycle) _ fresh
   | inr e ↦ inr (eqb-true (mark + 1) cycle (and_parts _ _ e).1)
 ]
 
--- a number that a birth bears has that birth
+-- where a number has a bearer, that is some birth
 pub borne_by : (o : Option ℕ) → is_some o ≡ true → (b : ℕ) × (o ≡ Some b)
 borne_by None e = absurd (cc)
 borne_by (Some b) e = (b, refl)
 
+-- of what is null or satisfies P, a birth satisfies P
 some_kept : (P : ℕ → Type 0) (plain : Option ℕ) (birth : ℕ) → (plain ≡ None) ⊎ ((b : ℕ) × (plain ≡ Some b) × P b) → plain ≡ Some birth → P birth
 some_kept P plain birth (inl none) e = let no : None ≡ Some birth = sym none ∙ e in absurd (cc)
 some_kept P plain birth (inr found) e = let same : Some found.0 ≡ Some birth = sym found.1 ∙ e in let is : found.0 ≡ birth = cc in rw (← is) found.2
 
+-- a call at a place from a first one on is in flight
 flies : (first last p : ℕ) → 1 ≤ first → f.is_between first last p ≡ true → nat_le 1 p ≡ true
 flies first last p some e = grind (arith, nat_tests)
 
@@ -98,6 +102,7 @@ module _ (g : Geometry) (w : Words) (z : Spaces) (sh : Shades) (flight : ℕ →
         bears = rw number bears;
       }
 
+  -- what a call copies from a register is null or good
   copied_good : (s from : ℕ) → s < tasks g → from < g.registers → f.is_flying (flight s) ≡ true → copied (flight s).call ≡ Some from
       → IsNullOrGood sh.kept names (flight s).item
   copied_good s from below fits flying copies = rw (h.copied_stays s from below flying copies) (h.registers_good s from below fits)

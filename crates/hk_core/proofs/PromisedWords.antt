@@ -1,6 +1,6 @@
 -- What a lawful state promises of words: the ranges that are reserved are apart and belong to claimed numbers, and a word of
 -- the current space that is in no black object, no range and none of a New's words is 0.
-use Rattle.std.proofs.Common.{◌≡◌, ◌≢◌, ◌⊎◌, ℕ, ◌+◌, ◌-◌, ◌<◌, ◌≤◌, true, false, inl, inr, refl, sym, ◌∙◌, ap, subst, arith, Option, Some}
+use Rattle.std.proofs.Common.{◌≡◌, ℕ, ◌+◌, ◌-◌, ◌<◌, ◌≤◌, true, inl, inr, sym, ◌∙◌, ap, subst, arith, Option, Some}
 use Rattle.std.proofs.lemmas.Bool.{cases_lt, cases_Bool}
 use Rattle.hk_words.specs.declared.geometry.Geometry.{Geometry}
 use Rattle.hk_core.specs.declared.flight.Flight.{Flight}

@@ -30,3 +30,8 @@ pub mod Room
 pub mod Turns
 pub mod Replied
 pub mod Entries
+pub mod PromisedNumbers
+pub mod PromisedLists
+pub mod PromisedWords
+pub mod PromisedColours
+pub mod Promised

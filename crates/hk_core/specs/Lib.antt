@@ -21,3 +21,4 @@ pub mod Replied
 pub mod Refused
 pub mod Fresh
 pub mod Laws
+pub mod Promise

@@ -8,6 +8,7 @@ mod laws;
 mod machine;
 mod opening;
 mod outcome;
+mod promise;
 mod spot;
 #[cfg(test)]
 mod tests;
@@ -19,4 +20,5 @@ pub use hk_model::Memory;
 pub use laws::{inside_an_object, lawful_states, places_in_order};
 pub use machine::{Core, MAX_CALLS};
 pub use outcome::{Fault, Outcome, Step};
+pub use promise::lawful_states_promise;
 pub use spot::{Line, Spot, Stage, Work};

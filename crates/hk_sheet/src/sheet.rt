@@ -1,9 +1,9 @@
-ghost use Rattle.std.specs.Prelude.{◌≡◌, min};
+ghost use Rattle.std.specs.Prelude.{◌≡◌, min, MatchResult};
 
 use crate::Arrivals;
 use hk_rta::Timing;
 use hk_script::Script;
-use hk_words::Geometry;
+use hk_words::{GeoError, Geometry};
 use std::marker::Model;
 
 /// The most ticks of a run, and the greatest period, deadline, cost, first arrival and step.
@@ -117,26 +117,25 @@ pub struct Sheet {
 }
 
 /// How many tasks of a kind count in the geometry.
-pub(crate) fn counted(tasks: usize) -> u8
+fn counted(tasks: usize) -> u8
     ensures { result ≡ min tasks MAX_COUNTED }
 {
     (tasks as u64).min(MAX_COUNTED) as u8
 }
 
 impl Sheet {
-    ghost use Rattle.hk_words.specs.Geometry.{HasSizes};
+    ghost use Rattle.hk_words.specs.Geometry.{first_error, HasSizes};
     ghost use Rattle.hk_sheet.specs.Faults.{sizes_of};
     ghost use Rattle.hk_sheet.specs.Valid.{IsSheet};
 
-    /// The sizes of the heap and the tasks that use it.
-    pub fn geometry(&self) -> Geometry
-        requires { IsSheet self.now }
-        ensures { HasSizes result (sizes_of self.now) }
+    /// The geometry of the sizes of the heap and of the tasks that use it, or the first reason why there is none.
+    pub(crate) fn try_geometry(&self) -> Result<Geometry, GeoError>
+        ensures { MatchResult result (λ g. (first_error (sizes_of self.now) ≡ None) × HasSizes g (sizes_of self.now)) (λ e. first_error (sizes_of self.now) ≡ Some e) }
     {
         let heap = self.heap;
         let high = counted(self.high.items.len());
         let low = counted(self.low.items.len());
-        match Geometry::new(
+        Geometry::new(
             heap.live,
             heap.alloc,
             heap.reserve,
@@ -144,7 +143,15 @@ impl Sheet {
             low,
             heap.refs,
             heap.nums,
-        ) {
+        )
+    }
+
+    /// The geometry of the sizes of the heap and of the tasks that use it.
+    pub fn geometry(&self) -> Geometry
+        requires { IsSheet self.now }
+        ensures { HasSizes result (sizes_of self.now) }
+    {
+        match self.try_geometry() {
             Ok(geometry) => geometry,
             Err(_) => unreachable!(),
         }

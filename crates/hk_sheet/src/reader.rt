@@ -1,0 +1,92 @@
+//! A task sheet from its bytes.
+ghost use Rattle.std.specs.Prelude.{◌≡◌, ◌++◌, IfOk, MatchResult};
+ghost use Rattle.toml.specs.View.{table_view};
+ghost use Rattle.hk_sheet.specs.Reading.{heap_in, sheet_in};
+ghost use Rattle.hk_sheet.specs.Faults.{fault_of, fault_of_geometry};
+ghost use Rattle.hk_sheet.specs.Valid.{IsHeap, IsSheet};
+ghost use Rattle.hk_sheet.specs.Answers.{IsDocument, Answers};
+ghost use Rattle.hk_sheet.specs.Code.{Checks, Gives};
+
+use crate::keys::{number_at, pair_at, table_at, tables_at};
+use crate::tables::{check_document, check_heap, check_highs, check_lows};
+use crate::tasks::{
+    check_high_arrivals, check_low_arrivals, check_names, highs_in, lows_in, names,
+};
+use crate::{HeapKeys, Sheet, SheetError};
+use std::alloc::Global;
+use toml::Table;
+
+/// The document of some bytes.
+fn document_of(alloc: Global, bytes: &[u8]) -> Result<Table, SheetError> {
+    match toml::table_from_slice(alloc, bytes) {
+        Ok(document) => Ok(document),
+        Err(error) if error.is_memory() => Err(SheetError::Memory),
+        Err(_) => Err(SheetError::Text),
+    }
+}
+
+/// The heap that a table declares.
+fn heap_in(table: &Table) -> HeapKeys
+    requires { IsHeap (heap_in (table_view table.now)) }
+    ensures { result ≡ heap_in (table_view table.now) }
+{
+    let (refs, nums) = pair_at(table, "board");
+    HeapKeys {
+        live: number_at(table, "live") as u32,
+        alloc: number_at(table, "alloc") as u32,
+        reserve: number_at(table, "reserve") as u32,
+        rate: number_at(table, "rate"),
+        refs: refs as u8,
+        nums: nums as u8,
+    }
+}
+
+/// Checks that the heap and the tasks of a sheet are a geometry.
+fn check_geometry(sheet: &Sheet) -> Result<(), SheetError>
+    ensures { Checks (fault_of_geometry sheet.now) result }
+{
+    match sheet.try_geometry() {
+        Ok(_) => Ok(()),
+        Err(error) => Err(SheetError::Geometry(error)),
+    }
+}
+
+/// The sheet that a document declares, or its first fault.
+fn sheet_in(alloc: Global, document: &Table) -> Result<Sheet, SheetError>
+    ensures { Gives (fault_of (table_view document.now)) (sheet_in (table_view document.now)) result }
+{
+    check_document(alloc, document)?;
+    let Some(heap) = table_at(document, "heap") else {
+        unreachable!();
+    };
+    check_heap(alloc, heap)?;
+    let ticks = number_at(document, "ticks");
+    let highs = tables_at(alloc, document, "high")?;
+    let lows = tables_at(alloc, document, "low")?;
+    check_highs(alloc, ticks, &highs)?;
+    check_lows(alloc, ticks, &lows)?;
+    check_names(alloc, &names(alloc, &highs, &lows)?)?;
+    check_high_arrivals(alloc, &highs)?;
+    check_low_arrivals(alloc, &lows)?;
+    let high = highs_in(alloc, &highs)?;
+    let low = lows_in(alloc, &lows)?;
+    let sheet = Sheet {
+        ticks,
+        heap: heap_in(heap),
+        high,
+        low,
+    };
+    check_geometry(&sheet)?;
+    Ok(sheet)
+}
+
+/// The task sheet of some bytes, or the first reason why they are none.
+pub fn read(alloc: Global, bytes: &[u8]) -> Result<Sheet, SheetError>
+    // What is answered is the sheet, or the first fault.
+    ensures answer { Answers bytes.now result }
+    // A sheet that is read is one that the other calls take.
+    ensures valid { IfOk result IsSheet }
+{
+    let document = document_of(alloc, bytes)?;
+    sheet_in(alloc, &document)
+}

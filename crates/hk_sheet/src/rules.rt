@@ -1,0 +1,161 @@
+//! What the keys of a sheet's tables may hold.
+ghost use Rattle.std.specs.Prelude.{◌≡◌, [], ◌∷◌, ◌++◌, ◌&&◌, is_some, option_map, map, codes, IfOk};
+ghost use Rattle.std.specs.List.{list_all, list_any};
+ghost use Rattle.toml.specs.Data.{as_array, as_table};
+ghost use Rattle.toml.specs.View.{view};
+ghost use Rattle.hk_sheet.specs.Rules.{text, elements_of, is_in, are_integers, wrong_unless, wrong_in, needs, may_have, arrival_rules};
+ghost use Rattle.hk_sheet.specs.Faults.{is_known};
+ghost use Rattle.hk_sheet.specs.Code.{kind_of, wrong_of, rule_of, rules_of};
+
+use crate::keys::{elements, natural};
+use crate::sheet::{MAX_ARRIVALS, MAX_TICKS};
+use std::alloc::{AllocError, Global};
+use toml::Value;
+
+/// What a key may hold.
+#[derive(Clone, Copy, Debug)]
+pub(crate) enum Kind {
+    /// An integer from `low` to `high`.
+    Number { low: u64, high: u64 },
+    /// An array of two integers from 0 to `high` each.
+    Pair { high: u64 },
+    /// An array of ticks of a run of so many.
+    Ticks { ticks: u64 },
+    /// A string.
+    Text,
+    /// A table.
+    Table,
+    /// An array of tables.
+    Tables,
+}
+
+/// What is wrong with a value.
+#[derive(Clone, Copy, Debug)]
+pub(crate) enum Wrong {
+    /// It isn't of its kind.
+    Kind,
+    /// It is out of its range.
+    Range,
+}
+
+/// A key of a table: its name, what it may hold, and whether it is needed.
+#[derive(Clone, Copy, Debug)]
+pub(crate) struct Rule {
+    pub(crate) key: &'static str,
+    pub(crate) kind: Kind,
+    pub(crate) needed: bool,
+}
+
+/// The rule of a key that is needed.
+pub(crate) fn needs(key: &'static str, kind: Kind) -> Rule
+    ensures { rule_of result ≡ needs key.now (kind_of kind) }
+{
+    Rule {
+        key,
+        kind,
+        needed: true,
+    }
+}
+
+/// The rule of a key that may be missing.
+pub(crate) fn may_have(key: &'static str, kind: Kind) -> Rule
+    ensures { rule_of result ≡ may_have key.now (kind_of kind) }
+{
+    Rule {
+        key,
+        kind,
+        needed: false,
+    }
+}
+
+/// The rules of a task: its own ones, then when its jobs arrive and what they do.
+pub(crate) fn task_rules(
+    alloc: Global,
+    own: &[Rule],
+    ticks: u64,
+    listed: bool,
+) -> Result<Vec<Rule>, AllocError>
+    ensures { IfOk result (λ v. rules_of v.items ≡ (rules_of own.now ++ arrival_rules ticks listed) ++ needs (codes "script") text ∷ []) }
+{
+    let mut rules = Vec::from_slice(alloc, own)?;
+    if listed {
+        rules.push(needs("arrivals", Kind::Ticks { ticks }))?;
+    } else {
+        rules.push(needs("first", Kind::Number { low: 0, high: MAX_TICKS }))?;
+        rules.push(needs("every", Kind::Number { low: 1, high: MAX_TICKS }))?;
+    }
+    rules.push(needs("script", Kind::Text))?;
+    Ok(rules)
+}
+
+/// Whether a key is that of a rule.
+pub(crate) fn is_known(rules: &[Rule], key: &str) -> bool
+    ensures { result ≡ is_known (rules_of rules.now) key.now }
+{
+    rules.iter().any(|rule| rule.key == key)
+}
+
+/// Whether a value is an integer from low to high.
+fn is_in(low: u64, high: u64, value: &Value) -> bool
+    ensures { result ≡ is_in low high (view value.now) }
+{
+    match natural(value) {
+        Some(number) => low <= number && number <= high,
+        None => false,
+    }
+}
+
+/// Whether all values are integers from 0 to high.
+fn are_within(high: u64, values: &[Value]) -> bool
+    ensures { result ≡ list_all (is_in 0 high) (map view values.now) }
+{
+    values.iter().all(|value| is_in(0, high, value))
+}
+
+/// Whether a value is an array of integers.
+fn are_integers(value: &Value) -> bool
+    ensures { result ≡ are_integers (view value.now) }
+{
+    value.is_array() && elements(value).iter().all(|element| element.is_integer())
+}
+
+/// Whether a value is an array of tables.
+fn are_tables(value: &Value) -> bool
+    ensures { result ≡ (is_some (as_array (view value.now)) && list_all (λ e. is_some (as_table e)) (elements_of (view value.now))) }
+{
+    value.is_array() && elements(value).iter().all(|element| element.is_table())
+}
+
+/// What is wrong with a value that is of its kind or not, and in its range or not.
+fn wrong_unless(of_kind: bool, in_range: bool) -> Option<Wrong>
+    ensures { option_map wrong_of result ≡ wrong_unless of_kind in_range }
+{
+    if !of_kind {
+        Some(Wrong::Kind)
+    } else if in_range {
+        None
+    } else {
+        Some(Wrong::Range)
+    }
+}
+
+/// What is wrong with a value where a key is to hold this kind.
+pub(crate) fn wrong_in(kind: Kind, value: &Value) -> Option<Wrong>
+    ensures { option_map wrong_of result ≡ wrong_in (kind_of kind) (view value.now) }
+{
+    let items = elements(value);
+    match kind {
+        Kind::Number { low, high } => wrong_unless(value.is_integer(), is_in(low, high, value)),
+        Kind::Pair { high } => wrong_unless(
+            are_integers(value) && items.len() == 2,
+            are_within(high, items),
+        ),
+        Kind::Ticks { ticks } => wrong_unless(
+            are_integers(value),
+            items.len() <= MAX_ARRIVALS && are_within(ticks.saturating_sub(1), items),
+        ),
+        Kind::Text => wrong_unless(value.is_str(), true),
+        Kind::Table => wrong_unless(value.is_table(), true),
+        Kind::Tables => wrong_unless(are_tables(value), true),
+    }
+}

@@ -87,11 +87,22 @@ pub(crate) fn elements_at<'a>(table: &'a Table, key: &str) -> &'a [Value]
     }
 }
 
+/// The numbers that values are.
+fn numbers(alloc: Global, values: &[Value]) -> Result<Vec<u64>, AllocError>
+    ensures { IfOk result (λ v. v.items ≡ map number_of (map view values.now)) }
+{
+    let mut numbers = Vec::with_capacity(alloc, values.len())?;
+    for value in values {
+        numbers.push(number(value))?;
+    }
+    Ok(numbers)
+}
+
 /// The numbers of the array at a key.
 pub(crate) fn numbers_at(alloc: Global, table: &Table, key: &str) -> Result<Vec<u64>, AllocError>
     ensures { IfOk result (λ v. v.items ≡ numbers_at key.now (table_view table.now)) }
 {
-    elements_at(table, key).iter().map(number).collect(alloc)
+    numbers(alloc, elements_at(table, key))
 }
 
 /// The first two numbers of the array at a key.

@@ -26,6 +26,7 @@ fn document_of(alloc: Global, bytes: &[u8]) -> Result<Table, SheetError> {
 }
 
 /// The heap that a table declares.
+#[tactic(auto, unfolding(crate::specs::Reading::heap_in))]
 fn heap_in(table: &Table) -> HeapKeys
     requires { IsHeap (heap_in (table_view table.now)) }
     ensures { result ≡ heap_in (table_view table.now) }
@@ -42,6 +43,7 @@ fn heap_in(table: &Table) -> HeapKeys
 }
 
 /// Checks that the heap and the tasks of a sheet are a geometry.
+#[tactic(auto, unfolding(crate::specs::Faults::fault_of_geometry))]
 fn check_geometry(sheet: &Sheet) -> Result<(), SheetError>
     ensures { Checks (fault_of_geometry sheet.now) result }
 {

@@ -1,9 +1,9 @@
 //! What the keys of a sheet's tables may hold.
-ghost use Rattle.std.specs.Prelude.{◌≡◌, [], ◌∷◌, ◌++◌, ◌&&◌, is_some, option_map, map, codes, IfOk};
+ghost use Rattle.std.specs.Prelude.{◌≡◌, ◌-◌, [], ◌∷◌, ◌++◌, ◌&&◌, nat_eq, nat_le, length, is_some, option_map, map, codes, IfOk};
 ghost use Rattle.std.specs.List.{list_all, list_any};
 ghost use Rattle.toml.specs.Data.{as_array, as_table};
 ghost use Rattle.toml.specs.View.{view};
-ghost use Rattle.hk_sheet.specs.Rules.{text, elements_of, is_in, are_integers, wrong_unless, wrong_in, needs, may_have, arrival_rules};
+ghost use Rattle.hk_sheet.specs.Rules.{text, elements_of, is_integer, is_in, are_integers, wrong_unless, wrong_in, needs, may_have, arrival_rules};
 ghost use Rattle.hk_sheet.specs.Faults.{is_known};
 ghost use Rattle.hk_sheet.specs.Code.{kind_of, wrong_of, rule_of, rules_of};
 
@@ -92,7 +92,12 @@ pub(crate) fn task_rules(
 pub(crate) fn is_known(rules: &[Rule], key: &str) -> bool
     ensures { result ≡ is_known (rules_of rules.now) key.now }
 {
-    rules.iter().any(|rule| rule.key == key)
+    for rule in rules {
+        if rule.key == key {
+            return true;
+        }
+    }
+    false
 }
 
 /// Whether a value is an integer from low to high.
@@ -109,21 +114,64 @@ fn is_in(low: u64, high: u64, value: &Value) -> bool
 fn are_within(high: u64, values: &[Value]) -> bool
     ensures { result ≡ list_all (is_in 0 high) (map view values.now) }
 {
-    values.iter().all(|value| is_in(0, high, value))
+    for value in values {
+        if !is_in(0, high, value) {
+            return false;
+        }
+    }
+    true
+}
+
+/// Whether all values are integers.
+fn all_integers(values: &[Value]) -> bool
+    ensures { result ≡ list_all is_integer (map view values.now) }
+{
+    for value in values {
+        if !value.is_integer() {
+            return false;
+        }
+    }
+    true
+}
+
+/// Whether all values are tables.
+fn all_tables(values: &[Value]) -> bool
+    ensures { result ≡ list_all (λ e. is_some (as_table e)) (map view values.now) }
+{
+    for value in values {
+        if !value.is_table() {
+            return false;
+        }
+    }
+    true
 }
 
 /// Whether a value is an array of integers.
 fn are_integers(value: &Value) -> bool
     ensures { result ≡ are_integers (view value.now) }
 {
-    value.is_array() && elements(value).iter().all(|element| element.is_integer())
+    value.is_array() && all_integers(elements(value))
 }
 
 /// Whether a value is an array of tables.
 fn are_tables(value: &Value) -> bool
     ensures { result ≡ (is_some (as_array (view value.now)) && list_all (λ e. is_some (as_table e)) (elements_of (view value.now))) }
 {
-    value.is_array() && elements(value).iter().all(|element| element.is_table())
+    value.is_array() && all_tables(elements(value))
+}
+
+/// Whether a value is an array of two integers.
+fn are_two(value: &Value) -> bool
+    ensures { result ≡ (are_integers (view value.now) && nat_eq (length (elements_of (view value.now))) 2) }
+{
+    are_integers(value) && elements(value).len() == 2
+}
+
+/// Whether there are not too many values, and all are ticks of a run of so many.
+fn are_ticks(ticks: u64, values: &[Value]) -> bool
+    ensures { result ≡ (nat_le (length (map view values.now)) MAX_ARRIVALS && list_all (is_in 0 (ticks - 1)) (map view values.now)) }
+{
+    values.len() <= MAX_ARRIVALS && are_within(ticks.saturating_sub(1), values)
 }
 
 /// What is wrong with a value that is of its kind or not, and in its range or not.
@@ -146,14 +194,8 @@ pub(crate) fn wrong_in(kind: Kind, value: &Value) -> Option<Wrong>
     let items = elements(value);
     match kind {
         Kind::Number { low, high } => wrong_unless(value.is_integer(), is_in(low, high, value)),
-        Kind::Pair { high } => wrong_unless(
-            are_integers(value) && items.len() == 2,
-            are_within(high, items),
-        ),
-        Kind::Ticks { ticks } => wrong_unless(
-            are_integers(value),
-            items.len() <= MAX_ARRIVALS && are_within(ticks.saturating_sub(1), items),
-        ),
+        Kind::Pair { high } => wrong_unless(are_two(value), are_within(high, items)),
+        Kind::Ticks { ticks } => wrong_unless(are_integers(value), are_ticks(ticks, items)),
         Kind::Text => wrong_unless(value.is_str(), true),
         Kind::Table => wrong_unless(value.is_table(), true),
         Kind::Tables => wrong_unless(are_tables(value), true),

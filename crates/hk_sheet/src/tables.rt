@@ -26,6 +26,7 @@ fn unknown_key<'a>(rules: &[Rule], table: &'a Table) -> Option<&'a str>
 }
 
 /// Checks that a table has no unknown key.
+#[tactic(auto, unfolding(crate::specs::Faults::unknown_fault))]
 fn check_unknown(
     alloc: Global,
     path: &str,
@@ -58,6 +59,7 @@ fn check_key(alloc: Global, path: &str, table: &Table, rule: &Rule) -> Result<()
 }
 
 /// Checks the keys of a table, of which each is at most once among the rules.
+#[tactic(auto, unfolding(crate::specs::Faults::fault_of_table))]
 fn check_table(alloc: Global, path: &str, rules: &[Rule], table: &Table) -> Result<(), SheetError>
     ensures { Checks (fault_of_table path.now (rules_of rules.now) (table_view table.now)) result }
 {
@@ -69,6 +71,7 @@ fn check_table(alloc: Global, path: &str, rules: &[Rule], table: &Table) -> Resu
 }
 
 /// Checks the keys of the document.
+#[tactic(auto, unfolding(crate::specs::Rules::top_rules))]
 pub(crate) fn check_document(alloc: Global, document: &Table) -> Result<(), SheetError>
     ensures { Checks (fault_of_table [] top_rules (table_view document.now)) result }
 {
@@ -83,6 +86,7 @@ pub(crate) fn check_document(alloc: Global, document: &Table) -> Result<(), Shee
 }
 
 /// Checks the keys of the heap.
+#[tactic(auto, unfolding(crate::specs::Rules::heap_rules))]
 pub(crate) fn check_heap(alloc: Global, heap: &Table) -> Result<(), SheetError>
     ensures { Checks (fault_of_table (codes "heap.") heap_rules (table_view heap.now)) result }
 {
@@ -98,6 +102,7 @@ pub(crate) fn check_heap(alloc: Global, heap: &Table) -> Result<(), SheetError>
 }
 
 /// Checks the keys of a high task, in a run of so many ticks.
+#[tactic(auto, unfolding(crate::specs::Rules::high_rules))]
 fn check_high(alloc: Global, path: &str, ticks: u64, task: &Table) -> Result<(), SheetError>
     ensures { Checks (fault_of_table path.now (high_rules ticks (table_view task.now)) (table_view task.now)) result }
 {
@@ -113,6 +118,7 @@ fn check_high(alloc: Global, path: &str, ticks: u64, task: &Table) -> Result<(),
 }
 
 /// Checks the keys of a low task, in a run of so many ticks.
+#[tactic(auto, unfolding(crate::specs::Rules::low_rules))]
 fn check_low(alloc: Global, path: &str, ticks: u64, task: &Table) -> Result<(), SheetError>
     ensures { Checks (fault_of_table path.now (low_rules ticks (table_view task.now)) (table_view task.now)) result }
 {

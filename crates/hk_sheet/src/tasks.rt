@@ -82,6 +82,7 @@ fn name_in(alloc: Global, task: &Table) -> Result<Name, AllocError>
 }
 
 /// When the jobs of a task arrive.
+#[tactic(auto, unfolding(crate::specs::Reading::arrivals_in))]
 fn arrivals_in(alloc: Global, task: &Table) -> Result<Arrivals, AllocError>
     ensures { IfOk result (λ arrivals. arrivals ≡ arrivals_in (table_view task.now)) }
 {
@@ -117,6 +118,7 @@ fn check_ticks(alloc: Global, task: &Table, gap: u64, ticks: &[u64]) -> Result<(
 }
 
 /// Checks that the jobs of a periodic task are a gap apart.
+#[tactic(auto, unfolding(crate::specs::Faults::fault_of_arrivals))]
 fn check_step(alloc: Global, task: &Table, gap: u64) -> Result<(), SheetError>
     ensures { Checks (fault_of_arrivals (text_at (codes "name") (table_view task.now)) gap (Every (number_at (codes "first") (table_view task.now)) (number_at (codes "every") (table_view task.now)))) result }
 {
@@ -134,6 +136,7 @@ fn check_step(alloc: Global, task: &Table, gap: u64) -> Result<(), SheetError>
 }
 
 /// Checks that the arrivals of a task are a gap apart.
+#[tactic(auto, unfolding(crate::specs::Reading::arrivals_in, crate::specs::Faults::fault_of_arrivals))]
 fn check_arrivals(alloc: Global, task: &Table, gap: u64) -> Result<(), SheetError>
     ensures { Checks (fault_of_arrivals (text_at (codes "name") (table_view task.now)) gap (arrivals_in (table_view task.now))) result }
 {
@@ -165,6 +168,7 @@ pub(crate) fn check_low_arrivals(alloc: Global, tasks: &[&Table]) -> Result<(), 
 }
 
 /// The script of a task.
+#[tactic(auto, unfolding(crate::specs::Reading::script_in, crate::specs::Faults::fault_of_script))]
 fn script_in(alloc: Global, task: &Table) -> Result<Script, SheetError>
     ensures { Gives (fault_of_script (table_view task.now)) (script_in (table_view task.now)) result }
 {
@@ -176,6 +180,7 @@ fn script_in(alloc: Global, task: &Table) -> Result<Script, SheetError>
 }
 
 /// The times of a high task.
+#[tactic(auto, unfolding(crate::specs::Reading::timing_in))]
 fn timing_in(task: &Table) -> Timing
     ensures { result ≡ timing_in (table_view task.now) }
 {
@@ -187,6 +192,7 @@ fn timing_in(task: &Table) -> Timing
 }
 
 /// A high task.
+#[tactic(auto, unfolding(crate::specs::Reading::high_in))]
 fn high_in(alloc: Global, task: &Table) -> Result<High, SheetError>
     ensures { Gives (fault_of_script (table_view task.now)) (high_in (table_view task.now)) result }
 {
@@ -200,6 +206,7 @@ fn high_in(alloc: Global, task: &Table) -> Result<High, SheetError>
 }
 
 /// A low task.
+#[tactic(auto, unfolding(crate::specs::Reading::low_in))]
 fn low_in(alloc: Global, task: &Table) -> Result<Low, SheetError>
     ensures { Gives (fault_of_script (table_view task.now)) (low_in (table_view task.now)) result }
 {

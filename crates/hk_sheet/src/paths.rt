@@ -13,12 +13,20 @@ pub(crate) fn task_path(alloc: Global, kind: &str, index: usize) -> Result<Strin
     format!(in alloc; "{kind}[{index}].")
 }
 
+/// One text after another.
+fn joined(alloc: Global, path: &str, key: &str) -> Result<Vec<u8>, AllocError>
+    ensures { IfOk result (λ v. v.items ≡ path.now ++ key.now) }
+{
+    let mut items = Vec::from_slice(alloc, path.as_bytes())?;
+    items.extend_from_slice(key.as_bytes())?;
+    Ok(items)
+}
+
 /// The path of a key of a table whose paths begin so.
 pub(crate) fn key_at(alloc: Global, path: &str, key: &str) -> Result<Key, AllocError>
     ensures { IfOk result (λ k. k ≡ path.now ++ key.now) }
 {
-    let mut items = Vec::from_slice(alloc, path.as_bytes())?;
-    items.extend_from_slice(key.as_bytes())?;
+    let items = joined(alloc, path, key)?;
     Ok(Key { items })
 }
 
@@ -30,12 +38,13 @@ fn goes_on(byte: u8) -> bool
 }
 
 /// The path of an unknown key: each character outside `!` to `~` is a `?`, and it is cut.
+#[tactic(auto, unfolding(crate::specs::Faults::shown))]
 pub(crate) fn shown_at(alloc: Global, path: &str, key: &str) -> Result<Key, AllocError>
     ensures { IfOk result (λ k. k ≡ shown (path.now ++ key.now)) }
 {
-    let whole = key_at(alloc, path, key)?;
+    let whole = joined(alloc, path, key)?;
     let mut items = Vec::new(alloc);
-    for byte in &whole.items {
+    for byte in &whole {
         if byte.is_ascii_graphic() {
             items.push(*byte)?;
         } else if !goes_on(*byte) {

@@ -1,5 +1,5 @@
 //! What the keys of a sheet's tables may hold.
-ghost use Rattle.std.specs.Prelude.{◌≡◌, ◌-◌, [], ◌∷◌, ◌++◌, ◌&&◌, nat_eq, nat_le, length, is_some, option_map, map, codes, IfOk};
+ghost use Rattle.std.specs.Prelude.{◌≡◌, ◌-◌, [], ◌∷◌, ◌++◌, ◌&&◌, nat_eq, nat_le, length, is_some, option_map, map, codes, IfOk, OnOk};
 ghost use Rattle.std.specs.List.{list_all, list_any};
 ghost use Rattle.toml.specs.Data.{as_array, as_table};
 ghost use Rattle.toml.specs.View.{view};
@@ -68,7 +68,22 @@ pub(crate) fn may_have(key: &'static str, kind: Kind) -> Rule
     }
 }
 
+/// Adds the rules on when the jobs of a task arrive.
+#[tactic(auto, using(crate::proofs::Values::pushes))]
+fn add_arrivals(rules: &mut Vec<Rule>, ticks: u64, listed: bool) -> Result<(), AllocError>
+    ensures { OnOk result (rules_of rules.new.items ≡ rules_of rules.old.items ++ arrival_rules ticks listed) }
+{
+    if listed {
+        rules.push(needs("arrivals", Kind::Ticks { ticks }))?;
+    } else {
+        rules.push(needs("first", Kind::Number { low: 0, high: MAX_TICKS }))?;
+        rules.push(needs("every", Kind::Number { low: 1, high: MAX_TICKS }))?;
+    }
+    Ok(())
+}
+
 /// The rules of a task: its own ones, then when its jobs arrive and what they do.
+#[tactic(auto, using(crate::proofs::Values::pushes))]
 pub(crate) fn task_rules(
     alloc: Global,
     own: &[Rule],
@@ -78,12 +93,7 @@ pub(crate) fn task_rules(
     ensures { IfOk result (λ v. rules_of v.items ≡ (rules_of own.now ++ arrival_rules ticks listed) ++ needs (codes "script") text ∷ []) }
 {
     let mut rules = Vec::from_slice(alloc, own)?;
-    if listed {
-        rules.push(needs("arrivals", Kind::Ticks { ticks }))?;
-    } else {
-        rules.push(needs("first", Kind::Number { low: 0, high: MAX_TICKS }))?;
-        rules.push(needs("every", Kind::Number { low: 1, high: MAX_TICKS }))?;
-    }
+    add_arrivals(&mut rules, ticks, listed)?;
     rules.push(needs("script", Kind::Text))?;
     Ok(rules)
 }

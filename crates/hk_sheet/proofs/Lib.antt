@@ -1,1 +1,3 @@
 mod Values
+mod KeyOrder
+mod Spacing

@@ -1,9 +1,9 @@
 -- Laws of the values of a document, and of what stands for them in the code.
-use Rattle.std.proofs.Common.{◌≡◌, ℕ, ◌+◌, ◌<◌, List, [], ◌∷◌, ◌++◌, map, take, length, get_or, append_assoc, Option, Some, None, refl, ap, sym, ◌∙◌, Bor, Global, String, BTreeMap, option_to_list}
+use Rattle.std.proofs.Common.{◌≡◌, ℕ, ◌+◌, ◌<◌, List, [], ◌∷◌, ◌++◌, map, take, length, get_or, append_assoc, append-nil, Option, Some, None, refl, ap, sym, ◌∙◌, Bor, Global, String, BTreeMap, option_to_list}
 use Rattle.std.specs.List.{filter_map, cons_option}
 use Rattle.std.proofs.lemmas.List.{take_more, map-append}
 use Rattle.std.proofs.lemmas.List.Elements.{filter_map-append}
-use Rattle.toml.specs.Data.{Data, string, integer, float, boolean, datetime, array, table, Items, as_array, as_table}
+use Rattle.toml.specs.Data.{Data, string, integer, float, boolean, datetime, array, table, Items, Members, as_array, as_table}
 use Rattle.toml.specs.View.{view, items_view, table_view}
 use Rattle.toml.specs.declared.value.Value.{Value}
 use Rattle.hk_sheet.specs.declared.rules.Rule.{Rule}
@@ -54,3 +54,11 @@ pub one_more_table : (vs : List Value) (i : ℕ) (v : Value) → i < length vs �
     → filter_map as_table (map view (take (i + 1) vs)) ≡ filter_map as_table (map view (take i vs)) ++ option_to_list (as_table (view v))
 one_more_table vs i v h is =
     rw (take_more vs i v h, map-append, filter_map-append, ← is) (ap (λ r. filter_map as_table (map view (take i vs)) ++ r) (of_option (as_table (view v))))
+
+-- so with the tables so far and it, where it is one
+pub table_pushed : (old new : List (Bor (BTreeMap (String Global) Value))) (t : Bor (BTreeMap (String Global) Value)) (before : List Members) (d : Data)
+    → seen old ≡ before → new ≡ old ++ t ∷ [] → Some (table_view t.now) ≡ as_table d → seen new ≡ before ++ option_to_list (as_table d)
+table_pushed old new t before d so_far is found = cc (seen_push old t, ap option_to_list found)
+
+pub no_table : (old : List (Bor (BTreeMap (String Global) Value))) (before : List Members) (d : Data) → seen old ≡ before → None ≡ as_table d → seen old ≡ before ++ option_to_list (as_table d)
+no_table old before d so_far none = rw (← none) (so_far ∙ sym (append-nil before))

@@ -29,8 +29,8 @@ kept : (p : List ℕ → Bool) (k : String Global) (xs : List (String Global)) �
 kept p k [] all = refl
 kept p k (y ∷ ys) all =
     elim (cases_Bool (p (string_bytes y))) [
-      | inl yes ↦ rw (yes, lesser-first (string_bytes k) (string_bytes y) all.0) (kept p k ys all.1)
-      | inr no ↦ rw no (kept p k ys all.1)
+      | inl passes ↦ rw passes (ap (λ z. fold lesser z (filter p (map string_bytes ys))) (lesser-first (string_bytes k) (string_bytes y) all.0) ∙ kept p k ys all.1)
+      | inr fails ↦ rw fails (kept p k ys all.1)
     ]
 
 -- the first of those that pass a test is the least of them
@@ -40,11 +40,11 @@ unfolding IsStrictlySortedBy
 first_least p [] key rest sorted is = cc
 first_least p (x ∷ xs) key rest sorted is =
     elim (cases_Bool (p (string_bytes x))) [
-      | inl yes ↦ (
-          let head = rw yes at is in
+      | inl passes ↦ (
+          let head = rw passes at is in
           let same : key ≡ x = cc in
-          rw yes (ap Some (kept p x xs sorted.0 ∙ ap string_bytes (sym same))))
-      | inr no ↦ rw no (first_least p xs key rest sorted.1 (rw no at is))
+          rw passes (ap Some (kept p x xs sorted.0 ∙ ap string_bytes (sym same))))
+      | inr fails ↦ rw fails (first_least p xs key rest sorted.1 (rw fails at is))
     ]
 
 -- none passes
@@ -52,8 +52,8 @@ no_least : (p : List ℕ → Bool) (ks : List (String Global)) → [] ≡ filter
 no_least p [] is = refl
 no_least p (x ∷ xs) is =
     elim (cases_Bool (p (string_bytes x))) [
-      | inl yes ↦ (let none = rw yes at is in cc)
-      | inr no ↦ rw no (no_least p xs (rw no at is))
+      | inl passes ↦ (let none = rw passes at is in cc)
+      | inr fails ↦ rw fails (no_least p xs (rw fails at is))
     ]
 
 -- no rule has the key

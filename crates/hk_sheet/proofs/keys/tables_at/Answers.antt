@@ -11,5 +11,5 @@ loop-value-preserved c =
     let step = one_more_table c.elements_at-value-items.result.now c.loop-value.value-index value (omega arith) c.value-item.is in
     elim c.match-as_table.branch [
       | in-Some+in_ok-push w ↦ ap (λ t. seen t.items) w.tables-is ∙ (table_pushed _ _ _ _ (view value) c.loop-value.invariant w.in_ok-push.ensures.items w.in-Some.ensures ∙ sym step)
-      | in_default w ↦ ap (λ t. seen t.items) w.tables-is ∙ (no_table _ _ (view value) c.loop-value.invariant ? ∙ sym step)
+      | in_default w ↦ ap (λ t. seen t.items) w.tables-is ∙ (no_table _ _ (view value) c.loop-value.invariant w.in_default.ensures ∙ sym step)
     ]

@@ -1,3 +1,6 @@
 mod Values
 mod KeyOrder
 mod Spacing
+mod FaultOrder
+mod Ranges
+mod Validity

@@ -47,6 +47,12 @@ abbrev pub one_after_another : (top heap highs lows names high_arrivals low_arri
 one_after_another top heap highs lows names high_arrivals low_arrivals high_scripts low_scripts geometry =
     or_else top (or_else heap (or_else highs (or_else lows (or_else names (or_else high_arrivals (or_else low_arrivals (or_else high_scripts (or_else low_scripts geometry))))))))
 
+-- the faults of a document in a row
+in_a_row : (top heap : Option SheetError) (highs lows names high_arrivals low_arrivals : List (Option SheetError)) (high low : List Members) (geometry : Option SheetError)
+    → first_of ((top ∷ heap ∷ highs ++ lows) ++ names ++ high_arrivals ++ low_arrivals ++ map fault_of_script (high ++ low) ++ geometry ∷ [])
+    ≡ one_after_another top heap (first_of highs) (first_of lows) (first_of names) (first_of high_arrivals) (first_of low_arrivals) (first_of (map fault_of_script high)) (first_of (map fault_of_script low)) geometry
+in_a_row top heap highs lows names high_arrivals low_arrivals high low geometry = simp (map-append, first_of-cons, first_of-append, or_else-assoc, or_else-none)
+
 module _ (document : Members) where
   abbrev pub high_faults : Option SheetError
   high_faults = first_of (faults_of_tasks (codes "high") (high_rules (number_at (codes "ticks") document)) 0 (highs_of document))
@@ -62,11 +68,13 @@ module _ (document : Members) where
   -- the first fault of a document
   pub fault_of-in_order : fault_of document ≡ in_order
   unfolding fault_of faults_of_tables
-  fault_of-in_order = simp (first_of-append, first_of-cons, or_else-assoc, or_else-none, map-append)
+  fault_of-in_order = in_a_row (fault_of_table [] top_rules document) (fault_of_table (codes "heap.") heap_rules (table_at (codes "heap") document))
+      (faults_of_tasks (codes "high") (high_rules (number_at (codes "ticks") document)) 0 (highs_of document)) (faults_of_tasks (codes "low") (low_rules (number_at (codes "ticks") document)) 0 (lows_of document))
+      (faults_of_names [] 0 (names_of document)) (map fault_of_high_arrivals (highs_of document)) (map fault_of_low_arrivals (lows_of document)) (highs_of document) (lows_of document) (fault_of_geometry (sheet_in document))
 
 -- a stage without a fault is passed, and one with a fault ends the search
 pub skip : {a b : Option SheetError} → a ≡ None → or_else a b ≡ b
 skip none = rw none refl
 
-pub stop : {a b : Option SheetError} {fault : SheetError} → a ≡ Some fault → or_else a b ≡ Some fault
-stop found = rw found refl
+pub stop : {a : Option SheetError} {fault : SheetError} (b : Option SheetError) → a ≡ Some fault → or_else a b ≡ Some fault
+stop b found = rw found refl

@@ -3,4 +3,5 @@ mod KeyOrder
 mod Spacing
 mod FaultOrder
 mod Ranges
+mod NameOrder
 mod Validity

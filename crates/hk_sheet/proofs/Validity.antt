@@ -20,10 +20,11 @@ use Rattle.hk_sheet.specs.declared.sheet.High.{High}
 use Rattle.hk_sheet.specs.declared.sheet.Low.{Low}
 use Rattle.hk_sheet.specs.declared.sheet.Sheet.{Sheet}
 use Rattle.hk_sheet.specs.declared.sheet.TheConstants.{MAX_TICKS, MAX_SIZE, MAX_RATE, MAX_BOARD}
-use Rattle.hk_sheet.specs.Rules.{number_at, has_list, arrival_rules, top_rules, heap_rules, high_rules, low_rules}
-use Rattle.hk_sheet.specs.Reading.{text_at, table_at, highs_of, lows_of, heap_in, arrivals_in, timing_in, script_in, read_script, high_in, low_in, sheet_in}
+use Rattle.hk_sheet.specs.Rules.{Rule, needs, text, number_at, has_list, arrival_rules, top_rules, heap_rules, high_rules, low_rules}
+use Rattle.hk_sheet.specs.Reading.{text_at, table_at, numbers_at, highs_of, lows_of, heap_in, arrivals_in, timing_in, script_in, read_script, high_in, low_in, sheet_in}
 use Rattle.hk_sheet.specs.Faults.{first_of, fault_of_key, fault_of_table, faults_of_tasks, task_path, is_name, is_among, faults_of_names, names_of, faults_of_ticks, fault_of_arrivals, fault_of_high_arrivals, fault_of_low_arrivals, fault_of_text, fault_of_script, sizes_of, fault_of_geometry, fault_of, unless_fault, sheet_of}
 use Rattle.hk_sheet.specs.Valid.{IsFrom, IsHeap, AreSpaced, AreArrivals, IsTiming, IsHigh, IsLow, AreDistinct, names_in, IsSheet}
+use Rattle.hk_sheet.proofs.NameOrder.{bytes_eq-flip}
 use Rattle.hk_sheet.proofs.FaultOrder.{or_else, first_of-cons, neither, none_of, fault_of-in_order}
 use Rattle.hk_sheet.proofs.Ranges.{no_key_fault, number_key, pair_key, ticks_key}
 
@@ -33,7 +34,16 @@ pub heap_right : (entries : Members) → fault_of_table (codes "heap.") heap_rul
 unfolding heap_rules heap_in
 heap_right entries none =
     let path = codes "heap." in
-    let (live, alloc, reserve, rate, board, end) = no_key_fault path heap_rules entries none in ?
+    let keys = no_key_fault path heap_rules entries none in
+    let pair = pair_key path (codes "board") MAX_BOARD entries keys.1.1.1.1.0 in
+    record {
+      live = (number_key path (codes "live") 0 MAX_SIZE entries keys.0).at_most;
+      alloc = (number_key path (codes "alloc") 0 MAX_SIZE entries keys.1.0).at_most;
+      reserve = (number_key path (codes "reserve") 0 MAX_SIZE entries keys.1.1.0).at_most;
+      rate = number_key path (codes "rate") 1 MAX_RATE entries keys.1.1.1.0;
+      refs = pair.0;
+      nums = pair.1;
+    }
 
 -- NAMES
 
@@ -41,9 +51,6 @@ heap_right entries none =
 name_right : (index : ℕ) (right : Bool) → (if right then None else Some (error.Name index)) ≡ None → right ≡ true
 name_right index true none = refl
 name_right index false none = cc
-
-bytes_eq-flip : (xs ys : List ℕ) → bytes_eq xs ys ≡ bytes_eq ys xs
-bytes_eq-flip xs ys = ?
 
 or_false : (a b : Bool) → (a || b) ≡ false → (a ≡ false) × (b ≡ false)
 or_false true b is = cc
@@ -123,3 +130,92 @@ no_geometry_fault (Some fault) none = cc
 geometry_right : (sheet : Sheet) → fault_of_geometry sheet ≡ None → first_error (sizes_of sheet) ≡ None
 unfolding fault_of_geometry
 geometry_right sheet none = no_geometry_fault (first_error (sizes_of sheet)) none
+
+-- THE TASKS
+
+module _ (path : List ℕ) (ticks gap : ℕ) (some : 1 ≤ ticks) (entries : Members) where
+  -- when the jobs arrive, by the rules on them
+  arrivals_right : (listed : Bool) (behind : List Rule) → has_list entries ≡ listed → AllByRecursion (λ rule. fault_of_key path entries rule ≡ None) (arrival_rules ticks listed ++ behind)
+      → fault_of_arrivals (text_at (codes "name") entries) gap (arrivals_in entries) ≡ None → AreArrivals ticks gap (arrivals_in entries)
+  unfolding arrival_rules arrivals_in fault_of_arrivals
+  arrivals_right true behind is keys none =
+      let list = ticks_key path (codes "arrivals") ticks entries some keys.0 in
+      rw is (list.0, list.1, spaced (text_at (codes "name") entries) gap 1 (numbers_at (codes "arrivals") entries) (rw is at none))
+  arrivals_right false behind is keys none =
+      let first = number_key path (codes "first") 0 MAX_TICKS entries keys.0 in
+      let step = number_key path (codes "every") 1 MAX_TICKS entries keys.1.0 in
+      rw is (first.at_most, step, step_enough (text_at (codes "name") entries) gap (number_at (codes "first") entries) (number_at (codes "every") entries) (rw is at none))
+
+high_right : (path : List ℕ) (ticks : ℕ) (entries : Members) → 1 ≤ ticks → fault_of_table path (high_rules ticks entries) entries ≡ None → is_name (text_at (codes "name") entries) ≡ true
+    → fault_of_high_arrivals entries ≡ None → fault_of_script entries ≡ None → IsHigh ticks (high_in entries)
+unfolding high_rules high_in timing_in
+high_right path ticks entries some keys_none name arrivals_none script_none =
+    let keys = no_key_fault path (high_rules ticks entries) entries keys_none in
+    record {
+      name = name;
+      timing = record {
+        period = number_key path (codes "period") 1 MAX_TICKS entries keys.1.0;
+        deadline = number_key path (codes "deadline") 1 (number_at (codes "period") entries) entries keys.1.1.0;
+        cost = number_key path (codes "cost") 1 MAX_TICKS entries keys.1.1.1.0;
+      };
+      words = (number_key path (codes "words") 0 MAX_TICKS entries keys.1.1.1.1.0).at_most;
+      arrivals = arrivals_right path ticks (number_at (codes "period") entries) some entries (has_list entries) (needs (codes "script") text ∷ []) refl keys.1.1.1.1.1 arrivals_none;
+      script = script_of_table entries script_none;
+    }
+
+low_right : (path : List ℕ) (ticks : ℕ) (entries : Members) → 1 ≤ ticks → fault_of_table path (low_rules ticks entries) entries ≡ None → is_name (text_at (codes "name") entries) ≡ true
+    → fault_of_low_arrivals entries ≡ None → fault_of_script entries ≡ None → IsLow ticks (low_in entries)
+unfolding low_rules low_in
+low_right path ticks entries some keys_none name arrivals_none script_none =
+    let keys = no_key_fault path (low_rules ticks entries) entries keys_none in
+    record {
+      name = name;
+      arrivals = arrivals_right path ticks 1 some entries (has_list entries) (needs (codes "script") text ∷ []) refl keys.1 arrivals_none;
+      script = script_of_table entries script_none;
+    }
+
+highs_right : (ticks index : ℕ) (tasks : List Members) → 1 ≤ ticks → first_of (faults_of_tasks (codes "high") (high_rules ticks) index tasks) ≡ None
+    → AllByRecursion (λ entries. is_name (text_at (codes "name") entries) ≡ true) tasks → AllByRecursion (λ entries. fault_of_high_arrivals entries ≡ None) tasks
+    → AllByRecursion (λ entries. fault_of_script entries ≡ None) tasks → AllByRecursion (IsHigh ticks) (map high_in tasks)
+highs_right ticks index [] some keys names arrivals scripts = tt
+highs_right ticks index (entries ∷ rest) some keys names arrivals scripts =
+    let fault = fault_of_table (task_path (codes "high") index) (high_rules ticks entries) entries in
+    let later = faults_of_tasks (codes "high") (high_rules ticks) (index + 1) rest in
+    let parts = neither fault (first_of later) (sym (first_of-cons fault later) ∙ keys) in
+    (high_right (task_path (codes "high") index) ticks entries some parts.0 names.0 arrivals.0 scripts.0, highs_right ticks (index + 1) rest some parts.1 names.1 arrivals.1 scripts.1)
+
+lows_right : (ticks index : ℕ) (tasks : List Members) → 1 ≤ ticks → first_of (faults_of_tasks (codes "low") (low_rules ticks) index tasks) ≡ None
+    → AllByRecursion (λ entries. is_name (text_at (codes "name") entries) ≡ true) tasks → AllByRecursion (λ entries. fault_of_low_arrivals entries ≡ None) tasks
+    → AllByRecursion (λ entries. fault_of_script entries ≡ None) tasks → AllByRecursion (IsLow ticks) (map low_in tasks)
+lows_right ticks index [] some keys names arrivals scripts = tt
+lows_right ticks index (entries ∷ rest) some keys names arrivals scripts =
+    let fault = fault_of_table (task_path (codes "low") index) (low_rules ticks entries) entries in
+    let later = faults_of_tasks (codes "low") (low_rules ticks) (index + 1) rest in
+    let parts = neither fault (first_of later) (sym (first_of-cons fault later) ∙ keys) in
+    (low_right (task_path (codes "low") index) ticks entries some parts.0 names.0 arrivals.0 scripts.0, lows_right ticks (index + 1) rest some parts.1 names.1 arrivals.1 scripts.1)
+
+-- what holds of all of two lists holds of each
+split_all : (P : List ℕ → Type 0) (xs ys : List Members) → AllByRecursion P (map (text_at (codes "name")) (xs ++ ys))
+    → AllByRecursion (λ entries. P (text_at (codes "name") entries)) xs × AllByRecursion (λ entries. P (text_at (codes "name") entries)) ys
+split_all P [] [] all = (tt, tt)
+split_all P [] (y ∷ ys) all = (tt, (all.0, (split_all P [] ys all.1).1))
+split_all P (x ∷ xs) ys all = let rest = split_all P xs ys all.1 in ((all.0, rest.0), rest.1)
+
+high_names : (tasks : List Members) → map (λ (task : High). task.name) (map high_in tasks) ≡ map (text_at (codes "name")) tasks
+unfolding high_in
+high_names [] = refl
+high_names (entries ∷ rest) = ap (λ names. text_at (codes "name") entries ∷ names) (high_names rest)
+
+low_names : (tasks : List Members) → map (λ (task : Low). task.name) (map low_in tasks) ≡ map (text_at (codes "name")) tasks
+unfolding low_in
+low_names [] = refl
+low_names (entries ∷ rest) = ap (λ names. text_at (codes "name") entries ∷ names) (low_names rest)
+
+names_read : (document : Members) → names_in (sheet_in document) ≡ names_of document
+unfolding sheet_in
+names_read document = rw (high_names (highs_of document), low_names (lows_of document)) (sym (map-append (text_at (codes "name")) (highs_of document) (lows_of document)))
+
+-- THE SHEET
+
+pub sheet_right : (document : Members) → fault_of document ≡ None → IsSheet (sheet_in document)
+sheet_right document none = ?

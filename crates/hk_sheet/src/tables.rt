@@ -90,11 +90,10 @@ pub(crate) fn check_document(alloc: Global, document: &Table) -> Result<(), Shee
 pub(crate) fn check_heap(alloc: Global, heap: &Table) -> Result<(), SheetError>
     ensures { Checks (fault_of_table (codes "heap.") heap_rules (table_view heap.now)) result }
 {
-    let size = Kind::Number { low: 0, high: MAX_SIZE };
     let rules = [
-        needs("live", size),
-        needs("alloc", size),
-        needs("reserve", size),
+        needs("live", Kind::Number { low: 0, high: MAX_SIZE }),
+        needs("alloc", Kind::Number { low: 0, high: MAX_SIZE }),
+        needs("reserve", Kind::Number { low: 0, high: MAX_SIZE }),
         needs("rate", Kind::Number { low: 1, high: MAX_RATE }),
         needs("board", Kind::Pair { high: MAX_BOARD }),
     ];

@@ -47,11 +47,53 @@ abbrev pub one_after_another : (top heap highs lows names high_arrivals low_arri
 one_after_another top heap highs lows names high_arrivals low_arrivals high_scripts low_scripts geometry =
     or_else top (or_else heap (or_else highs (or_else lows (or_else names (or_else high_arrivals (or_else low_arrivals (or_else high_scripts (or_else low_scripts geometry))))))))
 
+-- faults in another bracketing
+rebracket : (top heap highs lows names high_arrivals low_arrivals high_scripts low_scripts geometry : Option SheetError) → or_else (or_else (or_else (or_else (or_else (or_else (or_else top (or_else heap highs)) lows) names) high_arrivals) low_arrivals) (or_else high_scripts low_scripts)) geometry
+    ≡ one_after_another top heap highs lows names high_arrivals low_arrivals high_scripts low_scripts geometry
+rebracket (Some fault) heap highs lows names high_arrivals low_arrivals high_scripts low_scripts geometry = refl
+rebracket None (Some fault) highs lows names high_arrivals low_arrivals high_scripts low_scripts geometry = refl
+rebracket None None (Some fault) lows names high_arrivals low_arrivals high_scripts low_scripts geometry = refl
+rebracket None None None (Some fault) names high_arrivals low_arrivals high_scripts low_scripts geometry = refl
+rebracket None None None None (Some fault) high_arrivals low_arrivals high_scripts low_scripts geometry = refl
+rebracket None None None None None (Some fault) low_arrivals high_scripts low_scripts geometry = refl
+rebracket None None None None None None (Some fault) high_scripts low_scripts geometry = refl
+rebracket None None None None None None None (Some fault) low_scripts geometry = refl
+rebracket None None None None None None None None (Some fault) geometry = refl
+rebracket None None None None None None None None None geometry = refl
+
+-- where there is no first fault, there is none
+pub none_each : (top heap highs lows names high_arrivals low_arrivals high_scripts low_scripts geometry : Option SheetError) → one_after_another top heap highs lows names high_arrivals low_arrivals high_scripts low_scripts geometry ≡ None
+    → (top ≡ None) × (heap ≡ None) × (highs ≡ None) × (lows ≡ None) × (names ≡ None) × (high_arrivals ≡ None) × (low_arrivals ≡ None) × (high_scripts ≡ None) × (low_scripts ≡ None) × (geometry ≡ None)
+none_each (Some fault) heap highs lows names high_arrivals low_arrivals high_scripts low_scripts geometry none = cc
+none_each None (Some fault) highs lows names high_arrivals low_arrivals high_scripts low_scripts geometry none = cc
+none_each None None (Some fault) lows names high_arrivals low_arrivals high_scripts low_scripts geometry none = cc
+none_each None None None (Some fault) names high_arrivals low_arrivals high_scripts low_scripts geometry none = cc
+none_each None None None None (Some fault) high_arrivals low_arrivals high_scripts low_scripts geometry none = cc
+none_each None None None None None (Some fault) low_arrivals high_scripts low_scripts geometry none = cc
+none_each None None None None None None (Some fault) high_scripts low_scripts geometry none = cc
+none_each None None None None None None None (Some fault) low_scripts geometry none = cc
+none_each None None None None None None None None (Some fault) geometry none = cc
+none_each None None None None None None None None None geometry none = (refl, refl, refl, refl, refl, refl, refl, refl, refl, none)
+
+-- the first fault of some and then of others
+both : (xs ys : List (Option SheetError)) (x y : Option SheetError) → first_of xs ≡ x → first_of ys ≡ y → first_of (xs ++ ys) ≡ or_else x y
+both xs ys x y one two = first_of-append xs ys ∙ (ap (λ o. or_else o (first_of ys)) one ∙ ap (or_else x) two)
+
 -- the faults of a document in a row
 in_a_row : (top heap : Option SheetError) (highs lows names high_arrivals low_arrivals : List (Option SheetError)) (high low : List Members) (geometry : Option SheetError)
     → first_of ((top ∷ heap ∷ highs ++ lows) ++ names ++ high_arrivals ++ low_arrivals ++ map fault_of_script (high ++ low) ++ geometry ∷ [])
     ≡ one_after_another top heap (first_of highs) (first_of lows) (first_of names) (first_of high_arrivals) (first_of low_arrivals) (first_of (map fault_of_script high)) (first_of (map fault_of_script low)) geometry
-in_a_row top heap highs lows names high_arrivals low_arrivals high low geometry = simp (map-append, first_of-cons, first_of-append, or_else-assoc, or_else-none)
+in_a_row top heap highs lows names high_arrivals low_arrivals high low geometry =
+    let start = first_of-cons top (heap ∷ highs) ∙ ap (or_else top) (first_of-cons heap highs) in
+    let tables = both (top ∷ heap ∷ highs) lows _ _ start refl in
+    let with_names = both (top ∷ heap ∷ highs ++ lows) names _ _ tables refl in
+    let with_highs = both (top ∷ heap ∷ highs ++ lows ++ names) high_arrivals _ _ with_names refl in
+    let with_lows = both (top ∷ heap ∷ highs ++ lows ++ names ++ high_arrivals) low_arrivals _ _ with_highs refl in
+    let scripts = ap first_of (map-append fault_of_script high low) ∙ first_of-append (map fault_of_script high) (map fault_of_script low) in
+    let with_scripts = both (top ∷ heap ∷ highs ++ lows ++ names ++ high_arrivals ++ low_arrivals) (map fault_of_script (high ++ low)) _ _ with_lows scripts in
+    let last = first_of-cons geometry [] ∙ or_else-none geometry in
+    let all = both (top ∷ heap ∷ highs ++ lows ++ names ++ high_arrivals ++ low_arrivals ++ map fault_of_script (high ++ low)) (geometry ∷ []) _ _ with_scripts last in
+    all ∙ rebracket top heap (first_of highs) (first_of lows) (first_of names) (first_of high_arrivals) (first_of low_arrivals) (first_of (map fault_of_script high)) (first_of (map fault_of_script low)) geometry
 
 module _ (document : Members) where
   abbrev pub high_faults : Option SheetError

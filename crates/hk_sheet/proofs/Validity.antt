@@ -1,5 +1,5 @@
 -- The sheet of a document without a fault is one that the other calls take.
-use Rattle.std.proofs.Common.{◌≡◌, ℕ, ◌+◌, ◌<◌, ◌≤◌, nat_lt, Bool, true, false, not, ◌&&◌, ◌||◌, bytes_eq, List, [], ◌∷◌, ◌++◌, length, map, codes, is_some, Option, Some, None, Result, Ok, Err, option_map, if◌then◌else◌, refl, ap, sym, ◌∙◌, inl, inr, arith}
+use Rattle.std.proofs.Common.{◌≡◌, ℕ, ◌+◌, ◌<◌, ◌≤◌, nat_lt, Bool, true, false, not, ◌&&◌, ◌||◌, bytes_eq, List, [], ◌∷◌, ◌++◌, length, map, codes, is_some, Option, Some, None, Result, Ok, Err, option_map, if◌then◌else◌, refl, ap, subst, sym, ◌∙◌, inl, inr, arith}
 use Rattle.std.proofs.lemmas.Bool.{cases_Bool, and_parts, false≢true}
 use Rattle.std.proofs.lemmas.Bool.Decides.{nat_tests}
 use Rattle.std.proofs.lemmas.List.{map-append}
@@ -25,7 +25,7 @@ use Rattle.hk_sheet.specs.Reading.{text_at, table_at, numbers_at, highs_of, lows
 use Rattle.hk_sheet.specs.Faults.{first_of, fault_of_key, fault_of_table, faults_of_tasks, task_path, is_name, is_among, faults_of_names, names_of, faults_of_ticks, fault_of_arrivals, fault_of_high_arrivals, fault_of_low_arrivals, fault_of_text, fault_of_script, sizes_of, fault_of_geometry, fault_of, unless_fault, sheet_of}
 use Rattle.hk_sheet.specs.Valid.{IsFrom, IsHeap, AreSpaced, AreArrivals, IsTiming, IsHigh, IsLow, AreDistinct, names_in, IsSheet}
 use Rattle.hk_sheet.proofs.NameOrder.{bytes_eq-flip}
-use Rattle.hk_sheet.proofs.FaultOrder.{or_else, first_of-cons, neither, none_of, fault_of-in_order}
+use Rattle.hk_sheet.proofs.FaultOrder.{first_of-cons, neither, none_of, none_each, high_faults, low_faults, fault_of-in_order}
 use Rattle.hk_sheet.proofs.Ranges.{no_key_fault, number_key, pair_key, ticks_key}
 
 -- THE HEAP
@@ -113,9 +113,9 @@ step_enough task gap first step none =
 
 -- SCRIPTS
 
-script_right : (task text : List ℕ) (read : Result (List Statement) ScriptError) → script_of text ≡ read → fault_of_text task read ≡ None → IsScript (read_script read)
-script_right task text (Ok script) is none = (text_takes text script is).script
-script_right task text (Err fault) is none = cc
+script_right : (task source : List ℕ) (read : Result (List Statement) ScriptError) → script_of source ≡ read → fault_of_text task read ≡ None → IsScript (read_script read)
+script_right task source (Ok script) is none = (text_takes source script is).script
+script_right task source (Err fault) is none = cc
 
 pub script_of_table : (entries : Members) → fault_of_script entries ≡ None → IsScript (script_in entries)
 unfolding fault_of_script script_in
@@ -218,4 +218,20 @@ names_read document = rw (high_names (highs_of document), low_names (lows_of doc
 -- THE SHEET
 
 pub sheet_right : (document : Members) → fault_of document ≡ None → IsSheet (sheet_in document)
-sheet_right document none = ?
+unfolding top_rules sheet_in
+sheet_right document none =
+    let (top, heap, highs, lows, names, high_arrivals, low_arrivals, high_scripts, low_scripts, geometry) =
+        none_each (fault_of_table [] top_rules document) (fault_of_table (codes "heap.") heap_rules (table_at (codes "heap") document)) (high_faults document) (low_faults document)
+            (first_of (faults_of_names [] 0 (names_of document))) (first_of (map fault_of_high_arrivals (highs_of document))) (first_of (map fault_of_low_arrivals (lows_of document)))
+            (first_of (map fault_of_script (highs_of document))) (first_of (map fault_of_script (lows_of document))) (fault_of_geometry (sheet_in document))
+            (sym (fault_of-in_order document) ∙ none) in
+    let ticks = number_key [] (codes "ticks") 1 MAX_TICKS document (no_key_fault [] top_rules document top).1.0 in
+    let right = split_all (λ name. is_name name ≡ true) (highs_of document) (lows_of document) (names_right [] 0 (names_of document) names) in
+    record {
+      ticks = ticks;
+      heap = heap_right (table_at (codes "heap") document) heap;
+      high = highs_right (number_at (codes "ticks") document) 0 (highs_of document) ticks.at_least highs right.0 (none_of fault_of_high_arrivals (highs_of document) high_arrivals) (none_of fault_of_script (highs_of document) high_scripts);
+      low = lows_right (number_at (codes "ticks") document) 0 (lows_of document) ticks.at_least lows right.1 (none_of fault_of_low_arrivals (lows_of document) low_arrivals) (none_of fault_of_script (lows_of document) low_scripts);
+      names = subst AreDistinct (sym (names_read document)) (names_distinct [] 0 (names_of document) names);
+      geometry = geometry_right (sheet_in document) geometry;
+    }

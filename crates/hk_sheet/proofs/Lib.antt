@@ -5,3 +5,4 @@ mod FaultOrder
 mod Ranges
 mod NameOrder
 mod Validity
+mod Answering

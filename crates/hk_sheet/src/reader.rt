@@ -1,5 +1,5 @@
 //! A task sheet from its bytes.
-ghost use Rattle.std.specs.Prelude.{◌≡◌, ◌++◌, IfOk, MatchResult};
+ghost use Rattle.std.specs.Prelude.{◌≡◌, IfOk, IfErr};
 ghost use Rattle.toml.specs.View.{table_view};
 ghost use Rattle.hk_sheet.specs.Reading.{heap_in, sheet_in};
 ghost use Rattle.hk_sheet.specs.Faults.{fault_of, fault_of_geometry};
@@ -17,7 +17,10 @@ use std::alloc::Global;
 use toml::Table;
 
 /// The document of some bytes.
-fn document_of(alloc: Global, bytes: &[u8]) -> Result<Table, SheetError> {
+fn document_of(alloc: Global, bytes: &[u8]) -> Result<Table, SheetError>
+    ensures document { IfOk result (λ document. IsDocument bytes.now (table_view document)) }
+    ensures refused { IfErr result (λ e. Answers bytes.now (Err e)) }
+{
     match toml::table_from_slice(alloc, bytes) {
         Ok(document) => Ok(document),
         Err(error) if error.is_memory() => Err(SheetError::Memory),

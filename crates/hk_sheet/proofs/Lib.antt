@@ -6,3 +6,4 @@ mod Ranges
 mod NameOrder
 mod Validity
 mod Answering
+mod Stages

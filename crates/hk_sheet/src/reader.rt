@@ -1,16 +1,17 @@
 //! A task sheet from its bytes.
-ghost use Rattle.std.specs.Prelude.{◌≡◌, IfOk, IfErr};
+ghost use Rattle.std.specs.Prelude.{◌≡◌, [], codes, None, IfOk, IfErr};
 ghost use Rattle.toml.specs.View.{table_view};
-ghost use Rattle.hk_sheet.specs.Reading.{heap_in, sheet_in};
-ghost use Rattle.hk_sheet.specs.Faults.{fault_of, fault_of_geometry};
+ghost use Rattle.hk_sheet.specs.Rules.{top_rules};
+ghost use Rattle.hk_sheet.specs.Reading.{table_at, highs_of, lows_of, heap_in, sheet_in};
+ghost use Rattle.hk_sheet.specs.Faults.{fault_of_table, fault_of, fault_of_geometry};
 ghost use Rattle.hk_sheet.specs.Valid.{IsHeap, IsSheet};
 ghost use Rattle.hk_sheet.specs.Answers.{IsDocument, Answers};
-ghost use Rattle.hk_sheet.specs.Code.{Checks, Gives};
+ghost use Rattle.hk_sheet.specs.Code.{seen, Checks, Gives};
 
 use crate::keys::{number_at, pair_at, table_at, tables_at};
 use crate::tables::{check_document, check_heap, check_highs, check_lows};
 use crate::tasks::{
-    check_high_arrivals, check_low_arrivals, check_names, highs_in, lows_in, names,
+    check_high_arrivals, check_low_arrivals, check_task_names, highs_in, lows_in,
 };
 use crate::{HeapKeys, Sheet, SheetError};
 use std::alloc::Global;
@@ -56,25 +57,30 @@ fn check_geometry(sheet: &Sheet) -> Result<(), SheetError>
     }
 }
 
-/// The sheet that a document declares, or its first fault.
-fn sheet_in(alloc: Global, document: &Table) -> Result<Sheet, SheetError>
+/// The sheet of a document whose own keys have no fault, from the table of its heap and those of its tasks, or the
+/// first fault of these.
+fn sheet_from(
+    alloc: Global,
+    document: &Table,
+    heap: &Table,
+    highs: &[&Table],
+    lows: &[&Table],
+) -> Result<Sheet, SheetError>
+    requires top { fault_of_table [] top_rules (table_view document.now) ≡ None }
+    requires heap { table_view heap.now ≡ table_at (codes "heap") (table_view document.now) }
+    requires highs { seen highs.now ≡ highs_of (table_view document.now) }
+    requires lows { seen lows.now ≡ lows_of (table_view document.now) }
     ensures { Gives (fault_of (table_view document.now)) (sheet_in (table_view document.now)) result }
 {
-    check_document(alloc, document)?;
-    let Some(heap) = table_at(document, "heap") else {
-        unreachable!();
-    };
-    check_heap(alloc, heap)?;
     let ticks = number_at(document, "ticks");
-    let highs = tables_at(alloc, document, "high")?;
-    let lows = tables_at(alloc, document, "low")?;
-    check_highs(alloc, ticks, &highs)?;
-    check_lows(alloc, ticks, &lows)?;
-    check_names(alloc, &names(alloc, &highs, &lows)?)?;
-    check_high_arrivals(alloc, &highs)?;
-    check_low_arrivals(alloc, &lows)?;
-    let high = highs_in(alloc, &highs)?;
-    let low = lows_in(alloc, &lows)?;
+    check_heap(alloc, heap)?;
+    check_highs(alloc, ticks, highs)?;
+    check_lows(alloc, ticks, lows)?;
+    check_task_names(alloc, highs, lows)?;
+    check_high_arrivals(alloc, highs)?;
+    check_low_arrivals(alloc, lows)?;
+    let high = highs_in(alloc, highs)?;
+    let low = lows_in(alloc, lows)?;
     let sheet = Sheet {
         ticks,
         heap: heap_in(heap),
@@ -83,6 +89,19 @@ fn sheet_in(alloc: Global, document: &Table) -> Result<Sheet, SheetError>
     };
     check_geometry(&sheet)?;
     Ok(sheet)
+}
+
+/// The sheet that a document declares, or its first fault.
+fn sheet_in(alloc: Global, document: &Table) -> Result<Sheet, SheetError>
+    ensures { Gives (fault_of (table_view document.now)) (sheet_in (table_view document.now)) result }
+{
+    check_document(alloc, document)?;
+    let Some(heap) = table_at(document, "heap") else {
+        unreachable!();
+    };
+    let highs = tables_at(alloc, document, "high")?;
+    let lows = tables_at(alloc, document, "low")?;
+    sheet_from(alloc, document, heap, &highs, &lows)
 }
 
 /// The task sheet of some bytes, or the first reason why they are none.

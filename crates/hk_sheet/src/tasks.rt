@@ -43,7 +43,7 @@ fn is_name(bytes: &[u8]) -> bool
 }
 
 /// The names of the high tasks and the low ones.
-pub(crate) fn names<'a>(
+fn names<'a>(
     alloc: Global,
     highs: &[&'a Table],
     lows: &[&'a Table],
@@ -61,7 +61,7 @@ pub(crate) fn names<'a>(
 }
 
 /// Checks that each name is one, and none that stands before.
-pub(crate) fn check_names(alloc: Global, names: &[&str]) -> Result<(), SheetError>
+fn check_names(alloc: Global, names: &[&str]) -> Result<(), SheetError>
     ensures { Checks (first_of (faults_of_names [] 0 (texts names.now))) result }
 {
     let mut earlier = BTreeSet::new(alloc);
@@ -71,6 +71,18 @@ pub(crate) fn check_names(alloc: Global, names: &[&str]) -> Result<(), SheetErro
         }
     }
     Ok(())
+}
+
+/// Checks the names of the high tasks and the low ones.
+pub(crate) fn check_task_names(
+    alloc: Global,
+    highs: &[&Table],
+    lows: &[&Table],
+) -> Result<(), SheetError>
+    ensures { Checks (first_of (faults_of_names [] 0 (map (text_at (codes "name")) (seen highs.now ++ seen lows.now)))) result }
+{
+    let names = names(alloc, highs, lows)?;
+    check_names(alloc, &names)
 }
 
 /// The name of a task.

@@ -1,5 +1,5 @@
 -- What is answered about the bytes, from what is known of the document.
-use Rattle.std.proofs.Common.{◌≡◌, ℕ, ◌+◌, nat_lt, Bool, true, false, not, ◌&&◌, List, [], ◌∷◌, ◌++◌, map, codes, Option, Some, None, Result, Ok, Err, IfOk, option_map, if◌then◌else◌, refl, ap, sym, ◌∙◌}
+use Rattle.std.proofs.Common.{◌≡◌, ℕ, ◌+◌, nat_lt, Bool, true, false, not, ◌&&◌, List, [], ◌∷◌, ◌++◌, map, codes, Option, Some, None, Result, Ok, Err, IfOk, option_map, if◌then◌else◌, refl, sym, ◌∙◌}
 use Rattle.std.specs.List.{AllByRecursion}
 use Rattle.toml.specs.Data.{Data, Members, get_member}
 use Rattle.hk_words.specs.declared.geometry.GeoError.{GeoError}
@@ -14,12 +14,12 @@ use Rattle.hk_sheet.specs.declared.error.SheetError.{SheetError}
 use Rattle.hk_sheet.specs.declared.error.SheetError.TheVariants as error
 use Rattle.hk_sheet.specs.declared.sheet.Sheet.{Sheet}
 use Rattle.hk_sheet.specs.Answers.{IsDocument, IsRead, Answers}
-use Rattle.hk_sheet.specs.Code.{Refuses, Gives}
+use Rattle.hk_sheet.specs.Code.{Gives}
 use Rattle.hk_sheet.specs.Rules.{Wrong, no_such_kind, out_of_range, Rule, wrong_in, number_at, top_rules, heap_rules, high_rules, low_rules}
 use Rattle.hk_sheet.specs.Reading.{text_at, table_at, highs_of, lows_of, arrivals_in, sheet_in}
-use Rattle.hk_sheet.specs.Faults.{first_of, unknown_keys, least, shown, unknown_fault, error_of, fault_of_value, fault_of_key, fault_of_table, faults_of_tasks, task_path, is_name, is_among, faults_of_names, names_of, faults_of_ticks, fault_of_arrivals, fault_of_high_arrivals, fault_of_low_arrivals, fault_of_text, fault_of_script, sizes_of, fault_of_geometry, fault_of, unless_fault, sheet_of}
+use Rattle.hk_sheet.specs.Faults.{first_of, unknown_keys, least, shown, unknown_fault, error_of, fault_of_value, fault_of_key, fault_of_table, faults_of_tasks, task_path, is_name, is_among, faults_of_names, names_of, faults_of_ticks, fault_of_arrivals, fault_of_high_arrivals, fault_of_low_arrivals, fault_of_text, fault_of_script, sizes_of, fault_of_geometry, fault_of, sheet_of}
 use Rattle.hk_sheet.specs.Valid.{IsSheet}
-use Rattle.hk_sheet.proofs.FaultOrder.{or_else, first_of-cons, high_faults, low_faults, fault_of-in_order}
+use Rattle.hk_sheet.proofs.FaultOrder.{or_else, high_faults, low_faults, fault_of-in_order}
 use Rattle.hk_sheet.proofs.Validity.{sheet_right}
 
 -- a fault of a document isn't `Text`
@@ -107,15 +107,15 @@ geometry_not sheet = sizes_not (first_error (sizes_of sheet))
 document_not : (document : Members) → NotText (fault_of document)
 document_not document is =
     let all = neither_text (fault_of_table [] top_rules document) _ (table_not [] top_rules document)
-        (neither_text (fault_of_table (codes "heap.") heap_rules (table_at (codes "heap") document)) _ (table_not (codes "heap.") heap_rules (table_at (codes "heap") document))
-        (neither_text (high_faults document) _ (first_not _ (tasks_not (codes "high") (high_rules (number_at (codes "ticks") document)) 0 (highs_of document)))
-        (neither_text (low_faults document) _ (first_not _ (tasks_not (codes "low") (low_rules (number_at (codes "ticks") document)) 0 (lows_of document)))
-        (neither_text (first_of (faults_of_names [] 0 (names_of document))) _ (first_not _ (names_not [] 0 (names_of document)))
-        (neither_text (first_of (map fault_of_high_arrivals (highs_of document))) _ (first_not _ (each_not fault_of_high_arrivals (λ entries. arrivals_not (text_at (codes "name") entries) (number_at (codes "period") entries) (arrivals_in entries)) (highs_of document)))
-        (neither_text (first_of (map fault_of_low_arrivals (lows_of document))) _ (first_not _ (each_not fault_of_low_arrivals (λ entries. arrivals_not (text_at (codes "name") entries) 1 (arrivals_in entries)) (lows_of document)))
-        (neither_text (first_of (map fault_of_script (highs_of document))) _ (first_not _ (each_not fault_of_script script_not (highs_of document)))
-        (neither_text (first_of (map fault_of_script (lows_of document))) _ (first_not _ (each_not fault_of_script script_not (lows_of document)))
-        (geometry_not (sheet_in document))))))))))
+    (neither_text (fault_of_table (codes "heap.") heap_rules (table_at (codes "heap") document)) _ (table_not (codes "heap.") heap_rules (table_at (codes "heap") document))
+    (neither_text (high_faults document) _ (first_not _ (tasks_not (codes "high") (high_rules (number_at (codes "ticks") document)) 0 (highs_of document)))
+    (neither_text (low_faults document) _ (first_not _ (tasks_not (codes "low") (low_rules (number_at (codes "ticks") document)) 0 (lows_of document)))
+    (neither_text (first_of (faults_of_names [] 0 (names_of document))) _ (first_not _ (names_not [] 0 (names_of document)))
+    (neither_text (first_of (map fault_of_high_arrivals (highs_of document))) _ (first_not _ (each_not fault_of_high_arrivals (λ entries. arrivals_not (text_at (codes "name") entries) (number_at (codes "period") entries) (arrivals_in entries)) (highs_of document)))
+    (neither_text (first_of (map fault_of_low_arrivals (lows_of document))) _ (first_not _ (each_not fault_of_low_arrivals (λ entries. arrivals_not (text_at (codes "name") entries) 1 (arrivals_in entries)) (lows_of document)))
+    (neither_text (first_of (map fault_of_script (highs_of document))) _ (first_not _ (each_not fault_of_script script_not (highs_of document)))
+    (neither_text (first_of (map fault_of_script (lows_of document))) _ (first_not _ (each_not fault_of_script script_not (lows_of document)))
+    (geometry_not (sheet_in document))))))))))
     in
     all (sym (fault_of-in_order document) ∙ is)
 

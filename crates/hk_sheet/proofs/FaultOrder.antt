@@ -6,7 +6,7 @@ use Rattle.toml.specs.Data.{Members}
 use Rattle.hk_sheet.specs.declared.error.SheetError.{SheetError}
 use Rattle.hk_sheet.specs.Rules.{top_rules, heap_rules, high_rules, low_rules, number_at}
 use Rattle.hk_sheet.specs.Reading.{table_at, highs_of, lows_of, sheet_in}
-use Rattle.hk_sheet.specs.Faults.{first_of, fault_of_table, faults_of_tasks, faults_of_tables, faults_of_names, names_of, tasks_of, fault_of_high_arrivals, fault_of_low_arrivals, fault_of_script, fault_of_geometry, fault_of}
+use Rattle.hk_sheet.specs.Faults.{first_of, fault_of_table, faults_of_tasks, faults_of_tables, faults_of_names, names_of, fault_of_high_arrivals, fault_of_low_arrivals, fault_of_script, fault_of_geometry, fault_of}
 
 -- the first fault, and the other one where there is none
 abbrev pub or_else : Option SheetError → Option SheetError → Option SheetError

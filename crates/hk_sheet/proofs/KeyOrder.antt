@@ -1,5 +1,5 @@
 -- The keys of a table ascend: the first unknown one is the least.
-use Rattle.std.proofs.Common.{◌≡◌, ℕ, List, [], ◌∷◌, map, filter, fold, not, Bool, true, false, Option, Some, None, String, Global, string_bytes, refl, ap, sym, ◌∙◌, inl, inr, Less, Greater}
+use Rattle.std.proofs.Common.{◌≡◌, ℕ, List, [], ◌∷◌, map, filter, fold, not, Bool, Some, None, String, Global, string_bytes, refl, ap, sym, ◌∙◌, inl, inr, Less, Greater}
 use Rattle.std.proofs.lemmas.Bool.{cases_Bool}
 use Rattle.std.proofs.lemmas.Cmp.{nat_list_cmp_total}
 use Rattle.std.specs.List.{AllByRecursion}

@@ -1,14 +1,13 @@
 -- What holds of a table that has no fault.
-use Rattle.std.proofs.Common.{◌≡◌, ℕ, ◌+◌, ◌-◌, ◌<◌, ◌≤◌, nat_le, nat_lt, nat_eq, Bool, true, false, not, ◌&&◌, pos, negsuc, List, [], ◌∷◌, ◌++◌, length, map, codes, is_some, Option, Some, None, option_map, if◌then◌else◌, refl, ap, sym, ◌∙◌, arith}
+use Rattle.std.proofs.Common.{◌≡◌, ℕ, ◌-◌, ◌<◌, ◌≤◌, nat_le, Bool, true, false, ◌&&◌, pos, negsuc, List, [], ◌∷◌, ◌++◌, length, map, codes, is_some, Option, Some, None, option_map, refl, ap, sym, ◌∙◌, arith}
 use Rattle.std.proofs.lemmas.Bool.{and_parts, false≢true}
 use Rattle.std.proofs.lemmas.Bool.Decides.{nat_tests}
 use Rattle.std.specs.List.{AllByRecursion, list_all}
-use Rattle.toml.specs.Data.{Data, string, integer, float, boolean, datetime, array, table, Items, no_items, Members, get_member, as_integer, as_table}
-use Rattle.hk_sheet.specs.declared.error.SheetError.{SheetError}
+use Rattle.toml.specs.Data.{Data, string, integer, float, boolean, datetime, array, table, Members, get_member, as_table}
 use Rattle.hk_sheet.specs.declared.sheet.TheConstants.{MAX_ARRIVALS}
-use Rattle.hk_sheet.specs.Rules.{Kind, number, pair, ticks_of_run, one_table, top_rules, Wrong, no_such_kind, out_of_range, Rule, needs, elements_of, number_of, number_held, number_at, is_in, wrong_unless, wrong_in}
+use Rattle.hk_sheet.specs.Rules.{number, pair, ticks_of_run, one_table, top_rules, Wrong, Rule, needs, elements_of, number_of, number_held, number_at, is_in, wrong_unless, wrong_in}
 use Rattle.hk_sheet.specs.Reading.{held, value_at, numbers_at, first_of_pair, second_of_pair}
-use Rattle.hk_sheet.specs.Faults.{first_of, unknown_fault, error_of, fault_of_value, fault_of_key, fault_of_table}
+use Rattle.hk_sheet.specs.Faults.{unknown_fault, error_of, fault_of_value, fault_of_key, fault_of_table}
 use Rattle.hk_sheet.specs.Valid.{IsFrom}
 use Rattle.hk_sheet.proofs.FaultOrder.{first_of-cons, neither, none_of}
 

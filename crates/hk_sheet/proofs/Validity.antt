@@ -1,10 +1,10 @@
 -- The sheet of a document without a fault is one that the other calls take.
-use Rattle.std.proofs.Common.{◌≡◌, ℕ, ◌+◌, ◌<◌, ◌≤◌, nat_lt, Bool, true, false, not, ◌&&◌, ◌||◌, bytes_eq, List, [], ◌∷◌, ◌++◌, length, map, codes, is_some, Option, Some, None, Result, Ok, Err, option_map, if◌then◌else◌, refl, ap, subst, sym, ◌∙◌, inl, inr, arith}
+use Rattle.std.proofs.Common.{◌≡◌, ℕ, ◌+◌, ◌≤◌, nat_lt, Bool, true, false, not, ◌&&◌, ◌||◌, bytes_eq, List, [], ◌∷◌, ◌++◌, map, codes, Option, Some, None, Result, Ok, Err, option_map, if◌then◌else◌, refl, ap, subst, sym, ◌∙◌, inl, inr, arith}
 use Rattle.std.proofs.lemmas.Bool.{cases_Bool, and_parts, false≢true}
 use Rattle.std.proofs.lemmas.Bool.Decides.{nat_tests}
 use Rattle.std.proofs.lemmas.List.{map-append}
 use Rattle.std.specs.List.{AllByRecursion}
-use Rattle.toml.specs.Data.{Members, get_member}
+use Rattle.toml.specs.Data.{Members}
 use Rattle.hk_words.specs.declared.geometry.GeoError.{GeoError}
 use Rattle.hk_words.specs.Geometry.{first_error}
 use Rattle.hk_script.specs.Blocks.{IsScript}
@@ -12,9 +12,6 @@ use Rattle.hk_script.specs.Texts.{script_of}
 use Rattle.hk_script.specs.declared.error.ScriptError.{ScriptError}
 use Rattle.hk_script.specs.declared.statement.Statement.{Statement}
 use Rattle.hk_script.proofs.Texts.{text_takes}
-use Rattle.hk_sheet.specs.declared.arrivals.Arrivals.TheVariants.{Every}
-use Rattle.hk_sheet.specs.declared.arrivals.Arrivals.TheVariants as arrivals
-use Rattle.hk_sheet.specs.declared.error.SheetError.{SheetError}
 use Rattle.hk_sheet.specs.declared.error.SheetError.TheVariants as error
 use Rattle.hk_sheet.specs.declared.sheet.High.{High}
 use Rattle.hk_sheet.specs.declared.sheet.Low.{Low}
@@ -22,8 +19,8 @@ use Rattle.hk_sheet.specs.declared.sheet.Sheet.{Sheet}
 use Rattle.hk_sheet.specs.declared.sheet.TheConstants.{MAX_TICKS, MAX_SIZE, MAX_RATE, MAX_BOARD}
 use Rattle.hk_sheet.specs.Rules.{Rule, needs, text, number_at, has_list, arrival_rules, top_rules, heap_rules, high_rules, low_rules}
 use Rattle.hk_sheet.specs.Reading.{text_at, table_at, numbers_at, highs_of, lows_of, heap_in, arrivals_in, timing_in, script_in, read_script, high_in, low_in, sheet_in}
-use Rattle.hk_sheet.specs.Faults.{first_of, fault_of_key, fault_of_table, faults_of_tasks, task_path, is_name, is_among, faults_of_names, names_of, faults_of_ticks, fault_of_arrivals, fault_of_high_arrivals, fault_of_low_arrivals, fault_of_text, fault_of_script, sizes_of, fault_of_geometry, fault_of, unless_fault, sheet_of}
-use Rattle.hk_sheet.specs.Valid.{IsFrom, IsHeap, AreSpaced, AreArrivals, IsTiming, IsHigh, IsLow, AreDistinct, names_in, IsSheet}
+use Rattle.hk_sheet.specs.Faults.{first_of, fault_of_key, fault_of_table, faults_of_tasks, task_path, is_name, is_among, faults_of_names, names_of, faults_of_ticks, fault_of_arrivals, fault_of_high_arrivals, fault_of_low_arrivals, fault_of_text, fault_of_script, sizes_of, fault_of_geometry, fault_of}
+use Rattle.hk_sheet.specs.Valid.{IsHeap, AreSpaced, AreArrivals, IsHigh, IsLow, AreDistinct, names_in, IsSheet}
 use Rattle.hk_sheet.proofs.NameOrder.{bytes_eq-flip}
 use Rattle.hk_sheet.proofs.FaultOrder.{first_of-cons, neither, none_of, none_each, high_faults, low_faults, fault_of-in_order}
 use Rattle.hk_sheet.proofs.Ranges.{no_key_fault, number_key, pair_key, ticks_key}
@@ -221,10 +218,10 @@ pub sheet_right : (document : Members) → fault_of document ≡ None → IsShee
 unfolding top_rules sheet_in
 sheet_right document none =
     let (top, heap, highs, lows, names, high_arrivals, low_arrivals, high_scripts, low_scripts, geometry) =
-        none_each (fault_of_table [] top_rules document) (fault_of_table (codes "heap.") heap_rules (table_at (codes "heap") document)) (high_faults document) (low_faults document)
-            (first_of (faults_of_names [] 0 (names_of document))) (first_of (map fault_of_high_arrivals (highs_of document))) (first_of (map fault_of_low_arrivals (lows_of document)))
-            (first_of (map fault_of_script (highs_of document))) (first_of (map fault_of_script (lows_of document))) (fault_of_geometry (sheet_in document))
-            (sym (fault_of-in_order document) ∙ none) in
+    none_each (fault_of_table [] top_rules document) (fault_of_table (codes "heap.") heap_rules (table_at (codes "heap") document)) (high_faults document) (low_faults document)
+    (first_of (faults_of_names [] 0 (names_of document))) (first_of (map fault_of_high_arrivals (highs_of document))) (first_of (map fault_of_low_arrivals (lows_of document)))
+    (first_of (map fault_of_script (highs_of document))) (first_of (map fault_of_script (lows_of document))) (fault_of_geometry (sheet_in document))
+    (sym (fault_of-in_order document) ∙ none) in
     let ticks = number_key [] (codes "ticks") 1 MAX_TICKS document (no_key_fault [] top_rules document top).1.0 in
     let right = split_all (λ name. is_name name ≡ true) (highs_of document) (lows_of document) (names_right [] 0 (names_of document) names) in
     record {

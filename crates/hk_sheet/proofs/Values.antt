@@ -8,7 +8,7 @@ use Rattle.toml.specs.View.{view, items_view, table_view}
 use Rattle.toml.specs.declared.value.Value.{Value}
 use Rattle.hk_sheet.specs.declared.rules.Rule.{Rule}
 use Rattle.hk_sheet.specs.Rules.{Rule as RuleData, elements, elements_of}
-use Rattle.hk_sheet.specs.Code.{rule_of, rules_of, seen, texts}
+use Rattle.hk_sheet.specs.Code.{rule_of, rules_of, seen}
 
 -- the elements of an array are its values' data
 pub elements-view : (vs : List Value) → map view vs ≡ elements (items_view vs)

@@ -10,9 +10,7 @@ ghost use Rattle.hk_sheet.specs.Code.{seen, Checks, Gives};
 
 use crate::keys::{number_at, pair_at, table_at, tables_at};
 use crate::tables::{check_document, check_heap, check_highs, check_lows};
-use crate::tasks::{
-    check_high_arrivals, check_low_arrivals, check_task_names, highs_in, lows_in,
-};
+use crate::tasks::{check_high_arrivals, check_low_arrivals, check_task_names, highs_in, lows_in};
 use crate::{HeapKeys, Sheet, SheetError};
 use std::alloc::Global;
 use toml::Table;

@@ -76,8 +76,20 @@ fn add_arrivals(rules: &mut Vec<Rule>, ticks: u64, listed: bool) -> Result<(), A
     if listed {
         rules.push(needs("arrivals", Kind::Ticks { ticks }))?;
     } else {
-        rules.push(needs("first", Kind::Number { low: 0, high: MAX_TICKS }))?;
-        rules.push(needs("every", Kind::Number { low: 1, high: MAX_TICKS }))?;
+        rules.push(needs(
+            "first",
+            Kind::Number {
+                low: 0,
+                high: MAX_TICKS,
+            },
+        ))?;
+        rules.push(needs(
+            "every",
+            Kind::Number {
+                low: 1,
+                high: MAX_TICKS,
+            },
+        ))?;
     }
     Ok(())
 }

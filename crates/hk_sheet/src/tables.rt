@@ -27,12 +27,7 @@ fn unknown_key<'a>(rules: &[Rule], table: &'a Table) -> Option<&'a str>
 
 /// Checks that a table has no unknown key.
 #[tactic(auto, unfolding(crate::specs::Faults::unknown_fault))]
-fn check_unknown(
-    alloc: Global,
-    path: &str,
-    rules: &[Rule],
-    table: &Table,
-) -> Result<(), SheetError>
+fn check_unknown(alloc: Global, path: &str, rules: &[Rule], table: &Table) -> Result<(), SheetError>
     ensures { Checks (unknown_fault path.now (rules_of rules.now) (table_view table.now)) result }
 {
     match unknown_key(rules, table) {
@@ -77,7 +72,13 @@ pub(crate) fn check_document(alloc: Global, document: &Table) -> Result<(), Shee
 {
     let rules = [
         needs("version", Kind::Number { low: 1, high: 1 }),
-        needs("ticks", Kind::Number { low: 1, high: MAX_TICKS }),
+        needs(
+            "ticks",
+            Kind::Number {
+                low: 1,
+                high: MAX_TICKS,
+            },
+        ),
         needs("heap", Kind::Table),
         may_have("high", Kind::Tables),
         may_have("low", Kind::Tables),
@@ -91,10 +92,34 @@ pub(crate) fn check_heap(alloc: Global, heap: &Table) -> Result<(), SheetError>
     ensures { Checks (fault_of_table (codes "heap.") heap_rules (table_view heap.now)) result }
 {
     let rules = [
-        needs("live", Kind::Number { low: 0, high: MAX_SIZE }),
-        needs("alloc", Kind::Number { low: 0, high: MAX_SIZE }),
-        needs("reserve", Kind::Number { low: 0, high: MAX_SIZE }),
-        needs("rate", Kind::Number { low: 1, high: MAX_RATE }),
+        needs(
+            "live",
+            Kind::Number {
+                low: 0,
+                high: MAX_SIZE,
+            },
+        ),
+        needs(
+            "alloc",
+            Kind::Number {
+                low: 0,
+                high: MAX_SIZE,
+            },
+        ),
+        needs(
+            "reserve",
+            Kind::Number {
+                low: 0,
+                high: MAX_SIZE,
+            },
+        ),
+        needs(
+            "rate",
+            Kind::Number {
+                low: 1,
+                high: MAX_RATE,
+            },
+        ),
         needs("board", Kind::Pair { high: MAX_BOARD }),
     ];
     check_table(alloc, "heap.", &rules, heap)
@@ -107,10 +132,34 @@ fn check_high(alloc: Global, path: &str, ticks: u64, task: &Table) -> Result<(),
 {
     let own = [
         needs("name", Kind::Text),
-        needs("period", Kind::Number { low: 1, high: MAX_TICKS }),
-        needs("deadline", Kind::Number { low: 1, high: number_at(task, "period") }),
-        needs("cost", Kind::Number { low: 1, high: MAX_TICKS }),
-        needs("words", Kind::Number { low: 0, high: MAX_TICKS }),
+        needs(
+            "period",
+            Kind::Number {
+                low: 1,
+                high: MAX_TICKS,
+            },
+        ),
+        needs(
+            "deadline",
+            Kind::Number {
+                low: 1,
+                high: number_at(task, "period"),
+            },
+        ),
+        needs(
+            "cost",
+            Kind::Number {
+                low: 1,
+                high: MAX_TICKS,
+            },
+        ),
+        needs(
+            "words",
+            Kind::Number {
+                low: 0,
+                high: MAX_TICKS,
+            },
+        ),
     ];
     let rules = task_rules(alloc, &own, ticks, has(task, "arrivals"))?;
     check_table(alloc, path, &rules, task)

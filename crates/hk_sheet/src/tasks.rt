@@ -8,10 +8,10 @@ ghost use Rattle.hk_sheet.specs.Reading.{text_at, arrivals_in, timing_in, script
 ghost use Rattle.hk_sheet.specs.Faults.{first_of, is_name_byte, is_name, faults_of_names, faults_of_ticks, fault_of_arrivals, fault_of_high_arrivals, fault_of_low_arrivals, fault_of_script};
 ghost use Rattle.hk_sheet.specs.Code.{seen, texts, Checks, Gives};
 
+use crate::SheetError;
 use crate::arrivals::{Arrivals, Ticks};
 use crate::keys::{has, number_at, numbers_at, text_at};
 use crate::sheet::{High, Highs, Low, Lows, MAX_NAME, Name};
-use crate::SheetError;
 use hk_rta::Timing;
 use hk_script::{Script, ScriptError, parse};
 use std::alloc::{AllocError, Global};

@@ -1,4 +1,4 @@
-use Rattle.std.proofs.Common.{ap, sym, unwrap_or, ◌∙◌}
+use Rattle.std.proofs.Common.{ap, unwrap_or, ◌∙◌}
 use Rattle.std.proofs.lemmas.Result.{err_from_is_err_and}
 use Rattle.toml.specs.Data.{no_members}
 use Rattle.toml.specs.View.{table_view}

@@ -10,4 +10,4 @@ pub returns-in_ok-push-3 : goal.returns-in_ok-push-3
 unfolding arrival_rules
 returns-in_ok-push-3 c =
     rw c.if-listed.false (rules_pushed _ c.push-else-listed.new.self.items _ c.needs-else-listed.result c.needs-else-listed-2.result _ _ c.in_ok-push-2.ensures.items c.in_ok-push-3.ensures.items
-        c.needs-else-listed.ensures c.needs-else-listed-2.ensures)
+    c.needs-else-listed.ensures c.needs-else-listed-2.ensures)

@@ -8,7 +8,7 @@ use Rattle.hk_sheet.proofs.tasks.check_ticks.Given as goal
 abbrev pub invariant-loop-rest : goal.invariant-loop-rest
 invariant-loop-rest l = record {
   fault : first_of (faults_of_ticks (text_at (codes "name") (table_view l.task)) l.gap l.place l.rest) ≡ first_of (faults_of_ticks (text_at (codes "name") (table_view l.task)) l.gap 1 l.ticks);
-  place : l.place + length l.rest ≡ 1 + length l.ticks
+  place : l.place + length l.rest ≡ 1 + length l.ticks;
 }
 
 abbrev pub decreases-loop-rest : goal.decreases-loop-rest

@@ -8,5 +8,5 @@ use Rattle.hk_sheet.proofs.tasks.highs_in.Given as goal
 abbrev pub invariant-loop-task : goal.invariant-loop-task
 invariant-loop-task l = record {
   read : l.items.items ≡ map high_in (seen (take l.task-index l.tasks));
-  left : first_of (map fault_of_script (seen (drop l.task-index l.tasks))) ≡ first_of (map fault_of_script (seen l.tasks))
+  left : first_of (map fault_of_script (seen (drop l.task-index l.tasks))) ≡ first_of (map fault_of_script (seen l.tasks));
 }

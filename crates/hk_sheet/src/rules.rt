@@ -15,12 +15,12 @@ use toml::Value;
 /// What a key may hold.
 #[derive(Clone, Copy, Debug)]
 pub(crate) enum Kind {
-    /// An integer from `low` to `high`.
-    Number { low: u64, high: u64 },
-    /// An array of two integers from 0 to `high` each.
-    Pair { high: u64 },
+    /// An integer from the first number to the second.
+    Number(u64, u64),
+    /// An array of two integers from 0 to this number each.
+    Pair(u64),
     /// An array of ticks of a run of so many.
-    Ticks { ticks: u64 },
+    Ticks(u64),
     /// A string.
     Text,
     /// A table.
@@ -74,22 +74,10 @@ fn add_arrivals(rules: &mut Vec<Rule>, ticks: u64, listed: bool) -> Result<(), A
     ensures { OnOk result (rules_of rules.new.items ≡ rules_of rules.old.items ++ arrival_rules ticks listed) }
 {
     if listed {
-        rules.push(needs("arrivals", Kind::Ticks { ticks }))?;
+        rules.push(needs("arrivals", Kind::Ticks(ticks)))?;
     } else {
-        rules.push(needs(
-            "first",
-            Kind::Number {
-                low: 0,
-                high: MAX_TICKS,
-            },
-        ))?;
-        rules.push(needs(
-            "every",
-            Kind::Number {
-                low: 1,
-                high: MAX_TICKS,
-            },
-        ))?;
+        rules.push(needs("first", Kind::Number(0, MAX_TICKS)))?;
+        rules.push(needs("every", Kind::Number(1, MAX_TICKS)))?;
     }
     Ok(())
 }
@@ -215,9 +203,9 @@ pub(crate) fn wrong_in(kind: Kind, value: &Value) -> Option<Wrong>
 {
     let items = elements(value);
     match kind {
-        Kind::Number { low, high } => wrong_unless(value.is_integer(), is_in(low, high, value)),
-        Kind::Pair { high } => wrong_unless(are_two(value), are_within(high, items)),
-        Kind::Ticks { ticks } => wrong_unless(are_integers(value), are_ticks(ticks, items)),
+        Kind::Number(low, high) => wrong_unless(value.is_integer(), is_in(low, high, value)),
+        Kind::Pair(high) => wrong_unless(are_two(value), are_within(high, items)),
+        Kind::Ticks(ticks) => wrong_unless(are_integers(value), are_ticks(ticks, items)),
         Kind::Text => wrong_unless(value.is_str(), true),
         Kind::Table => wrong_unless(value.is_table(), true),
         Kind::Tables => wrong_unless(are_tables(value), true),

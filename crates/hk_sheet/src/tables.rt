@@ -71,14 +71,8 @@ pub(crate) fn check_document(alloc: Global, document: &Table) -> Result<(), Shee
     ensures { Checks (fault_of_table [] top_rules (table_view document.now)) result }
 {
     let rules = [
-        needs("version", Kind::Number { low: 1, high: 1 }),
-        needs(
-            "ticks",
-            Kind::Number {
-                low: 1,
-                high: MAX_TICKS,
-            },
-        ),
+        needs("version", Kind::Number(1, 1)),
+        needs("ticks", Kind::Number(1, MAX_TICKS)),
         needs("heap", Kind::Table),
         may_have("high", Kind::Tables),
         may_have("low", Kind::Tables),
@@ -92,35 +86,11 @@ pub(crate) fn check_heap(alloc: Global, heap: &Table) -> Result<(), SheetError>
     ensures { Checks (fault_of_table (codes "heap.") heap_rules (table_view heap.now)) result }
 {
     let rules = [
-        needs(
-            "live",
-            Kind::Number {
-                low: 0,
-                high: MAX_SIZE,
-            },
-        ),
-        needs(
-            "alloc",
-            Kind::Number {
-                low: 0,
-                high: MAX_SIZE,
-            },
-        ),
-        needs(
-            "reserve",
-            Kind::Number {
-                low: 0,
-                high: MAX_SIZE,
-            },
-        ),
-        needs(
-            "rate",
-            Kind::Number {
-                low: 1,
-                high: MAX_RATE,
-            },
-        ),
-        needs("board", Kind::Pair { high: MAX_BOARD }),
+        needs("live", Kind::Number(0, MAX_SIZE)),
+        needs("alloc", Kind::Number(0, MAX_SIZE)),
+        needs("reserve", Kind::Number(0, MAX_SIZE)),
+        needs("rate", Kind::Number(1, MAX_RATE)),
+        needs("board", Kind::Pair(MAX_BOARD)),
     ];
     check_table(alloc, "heap.", &rules, heap)
 }
@@ -132,34 +102,10 @@ fn check_high(alloc: Global, path: &str, ticks: u64, task: &Table) -> Result<(),
 {
     let own = [
         needs("name", Kind::Text),
-        needs(
-            "period",
-            Kind::Number {
-                low: 1,
-                high: MAX_TICKS,
-            },
-        ),
-        needs(
-            "deadline",
-            Kind::Number {
-                low: 1,
-                high: number_at(task, "period"),
-            },
-        ),
-        needs(
-            "cost",
-            Kind::Number {
-                low: 1,
-                high: MAX_TICKS,
-            },
-        ),
-        needs(
-            "words",
-            Kind::Number {
-                low: 0,
-                high: MAX_TICKS,
-            },
-        ),
+        needs("period", Kind::Number(1, MAX_TICKS)),
+        needs("deadline", Kind::Number(1, number_at(task, "period"))),
+        needs("cost", Kind::Number(1, MAX_TICKS)),
+        needs("words", Kind::Number(0, MAX_TICKS)),
     ];
     let rules = task_rules(alloc, &own, ticks, has(task, "arrivals"))?;
     check_table(alloc, path, &rules, task)

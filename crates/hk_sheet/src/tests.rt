@@ -153,9 +153,20 @@ fn expect(rt: &impl Abort, alloc: Global, text: &[u8], wanted: &str) -> Result<(
     Ok(())
 }
 
-/// Parts of the sheet, what stands in their place, and the answer.
-const CASES: &[(&[(&str, &str)], &str)] = &[
-    // The sheet, and the same one in other words.
+/// Parts of the sheet with what stands in their place, and the answer.
+type Case = (&'static [(&'static str, &'static str)], &'static str);
+
+/// Compares the answers to edited sheets with the wanted ones.
+fn expect_each(rt: &impl Abort, alloc: Global, cases: &[Case]) -> Result<(), AllocError> {
+    for (edits, wanted) in cases {
+        let text = edited(rt, alloc, edits)?;
+        expect(rt, alloc, text.as_bytes(), wanted)?;
+    }
+    Ok(())
+}
+
+/// The sheet, and the same one in other words.
+const SAME: &[Case] = &[
     (&[], "read"),
     (&[("version", "\u{feff}version")], "read"),
     (&[("ticks = 100", "ticks = 0x6_4 # a hundred")], "read"),
@@ -191,12 +202,30 @@ const CASES: &[(&[(&str, &str)], &str)] = &[
         "read",
     ),
     (&[("[3, 4, 9]", "[]")], "read"),
-    // No TOML.
+];
+
+#[test]
+fn reads_other_words(rt: HostRuntime) -> Result<(), Fail> {
+    expect_each(&rt, rt.alloc(), SAME)?;
+    Ok(())
+}
+
+/// No TOML.
+const NO_TOML: &[Case] = &[
     (&[("version = 1", "version =")], "text"),
     (&[("version = 1", "version = 1\nversion = 1")], "text"),
     (&[("ticks = 100", "ticks = 9223372036854775808")], "text"),
     (&[("\"a\"", "\"a")], "text"),
-    // A key is missing.
+];
+
+#[test]
+fn refuses_no_toml(rt: HostRuntime) -> Result<(), Fail> {
+    expect_each(&rt, rt.alloc(), NO_TOML)?;
+    Ok(())
+}
+
+/// A key is missing.
+const MISSING: &[Case] = &[
     (&[("version = 1\n", "")], "missing version"),
     (&[("ticks = 100\n", "")], "missing ticks"),
     (&[(HEAP, "")], "missing heap"),
@@ -218,7 +247,16 @@ const CASES: &[(&[(&str, &str)], &str)] = &[
     (&[("script = \"out v0\"\n", "")], "missing low[0].script"),
     (&[("first = 0\n", "")], "missing low[1].first"),
     (&[("every = 1\n", "")], "missing low[1].every"),
-    // A key is unknown.
+];
+
+#[test]
+fn refuses_missing_keys(rt: HostRuntime) -> Result<(), Fail> {
+    expect_each(&rt, rt.alloc(), MISSING)?;
+    Ok(())
+}
+
+/// A key is unknown.
+const UNKNOWN: &[Case] = &[
     (&[("version", "x = 1\nversion")], "unknown x"),
     (&[("version", "x.y = 1\nversion")], "unknown x"),
     (&[("version", "Version")], "unknown Version"),
@@ -238,7 +276,16 @@ const CASES: &[(&[(&str, &str)], &str)] = &[
         "unknown high[0].first",
     ),
     (&[("first = 0", "arrivals = [1]")], "unknown low[1].every"),
-    // The least unknown key, by its bytes, also where it comes later; a path is shown in ASCII and cut.
+];
+
+#[test]
+fn refuses_unknown_keys(rt: HostRuntime) -> Result<(), Fail> {
+    expect_each(&rt, rt.alloc(), UNKNOWN)?;
+    Ok(())
+}
+
+/// The least unknown key, by its bytes, also where it comes later; a path is shown in ASCII and cut.
+const LEAST: &[Case] = &[
     (&[("version", "b = 1\na = 1\nversion")], "unknown a"),
     (&[("version", "a = 1\nB = 1\nversion")], "unknown B"),
     (&[("version", "aa = 1\na = 1\nversion")], "unknown a"),
@@ -289,7 +336,16 @@ const CASES: &[(&[(&str, &str)], &str)] = &[
         )],
         "unknown kkkkkkkkkkkkkkkkkkkkkkkkkkkkkkkkkkkkkkkkkkkkkkkkkkkkkkkkkkkkkkkkkkkkkkkkkkkkkk?z",
     ),
-    // A value isn't of its kind.
+];
+
+#[test]
+fn refuses_the_least_unknown_key(rt: HostRuntime) -> Result<(), Fail> {
+    expect_each(&rt, rt.alloc(), LEAST)?;
+    Ok(())
+}
+
+/// A value isn't of its kind.
+const KINDS_1: &[Case] = &[
     (&[("version = 1", "version = 1.0")], "kind version"),
     (&[("version = 1", "version = true")], "kind version"),
     (&[("version = 1", "version = '1'")], "kind version"),
@@ -328,6 +384,16 @@ const CASES: &[(&[(&str, &str)], &str)] = &[
         "kind heap.board",
     ),
     (&[("board = [2, 3]", "board = [[2, 3]]")], "kind heap.board"),
+];
+
+#[test]
+fn refuses_other_kinds_1(rt: HostRuntime) -> Result<(), Fail> {
+    expect_each(&rt, rt.alloc(), KINDS_1)?;
+    Ok(())
+}
+
+/// A value isn't of its kind.
+const KINDS_2: &[Case] = &[
     (
         &[("board = [2, 3]", "board = {refs = 2, nums = 3}")],
         "kind heap.board",
@@ -405,6 +471,16 @@ const CASES: &[(&[(&str, &str)], &str)] = &[
         &[("arrivals = [3, 4, 9]", "arrivals = [3, '4']")],
         "kind low[0].arrivals",
     ),
+];
+
+#[test]
+fn refuses_other_kinds_2(rt: HostRuntime) -> Result<(), Fail> {
+    expect_each(&rt, rt.alloc(), KINDS_2)?;
+    Ok(())
+}
+
+/// A value isn't of its kind.
+const KINDS_3: &[Case] = &[
     (
         &[("arrivals = [3, 4, 9]", "arrivals = [3, 4.0]")],
         "kind low[0].arrivals",
@@ -422,7 +498,16 @@ const CASES: &[(&[(&str, &str)], &str)] = &[
         "kind low[0].arrivals",
     ),
     (&[("every = 1\n", "every = 1.0\n")], "kind low[1].every"),
-    // A number is at an end of its range, or past it.
+];
+
+#[test]
+fn refuses_other_kinds_3(rt: HostRuntime) -> Result<(), Fail> {
+    expect_each(&rt, rt.alloc(), KINDS_3)?;
+    Ok(())
+}
+
+/// A number is at an end of its range, or past it.
+const RANGES_1: &[Case] = &[
     (&[("version = 1", "version = 0")], "range version"),
     (&[("version = 1", "version = 2")], "range version"),
     (&[("ticks = 100", "ticks = 0")], "range ticks"),
@@ -467,6 +552,16 @@ const CASES: &[(&[(&str, &str)], &str)] = &[
     (&[("[3, 4, 9]", "[3, 4, 100]")], "range low[0].arrivals"),
     (&[("first = 0", "first = -1")], "range low[1].first"),
     (&[("every = 1\n", "every = 0\n")], "range low[1].every"),
+];
+
+#[test]
+fn refuses_out_of_range_1(rt: HostRuntime) -> Result<(), Fail> {
+    expect_each(&rt, rt.alloc(), RANGES_1)?;
+    Ok(())
+}
+
+/// A number is at an end of its range, or past it.
+const RANGES_2: &[Case] = &[
     (
         &[("version = 1", "version = -9223372036854775808")],
         "range version",
@@ -506,7 +601,16 @@ const CASES: &[(&[(&str, &str)], &str)] = &[
     ),
     (&[("[3, 4, 9]", "[0, 1, 99]")], "read"),
     (&[("every = 1\n", "every = 16777216\n")], "read"),
-    // Of two faults the first counts: in a table an unknown key, then key by key, and a kind before a range.
+];
+
+#[test]
+fn refuses_out_of_range_2(rt: HostRuntime) -> Result<(), Fail> {
+    expect_each(&rt, rt.alloc(), RANGES_2)?;
+    Ok(())
+}
+
+/// Of two faults the first counts: in a table an unknown key, then key by key, and a kind before a range.
+const ORDER: &[Case] = &[
     (&[("version = 1\n", "x = 1\n")], "unknown x"),
     (
         &[("version = 1\n", ""), ("ticks = 100", "ticks = 0")],
@@ -590,7 +694,16 @@ const CASES: &[(&[(&str, &str)], &str)] = &[
         &[("rate = 11", "rate = 'x'\nx = 1"), ("cost = 8", "cost = 0")],
         "unknown heap.x",
     ),
-    // Names.
+];
+
+#[test]
+fn refuses_the_first_fault(rt: HostRuntime) -> Result<(), Fail> {
+    expect_each(&rt, rt.alloc(), ORDER)?;
+    Ok(())
+}
+
+/// Names.
+const NAMES: &[Case] = &[
     (&[("\"a\"", "\"\"")], "name 0"),
     (&[("\"a\"", "\"A\"")], "name 0"),
     (&[("\"a\"", "\"1a\"")], "name 0"),
@@ -608,7 +721,16 @@ const CASES: &[(&[(&str, &str)], &str)] = &[
     (&[("\"c\"", "\"b\"")], "name 2"),
     (&[("\"b\"", "\"B\""), ("\"c\"", "\"a\"")], "name 1"),
     (&[("\"a\"", "\"\""), ("\"c\"", "\"b\"")], "name 0"),
-    // Arrivals.
+];
+
+#[test]
+fn refuses_names(rt: HostRuntime) -> Result<(), Fail> {
+    expect_each(&rt, rt.alloc(), NAMES)?;
+    Ok(())
+}
+
+/// Arrivals.
+const ARRIVALS: &[Case] = &[
     (&[("every = 11", "every = 9")], "arrivals a 1 6 15"),
     (
         &[
@@ -641,7 +763,16 @@ const CASES: &[(&[(&str, &str)], &str)] = &[
         &[("[3, 4, 9]", "[3, 3, 9]"), ("work 1", "work 0")],
         "arrivals b 1 3 3",
     ),
-    // Scripts.
+];
+
+#[test]
+fn refuses_arrivals(rt: HostRuntime) -> Result<(), Fail> {
+    expect_each(&rt, rt.alloc(), ARRIVALS)?;
+    Ok(())
+}
+
+/// Scripts.
+const SCRIPTS: &[Case] = &[
     (&[("work 1", "work")], "script a word 1"),
     (&[("work 1", "work 0")], "script a number 1"),
     (&[("\"work 1\"", "\"work 1\\n\\nx\"")], "script a word 3"),
@@ -663,7 +794,16 @@ const CASES: &[(&[(&str, &str)], &str)] = &[
         &[("work 2", "work 65536"), ("live = 62", "live = 61")],
         "script c number 1",
     ),
-    // The geometry.
+];
+
+#[test]
+fn refuses_scripts(rt: HostRuntime) -> Result<(), Fail> {
+    expect_each(&rt, rt.alloc(), SCRIPTS)?;
+    Ok(())
+}
+
+/// The geometry.
+const GEOMETRIES: &[Case] = &[
     (&[("live = 62", "live = 61")], "geometry odd"),
     (&[("alloc = 512", "alloc = 513")], "geometry odd"),
     (
@@ -702,11 +842,8 @@ const CASES: &[(&[(&str, &str)], &str)] = &[
 ];
 
 #[test]
-fn answers_each_case(rt: HostRuntime) -> Result<(), Fail> {
-    for (edits, wanted) in CASES {
-        let text = edited(&rt, rt.alloc(), edits)?;
-        expect(&rt, rt.alloc(), text.as_bytes(), wanted)?;
-    }
+fn refuses_geometries(rt: HostRuntime) -> Result<(), Fail> {
+    expect_each(&rt, rt.alloc(), GEOMETRIES)?;
     Ok(())
 }
 

@@ -1,1 +1,2 @@
 pub mod Redeclared
+pub mod Unfaulted

@@ -1,2 +1,3 @@
 pub mod Redeclared
 pub mod Unfaulted
+pub mod Plain

@@ -1,3 +1,5 @@
 pub mod Redeclared
 pub mod Unfaulted
 pub mod Plain
+pub mod Shallow
+pub mod Puts

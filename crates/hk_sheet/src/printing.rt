@@ -60,3 +60,35 @@ fn put(alloc: Global, table: &mut Table, key: &str, value: Value) -> Result<(), 
     table.insert(String::from_str(alloc, key)?, value)?;
     Ok(())
 }
+
+/// Puts a task's arrivals into its table.
+fn put_arrivals(alloc: Global, table: &mut Table, arrivals: &Arrivals) -> Result<(), AllocError>
+    requires { ArrivalsFit arrivals.now }
+    ensures { OnOk result (table_view table.new ≡ with_arrivals arrivals.now (table_view table.old)) }
+{
+    match arrivals {
+        Arrivals::Every { first, step } => {
+            put(alloc, table, "first", number_value(*first))?;
+            put(alloc, table, "every", number_value(*step))
+        }
+        Arrivals::List(ticks) => {
+            let list = numbers_value(alloc, &ticks.items)?;
+            put(alloc, table, "arrivals", list)
+        }
+    }
+}
+
+/// The table of the heap.
+fn heap_table(alloc: Global, heap: &HeapKeys) -> Result<Table, AllocError>
+    requires { IsHeap heap.now }
+    ensures { IfOk result (λ table. table_view table ≡ heap_entries heap.now) }
+{
+    let board = numbers_value(alloc, &[heap.refs.into(), heap.nums.into()])?;
+    let mut table = Table::new(alloc);
+    put(alloc, &mut table, "live", number_value(heap.live.into()))?;
+    put(alloc, &mut table, "alloc", number_value(heap.alloc.into()))?;
+    put(alloc, &mut table, "reserve", number_value(heap.reserve.into()))?;
+    put(alloc, &mut table, "rate", number_value(heap.rate))?;
+    put(alloc, &mut table, "board", board)?;
+    Ok(table)
+}

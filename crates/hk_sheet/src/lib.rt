@@ -8,7 +8,7 @@ mod sheet;
 
 pub use arrivals::{Arrivals, Ticks};
 pub use error::{Key, SheetError};
-pub use printing::Memory;
+pub use printing::{Memory, text};
 pub use sheet::{
     HeapKeys, High, Highs, Low, Lows, MAX_ARRIVALS, MAX_BOARD, MAX_COUNTED, MAX_KEY, MAX_NAME,
     MAX_RATE, MAX_SIZE, MAX_TICKS, Name, Sheet,

@@ -3,4 +3,3 @@ pub mod Unfaulted
 pub mod Plain
 pub mod Shallow
 pub mod Puts
-pub mod Fitting

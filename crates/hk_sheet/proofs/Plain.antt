@@ -1,7 +1,7 @@
 -- Names and the texts of scripts have only bytes below 128.
-use Rattle.std.proofs.Common.{◌≡◌, ℕ, ◌+◌, ◌^◌, ◌<◌, Bool, true, ◌&&◌, List, [], ◌∷◌, ◌++◌, codes, arith, refl, subst}
+use Rattle.std.proofs.Common.{◌≡◌, ℕ, ◌+◌, ◌<◌, Bool, true, List, [], ◌∷◌, ◌++◌, codes, arith, refl}
 use Rattle.std.specs.Prelude.{nat_lt}
-use Rattle.std.specs.Char.{is_ascii_lowercase, is_ascii_digit}
+use Rattle.std.specs.Char.{is_ascii_lowercase}
 use Rattle.std.specs.List.{AllByRecursion, list_all}
 use Rattle.std.specs.Str.{IsAscii, IsUtf8}
 use Rattle.std.proofs.lemmas.Bool.{and_parts, ltb-true, false≢true}
@@ -11,7 +11,7 @@ use Rattle.std.proofs.lemmas.Str.{IsAscii-append, IsUtf8-from_ascii}
 use Rattle.std.proofs.lemmas.Str.Ascii.{IsAscii-nil, IsAscii-cons}
 use Rattle.hk_script.specs.Blocks.{IsScript}
 use Rattle.hk_script.specs.Printing.{word_of, spaced, line_from, line_of, text_of}
-use Rattle.hk_script.specs.Spelling.{Piece, Exactly, Numeral, variable, register, pieces, test_pieces, IsTest, IsStatement}
+use Rattle.hk_script.specs.Spelling.{Piece, Exactly, variable, register, pieces, test_pieces, IsTest, IsStatement}
 use Rattle.hk_script.specs.declared.statement.Statement.{Statement}
 use Rattle.hk_script.specs.declared.statement.Statement.TheVariants as statement
 use Rattle.hk_script.specs.declared.statement.Test.{Test}

@@ -1,5 +1,5 @@
 -- The document of a sheet declares that sheet.
-use Rattle.std.proofs.Common.{◌≡◌, ℕ, List, [], ◌∷◌, map, filter_map, codes, Result, Ok, refl, ap, ◌∙◌}
+use Rattle.std.proofs.Common.{◌≡◌, ℕ, List, [], ◌∷◌, map, filter_map, Ok, refl, ap, ◌∙◌}
 use Rattle.std.specs.List.{AllByRecursion}
 use Rattle.toml.specs.Data.{Data, table, Members, as_table}
 use Rattle.toml.specs.View.{items_of}
@@ -19,7 +19,7 @@ use Rattle.hk_sheet.specs.declared.sheet.Low.{Low}
 use Rattle.hk_sheet.specs.declared.sheet.Sheet.{Sheet}
 use Rattle.hk_sheet.specs.Rules.{elements, number_of}
 use Rattle.hk_sheet.specs.Reading.{read_script, heap_in, arrivals_in, script_in, timing_in, high_in, low_in, highs_of, lows_of, sheet_in}
-use Rattle.hk_sheet.specs.Printing.{number_data, heap_entries, high_entries, low_entries, high_data, low_data, document_of}
+use Rattle.hk_sheet.specs.Printing.{number_data, heap_entries, high_entries, low_entries, document_of}
 use Rattle.hk_sheet.specs.Valid.{IsHigh, IsLow, IsSheet}
 
 -- an array has the elements that it was made of

@@ -1,6 +1,6 @@
 -- The document of a sheet is shallow, and has no dates: it can be printed and is read again.
-use Rattle.std.proofs.Common.{◌≡◌, ℕ, ◌≤◌, suc, max, Bool, true, ◌&&◌, List, [], ◌∷◌, map, arith, refl, ap}
-use Rattle.toml.specs.Data.{Data, table, depth, items_depth, members_depth, items_have_valid_dates, members_have_valid_dates, Members}
+use Rattle.std.proofs.Common.{◌≡◌, ℕ, ◌≤◌, true, List, [], ◌∷◌, map, arith, refl}
+use Rattle.toml.specs.Data.{table, items_depth, members_depth, items_have_valid_dates, members_have_valid_dates, Members}
 use Rattle.toml.specs.View.{items_of}
 use Rattle.hk_rta.specs.declared.Timing.{Timing}
 use Rattle.hk_script.specs.declared.statement.Statement.{Statement}
@@ -11,7 +11,7 @@ use Rattle.hk_sheet.specs.declared.sheet.HeapKeys.{HeapKeys}
 use Rattle.hk_sheet.specs.declared.sheet.High.{High}
 use Rattle.hk_sheet.specs.declared.sheet.Low.{Low}
 use Rattle.hk_sheet.specs.declared.sheet.Sheet.{Sheet}
-use Rattle.hk_sheet.specs.Printing.{number_data, heap_entries, high_entries, low_entries, high_data, low_data, document_of}
+use Rattle.hk_sheet.specs.Printing.{number_data, heap_entries, high_entries, low_entries, document_of}
 
 -- DEPTH
 

@@ -1,11 +1,11 @@
 -- The document of a sheet has no fault.
-use Rattle.std.proofs.Common.{◌≡◌, ℕ, ◌+◌, ◌-◌, ◌<◌, ◌≤◌, pos, Bool, true, false, not, ◌&&◌, List, [], ◌∷◌, ◌++◌, length, map, codes, Option, Some, None, is_some, option_map, Result, Ok, refl, ap, sym, ◌∙◌, subst, arith}
+use Rattle.std.proofs.Common.{◌≡◌, ℕ, ◌+◌, ◌-◌, ◌<◌, ◌≤◌, true, false, List, [], ◌∷◌, ◌++◌, length, map, codes, Option, Some, None, is_some, Ok, refl, ap, sym, arith}
 use Rattle.std.specs.List.{AllByRecursion, list_all}
 use Rattle.std.specs.Str.{bytes_eq}
-use Rattle.std.proofs.lemmas.Bool.{both_ways, false_from_ne_true, le-leb, lt-ltb, le-ltb, or_from, or_parts}
+use Rattle.std.proofs.lemmas.Bool.{both_ways, false_from_ne_true, le-leb, le-ltb, or_from, or_parts}
 use Rattle.std.proofs.lemmas.List.{length-map, map-append}
 use Rattle.std.proofs.lemmas.Slice.Eq.{bytes_eq-Decides}
-use Rattle.toml.specs.Data.{Data, integer, string, array, table, Items, Members, get_member, as_table}
+use Rattle.toml.specs.Data.{Data, string, array, table, Members, get_member, as_table}
 use Rattle.toml.specs.View.{items_of}
 use Rattle.hk_rta.specs.declared.Timing.{Timing}
 use Rattle.hk_script.specs.Blocks.{IsScript}
@@ -15,18 +15,17 @@ use Rattle.hk_sheet.specs.declared.arrivals.Arrivals.{Arrivals}
 use Rattle.hk_sheet.specs.declared.arrivals.Arrivals.TheVariants.{Every}
 use Rattle.hk_sheet.specs.declared.arrivals.Arrivals.TheVariants as arrivals
 use Rattle.hk_sheet.specs.declared.error.SheetError.{SheetError}
-use Rattle.hk_sheet.specs.declared.error.SheetError.TheVariants as error
 use Rattle.hk_sheet.specs.declared.sheet.HeapKeys.{HeapKeys}
 use Rattle.hk_sheet.specs.declared.sheet.High.{High}
 use Rattle.hk_sheet.specs.declared.sheet.Low.{Low}
 use Rattle.hk_sheet.specs.declared.sheet.Sheet.{Sheet}
 use Rattle.hk_sheet.specs.declared.sheet.TheConstants.{MAX_TICKS, MAX_SIZE, MAX_RATE, MAX_BOARD, MAX_ARRIVALS}
-use Rattle.hk_sheet.specs.Rules.{Kind, number, pair, ticks_of_run, text, one_table, tables, Rule, needs, may_have, wrong_in, is_in, is_integer, elements, elements_of, number_at, top_rules, heap_rules, arrival_rules, high_rules, low_rules}
+use Rattle.hk_sheet.specs.Rules.{Kind, number, pair, ticks_of_run, text, one_table, tables, Rule, needs, may_have, wrong_in, is_in, is_integer, number_at, top_rules, heap_rules, arrival_rules, high_rules, low_rules}
 use Rattle.hk_sheet.specs.Reading.{text_at, timing_in, arrivals_in, high_in, low_in, highs_of, lows_of, sheet_in}
-use Rattle.hk_sheet.specs.Faults.{first_of, unknown_keys, unknown_fault, fault_of_key, fault_of_table, faults_of_tasks, task_path, is_name, is_among, faults_of_names, faults_of_ticks, fault_of_arrivals, fault_of_high_arrivals, fault_of_low_arrivals, fault_of_script, fault_of_text, fault_of_geometry, tasks_of, names_of, faults_of_tables, fault_of, unless_fault, sheet_of}
+use Rattle.hk_sheet.specs.Faults.{first_of, unknown_keys, unknown_fault, fault_of_key, fault_of_table, faults_of_tasks, task_path, is_name, is_among, faults_of_names, faults_of_ticks, fault_of_arrivals, fault_of_high_arrivals, fault_of_low_arrivals, fault_of_script, fault_of_geometry, tasks_of, names_of, faults_of_tables, fault_of, sheet_of}
 use Rattle.hk_sheet.specs.Printing.{number_data, numbers_data, heap_entries, high_entries, low_entries, high_data, low_data, document_of}
-use Rattle.hk_sheet.specs.Valid.{IsFrom, IsHeap, AreSpaced, AreArrivals, IsTiming, IsHigh, IsLow, AreDistinct, names_in, IsSheet}
-use Rattle.hk_sheet.proofs.Redeclared.{elements_again, numbers_again, script_again, high_again, low_again, highs_of-document, lows_of-document, sheet_again}
+use Rattle.hk_sheet.specs.Valid.{IsHeap, AreSpaced, AreArrivals, IsTiming, IsHigh, IsLow, AreDistinct, names_in, IsSheet}
+use Rattle.hk_sheet.proofs.Redeclared.{elements_again, script_again, high_again, low_again, highs_of-document, lows_of-document, sheet_again}
 
 -- FAULTS
 

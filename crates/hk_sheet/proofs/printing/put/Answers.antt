@@ -1,6 +1,5 @@
-use Rattle.std.proofs.Common.{◌≡◌, ap, ◌∙◌}
-use Rattle.toml.specs.View.{view, members_view}
-use Rattle.hk_sheet.specs.Printing.{with_entry}
+use Rattle.std.proofs.Common.{ap, ◌∙◌}
+use Rattle.toml.specs.View.{members_view}
 use Rattle.hk_sheet.proofs.Puts.{view_insert}
 use Rattle.hk_sheet.proofs.printing.put.Goals as goal
 

@@ -1,4 +1,4 @@
-use Rattle.std.proofs.Common.{◌≡◌, IsUtf8, List, ℕ, sym, subst, ap, ◌∙◌}
+use Rattle.std.proofs.Common.{◌≡◌, ◌∙◌}
 use Rattle.hk_sheet.proofs.Plain.{name_is_text}
 use Rattle.hk_sheet.proofs.printing.put_name.Goals as goal
 

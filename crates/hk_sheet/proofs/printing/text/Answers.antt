@@ -1,10 +1,10 @@
-use Rattle.std.proofs.Common.{◌≡◌, ◌≤◌, List, ℕ, Bool, true, false, Some, Ok, Err, IsUtf8, string_bytes, arith, sym, ap, ◌∙◌, subst}
+use Rattle.std.proofs.Common.{◌≡◌, ◌≤◌, List, ℕ, true, Some, Err, string_bytes, arith, sym, ap, ◌∙◌, subst}
 use Rattle.std.proofs.lemmas.Bool.{both_ways}
 use Rattle.std.proofs.lemmas.Str.{IsUtf8-string_bytes}
-use Rattle.toml.specs.Data.{Members, members_depth, members_have_valid_dates}
+use Rattle.toml.specs.Data.{members_depth, members_have_valid_dates}
 use Rattle.toml.specs.Parse.{parse_document}
 use Rattle.toml.specs.View.{table_view}
-use Rattle.hk_sheet.specs.Answers.{IsRead, IsDocument}
+use Rattle.hk_sheet.specs.Answers.{IsDocument}
 use Rattle.hk_sheet.specs.Printing.{document_of}
 use Rattle.hk_sheet.proofs.Shallow.{document_depth, document_dated}
 use Rattle.hk_sheet.proofs.Unfaulted.{document_again}

@@ -93,6 +93,10 @@ key_number path key entries low high n holds least most = key_fits path key entr
 key_text : (path key : List ℕ) (entries : Members) (s : List ℕ) → get_member key entries ≡ Some (string s) → fault_of_key path entries (needs key text) ≡ None
 key_text path key entries s holds = key_fits path key entries text (string s) holds refl
 
+-- two facts
+also : {A B : Type 0} → A → B → A × B
+also first rest = (first, rest)
+
 -- a table with no unknown key and no fault of a key
 table_unfaulted : (path : List ℕ) (rules : List Rule) (entries : Members) → unknown_keys rules entries ≡ [] → AllByRecursion (λ rule. fault_of_key path entries rule ≡ None) rules → fault_of_table path rules entries ≡ None
 unfolding fault_of_table unknown_fault
@@ -103,12 +107,12 @@ heap_unfaulted : (path : List ℕ) (heap : HeapKeys) → IsHeap heap → fault_o
 unfolding heap_rules
 heap_unfaulted path heap is =
     table_unfaulted path heap_rules (heap_entries heap) refl
-    ( key_number path (codes "live") (heap_entries heap) 0 MAX_SIZE heap.live refl (omega arith) is.live
-    , ( key_number path (codes "alloc") (heap_entries heap) 0 MAX_SIZE heap.alloc refl (omega arith) is.alloc
-    , ( key_number path (codes "reserve") (heap_entries heap) 0 MAX_SIZE heap.reserve refl (omega arith) is.reserve
-    , ( key_number path (codes "rate") (heap_entries heap) 1 MAX_RATE heap.rate refl is.rate.at_least is.rate.at_most
-    , ( key_fits path (codes "board") (heap_entries heap) (pair MAX_BOARD) (numbers_data (heap.refs ∷ heap.nums ∷ [])) refl (pair_fits MAX_BOARD heap.refs heap.nums is.refs is.nums)
-    , tt)))))
+    (also (key_number path (codes "live") (heap_entries heap) 0 MAX_SIZE heap.live refl (omega arith) is.live)
+    (also (key_number path (codes "alloc") (heap_entries heap) 0 MAX_SIZE heap.alloc refl (omega arith) is.alloc)
+    (also (key_number path (codes "reserve") (heap_entries heap) 0 MAX_SIZE heap.reserve refl (omega arith) is.reserve)
+    (also (key_number path (codes "rate") (heap_entries heap) 1 MAX_RATE heap.rate refl is.rate.at_least is.rate.at_most)
+    (also (key_fits path (codes "board") (heap_entries heap) (pair MAX_BOARD) (numbers_data (heap.refs ∷ heap.nums ∷ [])) refl (pair_fits MAX_BOARD heap.refs heap.nums is.refs is.nums))
+    tt)))))
 
 -- a high task
 high_fields : (path name : List ℕ) (timing : Timing) (words : ℕ) (arrives : Arrivals) (script : List Statement) (ticks : ℕ)
@@ -118,26 +122,26 @@ unfolding high_rules arrival_rules
 high_fields path name timing words (Every first step) script ticks times few arrive =
     let entries = high_entries (record { name = name; timing = timing; words = words; arrivals = Every first step; script = script }) in
     table_unfaulted path (high_rules ticks entries) entries refl
-    ( key_text path (codes "name") entries name refl
-    , ( key_number path (codes "period") entries 1 MAX_TICKS timing.period refl times.period.at_least times.period.at_most
-    , ( key_number path (codes "deadline") entries 1 timing.period timing.deadline refl times.deadline.at_least times.deadline.at_most
-    , ( key_number path (codes "cost") entries 1 MAX_TICKS timing.cost refl times.cost.at_least times.cost.at_most
-    , ( key_number path (codes "words") entries 0 MAX_TICKS words refl (omega arith) few
-    , ( key_number path (codes "first") entries 0 MAX_TICKS first refl (omega arith) arrive.0
-    , ( key_number path (codes "every") entries 1 MAX_TICKS step refl arrive.1.at_least arrive.1.at_most
-    , ( key_text path (codes "script") entries (text_of script) refl
-    , tt))))))))
+    (also (key_text path (codes "name") entries name refl)
+    (also (key_number path (codes "period") entries 1 MAX_TICKS timing.period refl times.period.at_least times.period.at_most)
+    (also (key_number path (codes "deadline") entries 1 timing.period timing.deadline refl times.deadline.at_least times.deadline.at_most)
+    (also (key_number path (codes "cost") entries 1 MAX_TICKS timing.cost refl times.cost.at_least times.cost.at_most)
+    (also (key_number path (codes "words") entries 0 MAX_TICKS words refl (omega arith) few)
+    (also (key_number path (codes "first") entries 0 MAX_TICKS first refl (omega arith) arrive.0)
+    (also (key_number path (codes "every") entries 1 MAX_TICKS step refl arrive.1.at_least arrive.1.at_most)
+    (also (key_text path (codes "script") entries (text_of script) refl)
+    tt))))))))
 high_fields path name timing words (arrivals.List numbers) script ticks times few arrive =
     let entries = high_entries (record { name = name; timing = timing; words = words; arrivals = arrivals.List numbers; script = script }) in
     table_unfaulted path (high_rules ticks entries) entries refl
-    ( key_text path (codes "name") entries name refl
-    , ( key_number path (codes "period") entries 1 MAX_TICKS timing.period refl times.period.at_least times.period.at_most
-    , ( key_number path (codes "deadline") entries 1 timing.period timing.deadline refl times.deadline.at_least times.deadline.at_most
-    , ( key_number path (codes "cost") entries 1 MAX_TICKS timing.cost refl times.cost.at_least times.cost.at_most
-    , ( key_number path (codes "words") entries 0 MAX_TICKS words refl (omega arith) few
-    , ( key_fits path (codes "arrivals") entries (ticks_of_run ticks) (numbers_data numbers) refl (ticks_fit ticks numbers arrive.0 arrive.1)
-    , ( key_text path (codes "script") entries (text_of script) refl
-    , tt)))))))
+    (also (key_text path (codes "name") entries name refl)
+    (also (key_number path (codes "period") entries 1 MAX_TICKS timing.period refl times.period.at_least times.period.at_most)
+    (also (key_number path (codes "deadline") entries 1 timing.period timing.deadline refl times.deadline.at_least times.deadline.at_most)
+    (also (key_number path (codes "cost") entries 1 MAX_TICKS timing.cost refl times.cost.at_least times.cost.at_most)
+    (also (key_number path (codes "words") entries 0 MAX_TICKS words refl (omega arith) few)
+    (also (key_fits path (codes "arrivals") entries (ticks_of_run ticks) (numbers_data numbers) refl (ticks_fit ticks numbers arrive.0 arrive.1))
+    (also (key_text path (codes "script") entries (text_of script) refl)
+    tt)))))))
 
 high_unfaulted : (path : List ℕ) (ticks : ℕ) (task : High) → IsHigh ticks task → fault_of_table path (high_rules ticks (high_entries task)) (high_entries task) ≡ None
 high_unfaulted path ticks task is = high_fields path task.name task.timing task.words task.arrivals task.script ticks is.timing is.words is.arrivals
@@ -149,18 +153,18 @@ unfolding low_rules arrival_rules
 low_fields path name (Every first step) script ticks arrive =
     let entries = low_entries (record { name = name; arrivals = Every first step; script = script }) in
     table_unfaulted path (low_rules ticks entries) entries refl
-    ( key_text path (codes "name") entries name refl
-    , ( key_number path (codes "first") entries 0 MAX_TICKS first refl (omega arith) arrive.0
-    , ( key_number path (codes "every") entries 1 MAX_TICKS step refl arrive.1.at_least arrive.1.at_most
-    , ( key_text path (codes "script") entries (text_of script) refl
-    , tt))))
+    (also (key_text path (codes "name") entries name refl)
+    (also (key_number path (codes "first") entries 0 MAX_TICKS first refl (omega arith) arrive.0)
+    (also (key_number path (codes "every") entries 1 MAX_TICKS step refl arrive.1.at_least arrive.1.at_most)
+    (also (key_text path (codes "script") entries (text_of script) refl)
+    tt))))
 low_fields path name (arrivals.List numbers) script ticks arrive =
     let entries = low_entries (record { name = name; arrivals = arrivals.List numbers; script = script }) in
     table_unfaulted path (low_rules ticks entries) entries refl
-    ( key_text path (codes "name") entries name refl
-    , ( key_fits path (codes "arrivals") entries (ticks_of_run ticks) (numbers_data numbers) refl (ticks_fit ticks numbers arrive.0 arrive.1)
-    , ( key_text path (codes "script") entries (text_of script) refl
-    , tt)))
+    (also (key_text path (codes "name") entries name refl)
+    (also (key_fits path (codes "arrivals") entries (ticks_of_run ticks) (numbers_data numbers) refl (ticks_fit ticks numbers arrive.0 arrive.1))
+    (also (key_text path (codes "script") entries (text_of script) refl)
+    tt)))
 
 low_unfaulted : (path : List ℕ) (ticks : ℕ) (task : Low) → IsLow ticks task → fault_of_table path (low_rules ticks (low_entries task)) (low_entries task) ≡ None
 low_unfaulted path ticks task is = low_fields path task.name task.arrivals task.script ticks is.arrivals
@@ -170,12 +174,12 @@ top_unfaulted : (sheet : Sheet) → IsSheet sheet → fault_of_table [] top_rule
 unfolding top_rules document_of
 top_unfaulted sheet is =
     table_unfaulted [] top_rules (document_of sheet) refl
-    ( key_number [] (codes "version") (document_of sheet) 1 1 1 refl (omega arith) (omega arith)
-    , ( key_number [] (codes "ticks") (document_of sheet) 1 MAX_TICKS sheet.ticks refl is.ticks.at_least is.ticks.at_most
-    , ( key_fits [] (codes "heap") (document_of sheet) one_table (table (heap_entries sheet.heap)) refl refl
-    , ( key_may_fit [] (codes "high") (document_of sheet) tables (array (items_of (map high_data sheet.high))) refl (tables_fit high_entries sheet.high)
-    , ( key_may_fit [] (codes "low") (document_of sheet) tables (array (items_of (map low_data sheet.low))) refl (tables_fit low_entries sheet.low)
-    , tt)))))
+    (also (key_number [] (codes "version") (document_of sheet) 1 1 1 refl (omega arith) (omega arith))
+    (also (key_number [] (codes "ticks") (document_of sheet) 1 MAX_TICKS sheet.ticks refl is.ticks.at_least is.ticks.at_most)
+    (also (key_fits [] (codes "heap") (document_of sheet) one_table (table (heap_entries sheet.heap)) refl refl)
+    (also (key_may_fit [] (codes "high") (document_of sheet) tables (array (items_of (map high_data sheet.high))) refl (tables_fit high_entries sheet.high))
+    (also (key_may_fit [] (codes "low") (document_of sheet) tables (array (items_of (map low_data sheet.low))) refl (tables_fit low_entries sheet.low))
+    tt)))))
 
 -- the tables of the tasks
 highs_unfaulted : (kind : List ℕ) (ticks index : ℕ) (tasks : List High) → AllByRecursion (IsHigh ticks) tasks → AreNone (faults_of_tasks kind (high_rules ticks) index (map high_entries tasks))

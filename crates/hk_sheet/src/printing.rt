@@ -94,7 +94,12 @@ fn heap_table(alloc: Global, heap: &HeapKeys) -> Result<Table, AllocError>
     let mut table = Table::new(alloc);
     put(alloc, &mut table, "live", number_value(heap.live.into()))?;
     put(alloc, &mut table, "alloc", number_value(heap.alloc.into()))?;
-    put(alloc, &mut table, "reserve", number_value(heap.reserve.into()))?;
+    put(
+        alloc,
+        &mut table,
+        "reserve",
+        number_value(heap.reserve.into()),
+    )?;
     put(alloc, &mut table, "rate", number_value(heap.rate))?;
     put(alloc, &mut table, "board", board)?;
     Ok(table)
@@ -126,8 +131,18 @@ fn high_table(alloc: Global, task: &High) -> Result<Table, AllocError>
 {
     let mut table = Table::new(alloc);
     put_name(alloc, &mut table, &task.name)?;
-    put(alloc, &mut table, "period", number_value(task.timing.period))?;
-    put(alloc, &mut table, "deadline", number_value(task.timing.deadline))?;
+    put(
+        alloc,
+        &mut table,
+        "period",
+        number_value(task.timing.period),
+    )?;
+    put(
+        alloc,
+        &mut table,
+        "deadline",
+        number_value(task.timing.deadline),
+    )?;
     put(alloc, &mut table, "cost", number_value(task.timing.cost))?;
     put(alloc, &mut table, "words", number_value(task.words))?;
     put_script(alloc, &mut table, &task.script)?;

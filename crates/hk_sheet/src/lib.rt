@@ -13,3 +13,6 @@ pub use sheet::{
     HeapKeys, High, Highs, Low, Lows, MAX_ARRIVALS, MAX_BOARD, MAX_COUNTED, MAX_KEY, MAX_NAME,
     MAX_RATE, MAX_SIZE, MAX_TICKS, Name, Sheet,
 };
+
+#[cfg(test)]
+mod printing_tests;

@@ -125,40 +125,31 @@ fn put_name(alloc: Global, table: &mut Table, name: &Name) -> Result<(), AllocEr
 }
 
 /// The table of a high task.
-fn high_table(alloc: Global, task: &High) -> Result<Table, AllocError>
-    requires { IsHighOfRun task.now }
-    ensures { IfOk result (λ table. table_view table ≡ high_entries task.now) }
+fn high_table(alloc: Global, high: &High) -> Result<Table, AllocError>
+    requires { IsHighOfRun high.now }
+    ensures { IfOk result (λ table. table_view table ≡ high_entries high.now) }
 {
+    let timing = high.timing;
     let mut table = Table::new(alloc);
-    put_name(alloc, &mut table, &task.name)?;
-    put(
-        alloc,
-        &mut table,
-        "period",
-        number_value(task.timing.period),
-    )?;
-    put(
-        alloc,
-        &mut table,
-        "deadline",
-        number_value(task.timing.deadline),
-    )?;
-    put(alloc, &mut table, "cost", number_value(task.timing.cost))?;
-    put(alloc, &mut table, "words", number_value(task.words))?;
-    put_script(alloc, &mut table, &task.script)?;
-    put_arrivals(alloc, &mut table, &task.arrivals)?;
+    put_name(alloc, &mut table, &high.name)?;
+    put(alloc, &mut table, "period", number_value(timing.period))?;
+    put(alloc, &mut table, "deadline", number_value(timing.deadline))?;
+    put(alloc, &mut table, "cost", number_value(timing.cost))?;
+    put(alloc, &mut table, "words", number_value(high.words))?;
+    put_script(alloc, &mut table, &high.script)?;
+    put_arrivals(alloc, &mut table, &high.arrivals)?;
     Ok(table)
 }
 
 /// The table of a low task.
-fn low_table(alloc: Global, task: &Low) -> Result<Table, AllocError>
-    requires { IsLowOfRun task.now }
-    ensures { IfOk result (λ table. table_view table ≡ low_entries task.now) }
+fn low_table(alloc: Global, low: &Low) -> Result<Table, AllocError>
+    requires { IsLowOfRun low.now }
+    ensures { IfOk result (λ table. table_view table ≡ low_entries low.now) }
 {
     let mut table = Table::new(alloc);
-    put_name(alloc, &mut table, &task.name)?;
-    put_script(alloc, &mut table, &task.script)?;
-    put_arrivals(alloc, &mut table, &task.arrivals)?;
+    put_name(alloc, &mut table, &low.name)?;
+    put_script(alloc, &mut table, &low.script)?;
+    put_arrivals(alloc, &mut table, &low.arrivals)?;
     Ok(table)
 }
 

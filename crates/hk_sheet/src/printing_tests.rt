@@ -75,12 +75,20 @@ fn both(alloc: Global) -> Result<Sheet, Fail>
 
 /// The value at a key is this number.
 fn expect_number(rt: &impl Abort, table: &Table, key: &str, want: i64) {
-    assert_eq!(rt; table.get(key).and_then(Value::as_integer), Some(want), "at {key}");
+    assert_eq!(rt;
+        table.get(key).and_then(Value::as_integer),
+        Some(want),
+        "at {key}"
+    );
 }
 
 /// The value at a key is this text.
 fn expect_text(rt: &impl Abort, table: &Table, key: &str, want: &str) {
-    assert_eq!(rt; table.get(key).and_then(Value::as_str), Some(want), "at {key}");
+    assert_eq!(rt;
+        table.get(key).and_then(Value::as_str),
+        Some(want),
+        "at {key}"
+    );
 }
 
 /// The value at a key is an array of these two numbers.
@@ -117,7 +125,10 @@ fn prints_both_kinds(rt: HostRuntime) -> Result<(), Fail> {
     expect_keys(&rt, &document, 5);
     expect_number(&rt, &document, "version", 1);
     expect_number(&rt, &document, "ticks", 40);
-    let heap = document.get("heap").and_then(Value::as_table).ok_or("a heap")?;
+    let heap = document
+        .get("heap")
+        .and_then(Value::as_table)
+        .ok_or("a heap")?;
     expect_keys(&rt, heap, 5);
     expect_number(&rt, heap, "live", 62);
     expect_number(&rt, heap, "alloc", 512);

@@ -3,3 +3,4 @@ pub mod Unfaulted
 pub mod Plain
 pub mod Shallow
 pub mod Puts
+pub mod OneAnswer

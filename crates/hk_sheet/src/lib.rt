@@ -3,11 +3,13 @@
 
 mod arrivals;
 mod error;
+mod laws;
 mod printing;
 mod sheet;
 
 pub use arrivals::{Arrivals, Ticks};
 pub use error::{Key, SheetError};
+pub use laws::text_read_again;
 pub use printing::{Memory, text};
 pub use sheet::{
     HeapKeys, High, Highs, Low, Lows, MAX_ARRIVALS, MAX_BOARD, MAX_COUNTED, MAX_KEY, MAX_NAME,

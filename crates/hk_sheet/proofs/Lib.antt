@@ -4,3 +4,4 @@ pub mod Plain
 pub mod Shallow
 pub mod Puts
 pub mod OneAnswer
+pub mod Sound

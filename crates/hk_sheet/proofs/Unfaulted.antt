@@ -239,11 +239,11 @@ low_text task = low_text_by task.name task.arrivals task.script
 
 -- NAMES
 
-bytes_differ : (a b : List ℕ) → bytes_eq a b ≡ false → bytes_eq b a ≡ false
+pub bytes_differ : (a b : List ℕ) → bytes_eq a b ≡ false → bytes_eq b a ≡ false
 bytes_differ a b apart = false_from_ne_true (bytes_eq b a) (λ same. both_ways (bytes_eq a b) apart ((bytes_eq-Decides a b).1 (sym ((bytes_eq-Decides b a).0 same))))
 
 -- none of the names is among the earlier ones
-abbrev AreNew : (earlier names : List (List ℕ)) → Type 0
+abbrev pub AreNew : (earlier names : List (List ℕ)) → Type 0
 AreNew earlier names = AllByRecursion (λ name. is_among earlier name ≡ false) names
 
 new_to_none : (names : List (List ℕ)) → AreNew [] names

@@ -1,11 +1,11 @@
 -- What a document without a fault declares is a sheet that can be read.
-use Rattle.std.proofs.Common.{◌≡◌, ℕ, ◌+◌, ◌-◌, ◌<◌, ◌≤◌, pos, negsuc, suc, Bool, true, false, not, ◌&&◌, nat_le, nat_lt, nat_eq, List, [], ◌∷◌, ◌++◌, length, map, codes, Option, Some, None, is_some, option_map, Result, Ok, Err, if◌then◌else◌, refl, ap, sym, ◌∙◌, subst, arith}
+use Rattle.std.proofs.Common.{◌≡◌, ℕ, ◌+◌, ◌-◌, ◌<◌, ◌≤◌, pos, negsuc, Bool, true, false, not, ◌&&◌, nat_le, nat_lt, nat_eq, List, [], ◌∷◌, ◌++◌, length, map, codes, Option, Some, None, option_map, Result, Ok, Err, if◌then◌else◌, refl, ap, subst, arith}
 use Rattle.std.specs.List.{AllByRecursion, list_all}
 use Rattle.std.specs.Str.{bytes_eq}
-use Rattle.std.proofs.lemmas.Bool.{and_parts, both_ways, cases_Bool, leb-true, ltb-false, not-true, or_parts, or_from}
+use Rattle.std.proofs.lemmas.Bool.{and_parts, both_ways, leb-true, ltb-false, not-true, or_parts, or_from}
 use Rattle.std.proofs.lemmas.Bool.Decides.{nat_tests}
-use Rattle.std.proofs.lemmas.List.{length-map}
-use Rattle.toml.specs.Data.{Data, string, integer, float, boolean, datetime, array, table, Items, no_items, item, Members, get_member}
+use Rattle.std.proofs.lemmas.List.{length-map, map-append}
+use Rattle.toml.specs.Data.{Data, string, integer, float, boolean, datetime, array, table, Members, get_member}
 use Rattle.hk_words.specs.Geometry.{first_error}
 use Rattle.hk_words.specs.declared.geometry.GeoError.{GeoError}
 use Rattle.hk_script.proofs.Texts.{text_takes}
@@ -22,10 +22,11 @@ use Rattle.hk_sheet.specs.declared.sheet.High.{High}
 use Rattle.hk_sheet.specs.declared.sheet.Low.{Low}
 use Rattle.hk_sheet.specs.declared.sheet.Sheet.{Sheet}
 use Rattle.hk_sheet.specs.declared.sheet.TheConstants.{MAX_TICKS, MAX_SIZE, MAX_RATE, MAX_BOARD, MAX_ARRIVALS}
-use Rattle.hk_sheet.specs.Rules.{Kind, number, pair, ticks_of_run, text, Wrong, no_such_kind, out_of_range, Rule, needs, wrong_in, wrong_unless, is_in, is_integer, are_integers, elements, elements_of, number_of, number_held, number_at, has_list, heap_rules, arrival_rules, high_rules, low_rules}
-use Rattle.hk_sheet.specs.Reading.{held, text_at, first_of_pair, second_of_pair, numbers_at, heap_in, read_script, arrivals_in, script_in, timing_in, high_in, low_in}
-use Rattle.hk_sheet.specs.Faults.{first_of, unknown_fault, error_of, fault_of_value, fault_of_key, fault_of_table, faults_of_tasks, task_path, is_name, is_among, faults_of_names, faults_of_ticks, fault_of_arrivals, fault_of_high_arrivals, fault_of_low_arrivals, fault_of_text, fault_of_script, sizes_of, fault_of_geometry}
-use Rattle.hk_sheet.specs.Valid.{IsFrom, IsHeap, AreSpaced, AreArrivals, IsTiming, IsHigh, IsLow, AreDistinct}
+use Rattle.hk_sheet.specs.Rules.{number, pair, ticks_of_run, text, Wrong, no_such_kind, out_of_range, Rule, needs, wrong_in, wrong_unless, is_in, is_integer, are_integers, elements_of, number_of, number_held, number_at, has_list, heap_rules, top_rules, arrival_rules, high_rules, low_rules}
+use Rattle.hk_sheet.specs.Reading.{held, text_at, first_of_pair, second_of_pair, numbers_at, heap_in, read_script, arrivals_in, script_in, timing_in, high_in, low_in, table_at, highs_of, lows_of, sheet_in}
+use Rattle.hk_sheet.specs.Faults.{first_of, unknown_fault, error_of, fault_of_value, fault_of_key, fault_of_table, faults_of_tasks, task_path, is_name, is_among, faults_of_names, faults_of_ticks, fault_of_arrivals, fault_of_high_arrivals, fault_of_low_arrivals, fault_of_text, fault_of_script, sizes_of, fault_of_geometry, tasks_of, names_of, faults_of_tables, fault_of, unless_fault, sheet_of}
+use Rattle.hk_sheet.specs.Answers.{IsRead}
+use Rattle.hk_sheet.specs.Valid.{IsFrom, IsHeap, AreSpaced, AreArrivals, IsHigh, IsLow, AreDistinct, IsSheet}
 use Rattle.hk_sheet.proofs.Unfaulted.{AreNone, AreNew, bytes_differ}
 
 -- FAULTS
@@ -112,6 +113,14 @@ pub keys_sound : (path : List ℕ) (rules : List Rule) (entries : Members) → f
 unfolding fault_of_table
 keys_sound path rules entries none = none_each (fault_of_key path entries) rules (none_from_first (unknown_fault path rules entries ∷ map (fault_of_key path entries) rules) none).1
 
+-- the ticks of a run
+run_has_ticks : (ticks : ℕ) → IsFrom 1 MAX_TICKS ticks → 0 < ticks
+run_has_ticks ticks run = let least = run.at_least in omega arith
+
+pub ticks_sound : (document : Members) → fault_of_table [] top_rules document ≡ None → IsFrom 1 MAX_TICKS (number_at (codes "ticks") document)
+unfolding top_rules
+ticks_sound document none = number_sound [] (codes "ticks") document 1 MAX_TICKS (keys_sound [] top_rules document none).1.0
+
 -- the heap
 pub heap_sound : (path : List ℕ) (entries : Members) → fault_of_table path heap_rules entries ≡ None → IsHeap (heap_in entries)
 unfolding heap_rules heap_in
@@ -173,10 +182,11 @@ arrivals_sound path task entries ticks gap true some keys none =
     (are.before, are.few, spaced task gap 1 list (none_from_first (faults_of_ticks task gap 1 list) none))
 arrivals_sound path task entries ticks gap false some keys none =
     let first = number_at (codes "first") entries in
-    let step = number_at (codes "every") entries in
-    ( (number_sound path (codes "first") entries 0 MAX_TICKS keys.0).at_most
-    , number_sound path (codes "every") entries 1 MAX_TICKS keys.1.0
-    , ltb-false step gap (no_fault_if (nat_lt step gap) (error.Arrivals task 1 first (first + step)) none))
+    let step = number_at (codes "every") entries in (
+      (number_sound path (codes "first") entries 0 MAX_TICKS keys.0).at_most,
+      number_sound path (codes "every") entries 1 MAX_TICKS keys.1.0,
+      ltb-false step gap (no_fault_if (nat_lt step gap) (error.Arrivals task 1 first (first + step)) none),
+    )
 
 -- SCRIPTS
 
@@ -295,3 +305,60 @@ low_names (entries ∷ tables) = ap (λ rest. text_at (codes "name") entries ∷
 geometry_sound : (sheet : Sheet) → fault_of_geometry sheet ≡ None → first_error (sizes_of sheet) ≡ None
 unfolding fault_of_geometry
 geometry_sound sheet none = no_error (first_error (sizes_of sheet)) none
+
+-- what a document without a fault declares is a sheet that can be read
+pub document_sound : (document : Members) → fault_of document ≡ None → IsSheet (sheet_in document)
+unfolding fault_of faults_of_tables sheet_in
+document_sound document none =
+    let highs = highs_of document in
+    let lows = lows_of document in
+    let ticks = number_at (codes "ticks") document in
+    let tables = faults_of_tables document in
+    let names = faults_of_names [] 0 (names_of document) in
+    let high_arrivals = map fault_of_high_arrivals highs in
+    let low_arrivals = map fault_of_low_arrivals lows in
+    let scripts = map fault_of_script (tasks_of document) in
+    let geometry = fault_of_geometry (sheet_in document) ∷ [] in
+    let all : AreNone (((((tables ++ names) ++ high_arrivals) ++ low_arrivals) ++ scripts) ++ geometry) = none_from_first (((((tables ++ names) ++ high_arrivals) ++ low_arrivals) ++ scripts) ++ geometry) none in
+    let to_scripts = none_left ((((tables ++ names) ++ high_arrivals) ++ low_arrivals) ++ scripts) geometry all in
+    let to_low = none_left (((tables ++ names) ++ high_arrivals) ++ low_arrivals) scripts to_scripts in
+    let to_high = none_left ((tables ++ names) ++ high_arrivals) low_arrivals to_low in
+    let to_names = none_left (tables ++ names) high_arrivals to_high in
+    let in_tables : AreNone tables = none_left tables names to_names in
+    let named = names_sound [] 0 (names_of document) (none_right tables names to_names) in
+    let arrive_high : AreNone high_arrivals = none_right (tables ++ names) high_arrivals to_high in
+    let arrive_low : AreNone low_arrivals = none_right ((tables ++ names) ++ high_arrivals) low_arrivals to_low in
+    let scripted : AreNone (map fault_of_script highs ++ map fault_of_script lows) =
+    subst AreNone (map-append fault_of_script highs lows) (none_right (((tables ++ names) ++ high_arrivals) ++ low_arrivals) scripts to_scripts) in
+    let fits : AreNone geometry = none_right ((((tables ++ names) ++ high_arrivals) ++ low_arrivals) ++ scripts) geometry all in
+    let run : IsFrom 1 MAX_TICKS ticks = ticks_sound document in_tables.0 in
+    let some : 0 < ticks = run_has_ticks ticks run in
+    let high_names_are = map (text_at (codes "name")) highs in
+    let low_names_are = map (text_at (codes "name")) lows in
+    let names_are : AllByRecursion (λ name. is_name name ≡ true) (high_names_are ++ low_names_are) =
+    subst (λ (ns : List (List ℕ)). AllByRecursion (λ name. is_name name ≡ true) ns) (map-append (text_at (codes "name")) highs lows) named.are in
+    let high_tables = faults_of_tasks (codes "high") (high_rules ticks) 0 highs in
+    let low_tables = faults_of_tasks (codes "low") (low_rules ticks) 0 lows in
+    record {
+      ticks = run;
+      heap = heap_sound (codes "heap.") (table_at (codes "heap") document) in_tables.1.0;
+      high = highs_sound (codes "high") ticks 0 highs some (none_left high_tables low_tables in_tables.1.1) (all_left (λ name. is_name name ≡ true) high_names_are low_names_are names_are) arrive_high
+          (none_left (map fault_of_script highs) (map fault_of_script lows) scripted);
+      low = lows_sound (codes "low") ticks 0 lows some (none_right high_tables low_tables in_tables.1.1) (all_right (λ name. is_name name ≡ true) high_names_are low_names_are names_are) arrive_low
+          (none_right (map fault_of_script highs) (map fault_of_script lows) scripted);
+      names = rw (high_names highs, low_names lows, ← map-append (text_at (codes "name")) highs lows) named.distinct;
+      geometry = geometry_sound (sheet_in document) fits.0;
+    }
+
+answer_sound : (fault : Option SheetError) (declared sheet : Sheet) → (fault ≡ None → IsSheet declared) → unless_fault fault declared ≡ Ok sheet → IsSheet sheet
+answer_sound None declared sheet sound is = let same : declared ≡ sheet = cc in subst IsSheet same (sound refl)
+answer_sound (Some fault) declared sheet sound is = absurd cc
+
+-- the sheet of a document can be read
+pub sheet_sound : (document : Members) (sheet : Sheet) → sheet_of document ≡ Ok sheet → IsSheet sheet
+unfolding sheet_of
+sheet_sound document sheet is = answer_sound (fault_of document) (sheet_in document) sheet (document_sound document) is
+
+-- so is a sheet that is read of bytes
+pub read_sound : (bytes : List ℕ) (sheet : Sheet) → IsRead bytes (Ok sheet) → IsSheet sheet
+read_sound bytes sheet read = sheet_sound read.document sheet read.read

@@ -77,7 +77,7 @@ low_entries task =
     (member (codes "script") (string (text_of task.script))
     no_members)))
 
--- the arrays of the tasks' tables
+-- the table of a task as a value of the document
 abbrev pub high_data : High → Data
 high_data task = table (high_entries task)
 
@@ -96,7 +96,7 @@ document_of sheet =
 
 -- WHAT CAN BE WRITTEN
 
--- numbers fit the integers of a document
+-- a number, and the arrivals of a task, fit the integers of a document
 abbrev pub FitsInteger : ℕ → Type 0
 FitsInteger n = n < 2 ^ 63
 

@@ -152,3 +152,40 @@ fn prints_both_kinds(rt: HostRuntime) -> Result<(), Fail> {
     expect_text(&rt, low, "script", "set v1 5\nwork 2\n");
     Ok(())
 }
+
+/// A sheet with one low task, which is periodic, and no high one.
+fn alone(alloc: Global) -> Result<Sheet, Fail>
+    ensures { IfOk result IsSheet }
+{
+    let mut low = Vec::new(alloc);
+    low.push(Low {
+        name: name(alloc, "z")?,
+        arrivals: Arrivals::Every { first: 0, step: 1 },
+        script: hk_script::parse(alloc, b"job v3")?,
+    })?;
+    Ok(Sheet {
+        ticks: 16_777_216,
+        heap: HEAP,
+        high: Highs {
+            items: Vec::new(alloc),
+        },
+        low: Lows { items: low },
+    })
+}
+
+#[test]
+fn prints_a_low_task_alone(rt: HostRuntime) -> Result<(), Fail> {
+    let alloc = rt.alloc();
+    let bytes = text(alloc, &alone(alloc)?).map_err(|_| "memory")?;
+    let document = toml::table_from_slice(alloc, &bytes)?;
+    expect_number(&rt, &document, "ticks", 16_777_216);
+    let high = document.get("high").and_then(Value::as_array);
+    assert!(rt; high.ok_or("high tasks")?.is_empty());
+    let low = only_table(&document, "low").ok_or("a low task")?;
+    expect_keys(&rt, low, 4);
+    expect_text(&rt, low, "name", "z");
+    expect_number(&rt, low, "first", 0);
+    expect_number(&rt, low, "every", 1);
+    expect_text(&rt, low, "script", "job v3\n");
+    Ok(())
+}

@@ -7,3 +7,10 @@ mod NameOrder
 mod Validity
 mod Answering
 mod Stages
+pub mod Redeclared
+pub mod Unfaulted
+pub mod Plain
+pub mod Shallow
+pub mod Puts
+pub mod OneAnswer
+pub mod Sound

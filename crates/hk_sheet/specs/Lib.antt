@@ -5,3 +5,4 @@ pub mod Faults
 pub mod Valid
 pub mod Answers
 pub mod Code
+pub mod Printing

@@ -4,7 +4,9 @@
 mod arrivals;
 mod error;
 mod keys;
+mod laws;
 mod paths;
+mod printing;
 mod reader;
 mod rules;
 mod sheet;
@@ -13,11 +15,15 @@ mod tasks;
 
 pub use arrivals::{Arrivals, Ticks};
 pub use error::{Key, SheetError};
+pub use laws::text_read_again;
+pub use printing::{Memory, text};
 pub use reader::read;
 pub use sheet::{
     HeapKeys, High, Highs, Low, Lows, MAX_ARRIVALS, MAX_BOARD, MAX_COUNTED, MAX_KEY, MAX_NAME,
     MAX_RATE, MAX_SIZE, MAX_TICKS, Name, Sheet,
 };
 
+#[cfg(test)]
+mod printing_tests;
 #[cfg(test)]
 mod tests;

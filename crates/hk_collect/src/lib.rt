@@ -5,6 +5,7 @@
 mod checks;
 mod decide;
 mod follow;
+mod measure;
 mod step;
 #[cfg(test)]
 mod walk;
@@ -12,4 +13,5 @@ mod walk;
 pub use decide::event;
 pub use follow::took;
 pub use hk_core::Work;
+pub use measure::{measured_cycle, untouched_attempts};
 pub use step::advance;

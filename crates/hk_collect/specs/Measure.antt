@@ -217,8 +217,8 @@ AttemptSucceeds = (c : State) (lost : ℕ) → IsUntouched c → work_by_collect
 
 -- an attempt is lost while it is open, and isn't open afterwards
 pub record ClosesAttempt (c : State) : Type 0 where
-  pub open : in_attempt c.spot.line ≡ true
-  pub closed : in_attempt (next_collected c).spot.line ≡ false
+  pub was_open : in_attempt c.spot.line ≡ true
+  pub is_closed : in_attempt (next_collected c).spot.line ≡ false
 
 abbrev pub LostClosesAttempt : Type 0
 LostClosesAttempt = (c : State) (lost : ℕ) → work_by_collector c ≡ Lost lost → ClosesAttempt c

@@ -212,7 +212,7 @@ frame_opens c s at =
 
 -- the events of a register
 module _ (c : State) (history : History) (h : Lawful c history) (s r : ℕ) where
-  register_knows : (stage : Stage) → c.spot.line ≡ line.Register s r stage
+  pub register_knows : (stage : Stage) → c.spot.line ≡ line.Register s r stage
       → AtRegister c.geometry (words_of c.geometry c.row) (shades_of c.geometry (words_of c.geometry c.row) (flight_at c) c.spot.line (names_of c.geometry history)) c.spot (names_of c.geometry history) s r stage
   register_knows stage at =
       let g = c.geometry in
@@ -285,7 +285,7 @@ after_cell_untouched c t i same = by_test (nat_lt (i + 2) (reference_size t.item
 
 -- the events of a cell
 module _ (c : State) (history : History) (h : Lawful c history) (i : ℕ) where
-  cell_knows : (stage : Stage) → c.spot.line ≡ line.Cell i stage
+  pub cell_knows : (stage : Stage) → c.spot.line ≡ line.Cell i stage
       → AtCell c.geometry (words_of c.geometry c.row) (spaces_of c.geometry (words_of c.geometry c.row).cycle)
       (shades_of c.geometry (words_of c.geometry c.row) (flight_at c) c.spot.line (names_of c.geometry history)) c.spot (names_of c.geometry history) h.range i stage
   cell_knows stage at =
@@ -296,7 +296,7 @@ module _ (c : State) (history : History) (h : Lawful c history) (i : ℕ) where
       (work_at g w (flight_at c) (begun_at c) c.spot names (contents_of g history) h.range (line.Cell i stage) at h.facts)
 
   -- the object that is moved is one of the numbers
-  item_within : (stage : Stage) → c.spot.line ≡ line.Cell i stage → moved_number c.spot < numbers c.geometry
+  pub item_within : (stage : Stage) → c.spot.line ≡ line.Cell i stage → moved_number c.spot < numbers c.geometry
   item_within stage at =
       let g = c.geometry in
       let w = words_of g c.row in

@@ -1,2 +1,5 @@
 pub mod MeasureAttempts
 pub mod MeasureBounds
+pub mod MeasureLines
+pub mod MeasureCalm
+pub mod MeasureEvents

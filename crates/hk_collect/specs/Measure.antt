@@ -157,9 +157,12 @@ is_grey_by g w number = grey_by (spaces_of g w.cycle) w.cycle w.place w.mark num
 abbrev pub is_grey : State → ℕ → Bool
 is_grey c number = is_grey_by c.geometry (words_of c.geometry c.row) number
 
--- a state is calm where no number is grey while the pass goes on
-abbrev pub IsCalm : State → Type 0
-IsCalm c = (passed number : ℕ) → passing c.spot.line ≡ Some passed → number < numbers c.geometry → is_grey c number ≡ false
+-- A state is calm where no number is grey while the pass goes on, and the number whose header the pass is about to load was
+-- claimed in this cycle. Without the second part the pass could take a number that wasn't claimed for a grey one.
+pub record IsCalm (c : State) : Type 0 where
+  pub none_grey : (passed number : ℕ) → passing c.spot.line ≡ Some passed → number < numbers c.geometry → is_grey c number ≡ false
+  pub head_claimed : (number : ℕ) → c.spot.line ≡ line.PassHead number
+      → (words_of c.geometry c.row).mark number ≡ (words_of c.geometry c.row).cycle
 
 -- an event waits for nobody: it finds no call inside the frame or the object that it looks at, no link word missing, and
 -- in the pass no grey number

@@ -3,3 +3,4 @@ pub mod MeasureBounds
 pub mod MeasureLines
 pub mod MeasureCalm
 pub mod MeasureEvents
+pub mod MeasureSeats

@@ -131,6 +131,10 @@ module _ (g : Geometry) (row : List ℕ) where
 
 -- A SEAT
 
+new_sized : (x : Flight) (dest : ℕ) (shape : Shape) → x.call ≡ call.New dest shape → f.new_size x ≡ size shape
+unfolding f.new_size f.new_size_of
+new_sized x dest shape is_new = rw is_new refl
+
 module _ (c : State) (history : History) (s : ℕ) (below : s < tasks c.geometry) (h : Lawful c history)
     (settled : IsSettled c.geometry (words_of c.geometry c.row).cycle (shades_of c.geometry (words_of c.geometry c.row) (flight_at c) c.spot.line (names_of c.geometry history)).white
     (shades_of c.geometry (words_of c.geometry c.row) (flight_at c) c.spot.line (names_of c.geometry history)).grey (words_of c.geometry c.row).register (flight_at c)) where
@@ -267,3 +271,193 @@ module _ (c : State) (history : History) (s : ℕ) (below : s < tasks c.geometry
       recent : (cycle past : ℕ) → IsRecent cycle past → past ≤ cycle
       recent cycle past (inl now) = omega arith
       recent cycle past (inr before) = omega arith
+
+  -- A New that found room raises W0 and writes a header. Its place is in the current space, as it raised W0 in this cycle.
+  module _ (dest : ℕ) (shape : Shape) (is_new : (flight_at c s).call ≡ call.New dest shape) (room : (flight_at c s).full ≡ false) where
+    new_raises : (flight_at c s).place ≡ 3 → Calms (table.raise c.geometry shape)
+    unfolding table.raise f.will_raise f.is_new_at
+    new_raises at =
+        let g = c.geometry in
+        let w = words_of g c.row in
+        let x = flight_at c s in
+        let will : f.will_raise x ≡ true = rw (is_new, at, room) refl in
+        let used = used_fits g w.used (flight_at c) s shape below will h.facts.used_stays_bounded in
+        let objects = objects_fit g w.objects (flight_at c) s below will h.facts.objects_stay_bounded in
+        calm_words g c.row (event.Add (w0_at g) (layout.raise_by (size shape))) (raised_words w (size shape)) (words-raise g c.row h.sized.row (size shape) used objects)
+        (calm_same g w (raised_words w (size shape)) refl refl refl)
+
+    has_raised : (flight_at c s).place ≡ 5 → f.has_raised (flight_at c s) ≡ true
+    unfolding f.has_raised f.is_new_at
+    has_raised at =
+        let x = flight_at c s in
+        let step : f.IsNewInStep x.place x.full x.raised = rw is_new at (h.facts.news_in_step s below) in
+        let raised : x.raised ≡ true = step.raised_by_then (omega arith) room in
+        rw (is_new, at, raised) refl
+
+    new_writes_header : (flight_at c s).place ≡ 5 → Calms (table.write_header c.geometry (flight_at c s))
+    unfolding table.write_header f.is_making f.has_number f.is_new_at f.has_room
+    new_writes_header at =
+        let g = c.geometry in
+        let w = words_of g c.row in
+        let x = flight_at c s in
+        let z = spaces_of g w.cycle in
+        let n = x.number in
+        let raised = has_raised at in
+        let own = h.facts.own_entries s below (rw (is_new, at, room) refl) in
+        let number : n ≡ own_entry w.entry x = h.facts.number_is_own s below (rw (is_new, at, room) refl) in
+        let within : n < numbers g = rw number own.within in
+        let found = h.facts.news_found_room s below (rw (raised, room) refl) in
+        let words : f.words_before x + f.new_size x ≤ g.alloc = found.words in
+        let few : f.words_before x < g.alloc = words_below in
+        let now : f.cycle_of x ≡ w.cycle = settled.none_late s below raised in
+        let place = new_place g x in
+        let stands : place ≡ z.current + (g.live + f.words_before x) = rw now (omega arith) in
+        let w' = headed_words w n place in
+        calm_words g c.row (event.Write (header_at g n) (layout.pack_header 0 place 0)) w' (words-new_header g c.row h.sized.row n place within (new_place_fits g x few))
+        (record {
+          grey = λ k inside light. elim (cases_eq k n) [
+            | inl here ↦
+                let at_new : w'.place k ≡ place = ap (upd w.place n place) here ∙ upd_same w.place n place in
+                elim (shades_mean g w (flight_at c) c.spot.line (names_of c.geometry history)).spaces [
+                  | inl before ↦ above_light g w' k (omega arith)
+                  | inr after ↦ below_light g w' k (omega arith)
+                ]
+            | inr other ↦ same_grey g w w' k refl refl (upd_other w.place n place k other) ∙ light
+          ];
+          claimed = λ k inside of_cycle. of_cycle;
+        })
+      where
+        words_below : f.words_before (flight_at c s) < c.geometry.alloc
+        words_below =
+            let found = h.facts.news_found_room s below (rw (has_raised at, room) refl) in
+            let words : f.words_before (flight_at c s) + f.new_size (flight_at c s) ≤ c.geometry.alloc = found.words in
+            let size : f.new_size (flight_at c s) ≡ size shape = new_sized (flight_at c s) dest shape is_new in
+            let some = shape.some in
+            omega arith
+
+  -- THE CALLS
+
+  get_calm : (reg field : ℕ) → (flight_at c s).call ≡ call.Get reg field → Calms (table.get_event c.geometry (flight_at c s) field)
+  unfolding table.get_event f.is_through f.in_object f.in_object_at
+  get_calm reg field is_get =
+      let x = flight_at c s in
+      by_test Calms (nat_eq x.place 1) _ _ (λ e. let at = eqb-true x.place 1 e in enters (rw is_get refl) (rw at refl) (rw (is_get, at) refl))
+      (λ _. by_test Calms (nat_eq x.place 2) _ _ (λ e. reads _)
+      (λ _. by_test Calms (nat_eq x.place 3) _ _ (λ e. let at = eqb-true x.place 3 e in leaves (rw is_get refl) (rw at refl) (rw (is_get, at) refl))
+      (λ _. rests)))
+
+  put_calm : (reg field value : ℕ) → (flight_at c s).call ≡ call.Put reg field value → Calms (table.put_event c.geometry (flight_at c s) field value)
+  unfolding table.put_event f.is_through f.in_object f.in_object_at
+  put_calm reg field value is_put =
+      let x = flight_at c s in
+      by_test Calms (nat_eq x.place 1) _ _ (λ e. let at = eqb-true x.place 1 e in enters (rw is_put refl) (rw at refl) (rw (is_put, at) refl))
+      (λ _. by_test Calms (nat_eq x.place 2) _ _ (λ e. writes _ value)
+      (λ _. by_test Calms (nat_eq x.place 3) _ _ (λ e. let at = eqb-true x.place 3 e in leaves (rw is_put refl) (rw at refl) (rw (is_put, at) refl))
+      (λ _. rests)))
+
+  move_calm : (dest : ℕ) → Calms (table.move_event c.geometry (flight_at c s) dest)
+  unfolding table.move_event
+  move_calm dest =
+      let x = flight_at c s in
+      by_test Calms (nat_eq x.place 1) _ _ (λ e. enters_frame)
+      (λ _. by_test Calms (nat_eq x.place 2) _ _ (λ e. writes_register dest x.item)
+      (λ _. by_test Calms (nat_eq x.place 3) _ _ (λ e. leaves_frame)
+      (λ _. rests)))
+
+  clear_calm : (dest : ℕ) → Calms (table.clear_event c.geometry (flight_at c s) dest)
+  unfolding table.clear_event
+  clear_calm dest = by_test Calms (nat_eq (flight_at c s).place 1) _ _ (λ e. writes_register dest 0) (λ _. rests)
+
+  load_calm : (dest reg field : ℕ) → (flight_at c s).call ≡ call.Load dest reg field → Calms (table.load_event c.geometry (flight_at c s) dest field)
+  unfolding table.load_event f.is_through f.in_object f.in_object_at f.has_item f.has_item_at f.has_cycle_inside f.has_cycle_inside_at
+  load_calm dest reg field is_load =
+      let x = flight_at c s in
+      by_test Calms (nat_eq x.place 1) _ _ (λ e. enters_frame)
+      (λ _. by_test Calms (nat_eq x.place 2) _ _ (λ e. let at = eqb-true x.place 2 e in enters (rw is_load refl) (rw at refl) (rw (is_load, at) refl))
+      (λ _. by_test Calms (nat_eq x.place 3) _ _ (λ e. loads_w0)
+      (λ _. by_test Calms (nat_eq x.place 4) _ _ (λ e. reads _)
+      (λ _. by_test Calms (nat_eq x.place 5) _ _ (λ e. let at = eqb-true x.place 5 e in claims (rw (is_load, at) refl) (λ some. rw (is_load, at) refl))
+      (λ _. by_test Calms (nat_eq x.place 6) _ _ (λ e. reserves)
+      (λ _. by_test Calms (nat_eq x.place 7) _ _ (λ e. links)
+      (λ _. by_test Calms (nat_eq x.place 8) _ _ (λ e. writes_register dest x.item)
+      (λ _. by_test Calms (nat_eq x.place 9) _ _ (λ e. let at = eqb-true x.place 9 e in leaves (rw is_load refl) (rw at refl) (rw (is_load, at) refl))
+      (λ _. by_test Calms (nat_eq x.place 10) _ _ (λ e. leaves_frame)
+      (λ _. rests))))))))))
+
+  store_calm : (reg field from : ℕ) → (flight_at c s).call ≡ call.Store reg field from → Calms (table.store_event c.geometry (flight_at c s) field)
+  unfolding table.store_event f.is_through f.in_object f.in_object_at f.has_item f.has_item_at f.has_cycle_inside f.has_cycle_inside_at
+  store_calm reg field from is_store =
+      let x = flight_at c s in
+      by_test Calms (nat_eq x.place 1) _ _ (λ e. let at = eqb-true x.place 1 e in enters (rw is_store refl) (rw at refl) (rw (is_store, at) refl))
+      (λ _. by_test Calms (nat_eq x.place 2) _ _ (λ e. by_test Calms (nat_eq x.item 0) _ _ (λ null. rests) (λ some. loads_w0))
+      (λ _. by_test Calms (nat_eq x.place 3) _ _ (λ e. let at = eqb-true x.place 3 e in claims (rw (is_store, at) refl) (λ some. rw (is_store, at, ne_eqb x.item 0 some) refl))
+      (λ _. by_test Calms (nat_eq x.place 4) _ _ (λ e. reserves)
+      (λ _. by_test Calms (nat_eq x.place 5) _ _ (λ e. links)
+      (λ _. by_test Calms (nat_eq x.place 6) _ _ (λ e. writes _ x.item)
+      (λ _. by_test Calms (nat_eq x.place 7) _ _ (λ e. let at = eqb-true x.place 7 e in leaves (rw is_store refl) (rw at refl) (rw (is_store, at) refl))
+      (λ _. rests)))))))
+
+  new_calm : (dest : ℕ) (shape : Shape) → (flight_at c s).call ≡ call.New dest shape → Calms (table.new_event c.geometry (flight_at c s) dest shape)
+  unfolding table.new_event
+  new_calm dest shape is_new =
+      let x = flight_at c s in
+      by_test Calms (nat_eq x.place 1) _ _ (λ e. loads_w0)
+      (λ _. by_test Calms (nat_eq x.place 2) _ _ (λ e. by_test Calms x.full _ _ (λ full. rests) (λ room. enters_frame))
+      (λ _. by_test Calms (nat_eq x.place 3) _ _ (λ e. by_test Calms x.full _ _ (λ full. rests) (λ room. new_raises dest shape is_new room (eqb-true x.place 3 e)))
+      (λ _. by_test Calms (nat_eq x.place 4) _ _ (λ e. by_test Calms x.full _ _ (λ full. rests) (λ room. loads_entry))
+      (λ _. by_test Calms (nat_eq x.place 5) _ _ (λ e. by_test Calms x.full _ _ (λ full. rests) (λ room. new_writes_header dest shape is_new room (eqb-true x.place 5 e)))
+      (λ _. by_test Calms (nat_eq x.place 6) _ _ (λ e. by_test Calms x.full _ _ (λ full. rests) (λ room. writes_register dest (table.new_reference x shape)))
+      (λ _. by_test Calms (nat_eq x.place 7) _ _ (λ e. by_test Calms (x.full && not x.raised) _ _ (λ full. rests) (λ busy. leaves_frame))
+      (λ _. rests)))))))
+
+  event_calm : Calms (event_by c s)
+  unfolding event_by table.event_of table.event_at flight_at
+  event_calm = each (flight_at c s).call refl
+    where
+      each : (call : Call) → (flight_at c s).call ≡ call → Calms (table.event_at c.geometry (flight_at c s) call)
+      each (call.Get reg field) e = get_calm reg field e
+      each (call.Put reg field value) e = put_calm reg field value e
+      each (call.Load dest reg field) e = load_calm dest reg field e
+      each (call.Store reg field from) e = store_calm reg field from e
+      each (call.Move dest from) e = move_calm dest
+      each (call.Clear dest) e = clear_calm dest
+      each (call.New dest shape) e = new_calm dest shape e
+      each (call.Same a b) e = rests
+      each (call.IsNull reg) e = rests
+
+-- THE LAW
+
+-- a calm state is settled while the pass goes on
+settled_in_pass : (c : State) (history : History) (passed : ℕ) → Lawful c history → IsCalm c → l.passing c.spot.line ≡ Some passed
+    → IsSettled c.geometry (words_of c.geometry c.row).cycle (shades_of c.geometry (words_of c.geometry c.row) (flight_at c) c.spot.line (names_of c.geometry history)).white
+    (shades_of c.geometry (words_of c.geometry c.row) (flight_at c) c.spot.line (names_of c.geometry history)).grey (words_of c.geometry c.row).register (flight_at c)
+unfolding shades_of
+settled_in_pass c history passed h calm at = elim (h.facts.pass_meets_grey passed at) [
+  | inl found ↦ absurd (let e = sym (calm.none_grey passed found.0 at found.2) ∙ found.3 in cc)
+  | inr settled ↦ settled
+]
+
+step_keeps_calm : (c : State) (history : History) (s : ℕ) → s < tasks c.geometry → Lawful c history → KeepsCalm c (next c s)
+unfolding next l.passing
+step_keeps_calm c history s below h = record {
+  spot = refl;
+  calm = λ calm. record {
+    none_grey = λ passed number at within. (event_calm c history s below h (settled_in_pass c history passed h calm at)).grey number within (calm.none_grey passed number at within);
+    head_claimed = λ number at.
+        (event_calm c history s below h (settled_in_pass c history number h calm (ap l.passing at))).claimed number (fits_at c history h (line.PassHead number) at) (calm.head_claimed number at);
+  };
+}
+
+begin_keeps_calm : (c : State) (s : ℕ) (call : Call) → KeepsCalm c (after_begin c s call)
+unfolding after_begin accepted
+begin_keeps_calm c s call = by_refusal (refusal c s call)
+  where
+    by_refusal : (o : Option Fault) → KeepsCalm c (begun_or o (accepted c s call) c)
+    by_refusal None = record { spot = refl; calm = λ calm. record { none_grey = calm.none_grey; head_claimed = calm.head_claimed } }
+    by_refusal (Some fault) = record { spot = refl; calm = λ calm. calm }
+
+pub seats_keep_calm : SeatsKeepCalm
+seats_keep_calm = record {
+  begin = begin_keeps_calm;
+  step = λ c history seat below flying h. step_keeps_calm c history seat below h;
+}

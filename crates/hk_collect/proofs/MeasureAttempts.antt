@@ -337,7 +337,7 @@ module _ (c : State) (history : History) (h : Lawful c history) (i : ℕ) where
       let place = table.moved_to g c.spot + 1 + i in
       let writes = event.Write (space_at g place) c.spot.cell in
       let kept = word_kept c.row writes (header_at g (moved_number c.spot)) 0 (λ e. absurd (omega arith)) ∙ same in
-      then_untouched c (line.Cell i stage.Write) (Some writes) at refl 
+      then_untouched c (line.Cell i stage.Write) (Some writes) at refl
       (after_cell_untouched (record c { row = fired_if c.row (Some writes); spot = took_at_line g c.spot (learnt c.row (Some writes)) (line.Cell i stage.Write) }) c.spot i kept)
   cell_keeps stage.Mark at same = absurd (cell_knows stage.Mark at).staged
   cell_keeps stage.Empty at same = absurd (cell_knows stage.Empty at).staged

@@ -238,11 +238,11 @@ module _ (c : State) (history : History) (s : ℕ) (below : s < tasks c.geometry
               ];
             }
         | inr claimed ↦ calm_each g w w' refl (λ k inside. elim (cases_eq k n) [
-            | inl here ↦
-                let most : max (w.mark n) cycle ≡ w.mark n = omega arith in
-                ap (upd w.mark n (max (w.mark n) cycle)) here ∙ upd_same w.mark n (max (w.mark n) cycle) ∙ most ∙ ap w.mark (sym here)
-            | inr other ↦ upd_other w.mark n (max (w.mark n) cycle) k other
-          ]) (λ k inside. refl)
+          | inl here ↦
+              let most : max (w.mark n) cycle ≡ w.mark n = omega arith in
+              ap (upd w.mark n (max (w.mark n) cycle)) here ∙ upd_same w.mark n (max (w.mark n) cycle) ∙ most ∙ ap w.mark (sym here)
+          | inr other ↦ upd_other w.mark n (max (w.mark n) cycle) k other
+        ]) (λ k inside. refl)
       ]
     where
       no_place : (place mark cycle : ℕ) → mark < cycle → (not (nat_eq place 0) && nat_lt mark cycle) ≡ false → place ≡ 0

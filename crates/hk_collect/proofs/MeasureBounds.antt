@@ -1,6 +1,7 @@
 -- In a lawful state the bound of the spot is at most that of a whole cycle.
-use Rattle.std.proofs.Common.{◌≡◌, ℕ, ◌+◌, ◌-◌, ◌*◌, ◌/◌, ◌<◌, ◌≤◌, true, false, inl, inr, refl, sym, ◌∙◌, ap, arith, Some}
+use Rattle.std.proofs.Common.{◌≡◌, ℕ, ◌+◌, ◌-◌, ◌*◌, ◌/◌, ◌<◌, ◌≤◌, true, false, inl, inr, refl, sym, ◌∙◌, ap, arith, Option, None, Some}
 use Rattle.std.proofs.lemmas.Nat.{mul-le}
+use Rattle.std.specs.Prelude.{is_some}
 use Rattle.hk_words.specs.declared.geometry.Geometry.{Geometry}
 use Rattle.hk_words.specs.Geometry.{tasks, numbers, list_length, space_words}
 use Rattle.hk_words.specs.Layout as layout
@@ -13,7 +14,7 @@ use Rattle.hk_core.specs.declared.spot.Stage.TheVariants as stage
 use Rattle.hk_core.specs.State.{State}
 use Rattle.hk_core.specs.Step.{reference_size}
 use Rattle.hk_core.specs.Collect.{next_list}
-use Rattle.hk_core.specs.View.{words_of, names_of, contents_of, flight_at, begun_at, size_at, reference_at}
+use Rattle.hk_core.specs.View.{words_of, names_of, contents_of, flight_at, begun_at, Names, size_at, refs_at, nums_at, reference_at}
 use Rattle.hk_core.specs.Lines as l
 use Rattle.hk_core.specs.Colours.{spaces_of, shades_of}
 use Rattle.hk_core.specs.Lawful.{Lawful}
@@ -23,7 +24,7 @@ use Rattle.hk_core.proofs.kinds.WriteCell.{reference_parts, size_of_reference, s
 use Rattle.hk_core.proofs.kinds.SpotLines.{AtItem, AtCell, AtFrameTrade, AtObjectTrade, at_frame_trade, at_object_trade}
 use Rattle.hk_core.proofs.kinds.SpotLoads.{work_at}
 use Rattle.hk_core.proofs.kinds.SpotLoadsCells.{IsItem, item_known}
-use Rattle.hk_collect.specs.Measure.{frame_events, most_for_frames, most_for_scan, most_for_pass, most_for_sweep, most_for_clearing, most_in_sweep, most_useful_at, most_useful, cycle_bound}
+use Rattle.hk_collect.specs.Measure.{frame_events, most_for_frames, most_for_scan, most_for_pass, most_for_sweep, most_for_clearing, most_in_sweep, most_useful_at, most_useful, cycle_bound, MovesBirth}
 use Rattle.hk_collect.proofs.MeasureAttempts.{register_knows, cell_knows}
 
 -- NUMBERS
@@ -214,3 +215,53 @@ module _ (c : State) (history : History) (h : Lawful c history) where
   pub bound_is_cycle : most_useful c.geometry c.spot ≤ cycle_bound c.geometry
   unfolding most_useful
   bound_is_cycle = bound_at c.spot.line refl
+
+-- THE OBJECT THAT IS MOVED IS A BIRTH
+
+a_birth : (o : Option ℕ) → is_some o ≡ true → (b : ℕ) × (o ≡ Some b)
+a_birth None some = absurd (cc)
+a_birth (Some b) some = (b, refl)
+
+words_borne : (names : Names) (n b : ℕ) → names.bearer n ≡ Some b → size_at names n ≡ 1 + names.refs b + names.nums b
+unfolding size_at refs_at nums_at
+words_borne names n b e = rw e refl
+
+-- what is said of a line on which there is such an object
+item_line : (ln : Line) → l.has_item ln ≡ true → l.is_at_range ln ≡ true
+unfolding l.has_item l.is_at_range
+item_line line.Rest e = absurd (cc)
+item_line (line.Frame s) e = absurd (cc)
+item_line (line.Register s r stage) e = absurd (cc)
+item_line (line.FrameTrade s) e = absurd (cc)
+item_line line.Scan e = absurd (cc)
+item_line line.Link e = absurd (cc)
+item_line line.Look e = refl
+item_line (line.Cell i stage) e = refl
+item_line line.ObjectTrade e = refl
+item_line (line.Pass n) e = absurd (cc)
+item_line (line.PassHead n) e = absurd (cc)
+item_line (line.Sweep n stage) e = absurd (cc)
+item_line (line.Clear i) e = absurd (cc)
+item_line line.Reset e = absurd (cc)
+
+pub objects_are_births : (c : State) (history : History) → Lawful c history → l.has_item c.spot.line ≡ true → (birth : ℕ) × MovesBirth c history birth
+objects_are_births c history h item =
+    let g = c.geometry in
+    let w = words_of g c.row in
+    let names = names_of g history in
+    let sh = shades_of g w (flight_at c) c.spot.line names in
+    let found = h.facts.scan_at_range (item_line c.spot.line item) in
+    let link = h.facts.item_is_linked item in
+    let k = found.0 in
+    let kept : sh.kept k ≡ true = (h.facts.ranges_above_grey c.spot.scan k found.1 (omega arith)).0 in
+    let shows : c.spot.item ≡ reference_at names k = elim (h.facts.ranges_linked c.spot.scan k found.1 found.2) [
+      | inl unlinked ↦ absurd (link.0 (sym link.1 ∙ unlinked))
+      | inr linked ↦ sym link.1 ∙ linked
+    ] in
+    let means = kept_means g w (flight_at c) c.spot.line names k kept in
+    let parts = reference_parts g names k c.spot.item means.within (shapes_fit g history) shows in
+    let born = a_birth (names.bearer k) means.is_born in
+    (born.0, record {
+      bears = ap names.bearer parts.0 ∙ born.1;
+      words = size_of_reference names k c.spot.item parts.1 parts.2 ∙ words_borne names k born.0 born.1;
+    })

@@ -16,7 +16,7 @@ use Rattle.hk_core.specs.declared.spot.Line.TheVariants as line
 use Rattle.hk_core.specs.declared.spot.Stage.{Stage}
 use Rattle.hk_core.specs.declared.spot.Stage.TheVariants as stage
 use Rattle.hk_core.specs.Event.{fired_if, learnt}
-use Rattle.hk_core.specs.State.{State}
+use Rattle.hk_core.specs.State.{State, opening, opening_spot}
 use Rattle.hk_core.specs.Step.{reference_size}
 use Rattle.hk_core.specs.Collect as table
 use Rattle.hk_core.specs.Collect.{current_space, old_space, event_at_line, took_at_line, work_at_line, next_collected, work_by_collector, moved_number, moved_to}
@@ -399,3 +399,8 @@ module _ (c : State) (history : History) (useful : ℕ) (h : Lawful c history) (
 
   pub collector_is_measured : KeepsMeasure c useful
   collector_is_measured = by_line c.spot.line refl
+
+-- the opening state is calm: the collector rests
+pub opening_is_calm : (g : Geometry) → IsCalm (opening g)
+unfolding opening opening_spot l.passing
+opening_is_calm g = no_pass (opening g) refl

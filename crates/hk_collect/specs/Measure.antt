@@ -15,12 +15,12 @@ use Rattle.hk_core.specs.declared.spot.Stage.{Stage}
 use Rattle.hk_core.specs.declared.spot.Stage.TheVariants as stage
 use Rattle.hk_core.specs.declared.spot.Work.{Work}
 use Rattle.hk_core.specs.declared.spot.Work.TheVariants.{Useful, Flipped, Lost, BusyFrame, BusyObject, Unlinked, Grey, LiveOver, Worn}
-use Rattle.hk_core.specs.State.{State, flight_of}
+use Rattle.hk_core.specs.State.{State, flight_of, opening}
 use Rattle.hk_core.specs.Step.{reference_size, next}
 use Rattle.hk_core.specs.Begin.{after_begin}
 use Rattle.hk_core.specs.Collect.{moved_number, next_collected, work_by_collector}
-use Rattle.hk_core.specs.View.{Words, words_of}
-use Rattle.hk_core.specs.Lines.{passing}
+use Rattle.hk_core.specs.View.{Words, words_of, names_of}
+use Rattle.hk_core.specs.Lines.{passing, has_item}
 use Rattle.hk_core.specs.Colours.{spaces_of, grey_by}
 use Rattle.hk_core.specs.Lawful.{Lawful}
 
@@ -200,6 +200,10 @@ pub record SeatsKeepCalm : Type 0 where
   pub step : (c : State) (history : History) (seat : ℕ) → seat < tasks c.geometry → 1 ≤ (flight_of c.flights seat).place
       → Lawful c history → KeepsCalm c (next c seat)
 
+-- the opening state is calm
+abbrev pub OpeningIsCalm : Type 0
+OpeningIsCalm = (g : Geometry) → IsCalm (opening g)
+
 -- the bound of a spot is at most that of a whole cycle
 abbrev pub BoundIsCycle : Type 0
 BoundIsCycle = (c : State) (history : History) → Lawful c history → most_useful c.geometry c.spot ≤ cycle_bound c.geometry
@@ -230,3 +234,11 @@ LostClosesAttempt = (c : State) (lost : ℕ) → work_by_collector c ≡ Lost lo
 abbrev pub LostIsBounded : Type 0
 LostIsBounded = (c : State) (history : History) (lost : ℕ) → Lawful c history → work_by_collector c ≡ Lost lost
     → lost ≤ max (frame_events c.geometry) (object_events (reference_size c.spot.item))
+
+-- and that object is one of the plain heap: a birth bears its number, and has its words
+pub record MovesBirth (c : State) (history : History) (birth : ℕ) : Type 0 where
+  pub bears : (names_of c.geometry history).bearer (moved_number c.spot) ≡ Some birth
+  pub words : reference_size c.spot.item ≡ 1 + (names_of c.geometry history).refs birth + (names_of c.geometry history).nums birth
+
+abbrev pub ObjectsAreBirths : Type 0
+ObjectsAreBirths = (c : State) (history : History) → Lawful c history → has_item c.spot.line ≡ true → (birth : ℕ) × MovesBirth c history birth

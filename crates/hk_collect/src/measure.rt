@@ -1,10 +1,11 @@
 //! Laws of the measure of a cycle and of attempts, over definitions alone.
-ghost use Rattle.hk_collect.specs.Measure.{CollectorIsMeasured, SeatsKeepCalm, BoundIsCycle, UntouchedOutside, EventKeepsUntouched, AttemptSucceeds, LostClosesAttempt, LostIsBounded};
+ghost use Rattle.hk_collect.specs.Measure.{CollectorIsMeasured, SeatsKeepCalm, OpeningIsCalm, BoundIsCycle, UntouchedOutside, EventKeepsUntouched, AttemptSucceeds, LostClosesAttempt, LostIsBounded, ObjectsAreBirths};
 
 /// Where no call is in mid-course, the useful events of a cycle are at most the bound of the spot, and no event waits for
 /// anybody; begins and steps of the seats in between leave that bound as it is. It is at most the bound of a cycle.
 pub fn measured_cycle()
     ensures measured { CollectorIsMeasured }
+    ensures opening { OpeningIsCalm }
     ensures calm { SeatsKeepCalm }
     ensures cycle { BoundIsCycle }
 {}
@@ -17,4 +18,5 @@ pub fn untouched_attempts()
     ensures succeeds { AttemptSucceeds }
     ensures closes { LostClosesAttempt }
     ensures bounded { LostIsBounded }
+    ensures births { ObjectsAreBirths }
 {}

@@ -1,4 +1,5 @@
 use Rattle.hk_collect.proofs.MeasureAttempts.{untouched_outside, event_keeps_untouched, attempt_succeeds, lost_closes_attempt, lost_is_bounded}
+use Rattle.hk_collect.proofs.MeasureBounds.{objects_are_births}
 use Rattle.hk_collect.proofs.measure.untouched_attempts.Goals as goal
 
 pub returns-clause-outside : goal.returns-clause-outside
@@ -15,3 +16,6 @@ returns-clause-closes c = lost_closes_attempt
 
 pub returns-clause-bounded : goal.returns-clause-bounded
 returns-clause-bounded c = lost_is_bounded
+
+pub returns-clause-births : goal.returns-clause-births
+returns-clause-births c = objects_are_births

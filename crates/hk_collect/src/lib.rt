@@ -6,6 +6,8 @@ mod checks;
 mod decide;
 mod follow;
 mod measure;
+#[cfg(test)]
+mod measured;
 mod step;
 #[cfg(test)]
 mod walk;

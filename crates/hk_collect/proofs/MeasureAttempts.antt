@@ -1,13 +1,12 @@
 -- Attempts of the collector. Its own events in an attempt are on other words than the one that the attempt loaded, so that
 -- word is untouched as long as no task took a step; and the exchange that finds it isn't lost.
 use Rattle.std.proofs.Common.{◌≡◌, ◌≢◌, ℕ, ◌+◌, ◌-◌, ◌*◌, ◌<◌, ◌≤◌, Bool, true, false, List, inl, inr, refl, sym, ◌∙◌, ap, arith, Option, Some, get_or, get_or-set_other}
-use Rattle.std.proofs.lemmas.Bool.{eqb-false}
+use Rattle.std.proofs.lemmas.Bool.{cases_Bool, eqb-false}
 use Rattle.std.specs.Prelude.{max, nat_eq, nat_lt, if◌then◌else◌}
 use Rattle.hk_words.specs.declared.geometry.Geometry.{Geometry}
-use Rattle.hk_words.specs.Geometry.{tasks, numbers, frames_from, spaces_from}
+use Rattle.hk_words.specs.Geometry.{tasks, numbers}
 use Rattle.hk_words.specs.Layout as layout
-use Rattle.hk_words.specs.Row.{Slot, index_of, word_of, w1_at, header_at, mark_at, frame_at, register_at, space_at, place_at}
-use Rattle.hk_words.specs.Row.Slot.{Header, Frame}
+use Rattle.hk_words.specs.Row.{w1_at, header_at, mark_at, frame_at, register_at, space_at, place_at}
 use Rattle.hk_model.specs.History.{History}
 use Rattle.hk_core.specs.declared.event.Event.{Event}
 use Rattle.hk_core.specs.declared.event.Event.TheVariants as event
@@ -34,7 +33,7 @@ use Rattle.hk_core.proofs.kinds.Seats.{kept_means}
 use Rattle.hk_core.proofs.kinds.SpotLines.{AtRegister, AtCell, at_register, at_cell}
 use Rattle.hk_core.proofs.kinds.SpotLoads.{work_at, took_at}
 use Rattle.hk_core.proofs.kinds.SpotLoadsCells.{IsItem, item_known}
-use Rattle.hk_collect.specs.Measure.{frame_events, object_events, in_attempt, FrameUntouched, ObjectUntouched, UntouchedAt, IsUntouched, ClosesAttempt}
+use Rattle.hk_collect.specs.Measure.{frame_events, object_events, in_attempt, FrameUntouched, ObjectUntouched, UntouchedAt, IsUntouched, ClosesAttempt, useful_after, least_useful, CountsAttempt}
 
 never : {A : Type 0} → true ≡ false → A
 never e = absurd (cc)
@@ -452,3 +451,103 @@ lost_is_bounded c history lost h e = each c.spot.line refl (loss_of c lost e)
     each _ at (of_object other spent) =
         let few : c.spot.spent ≤ 1 + 5 * (reference_size c.spot.item - 1) = h.facts.spent_bounded (1 + 5 * (reference_size c.spot.item - 1)) (rw at refl) in
         omega arith
+
+-- THE EVENTS OF AN OPEN ATTEMPT
+
+spent_least : (t : Spot) → least_useful t ≤ t.spent
+spent_least t = elim (cases_Bool (in_attempt t.line)) [ inl inside ↦ rw inside (omega arith) | inr outside ↦ rw outside (omega arith) ]
+
+spent_inside : (t : Spot) → in_attempt t.line ≡ true → least_useful t ≡ t.spent
+spent_inside t inside = rw inside refl
+
+none_outside : (t : Spot) (n : ℕ) → in_attempt t.line ≡ false → least_useful t ≤ n
+none_outside t n outside = rw outside (omega arith)
+
+module _ (g : Geometry) (t : Spot) (old : ℕ) where
+  register_spends : (s r : ℕ) (stage : Stage) → (took_at_line g t old (line.Register s r stage)).spent ≤ t.spent + 1
+  unfolding took_at_line table.register_took
+  register_spends s r stage.Read = omega arith
+  register_spends s r stage.Claim = omega arith
+  register_spends s r stage.Reserve = omega arith
+  register_spends s r stage.Tie = omega arith
+  register_spends s r stage.Write = omega arith
+  register_spends s r stage.Mark = omega arith
+  register_spends s r stage.Empty = omega arith
+
+  cell_spends : (i : ℕ) (stage : Stage) → (took_at_line g t old (line.Cell i stage)).spent ≤ t.spent + 1
+  unfolding took_at_line table.cell_took
+  cell_spends i stage.Read = omega arith
+  cell_spends i stage.Claim = omega arith
+  cell_spends i stage.Reserve = omega arith
+  cell_spends i stage.Tie = omega arith
+  cell_spends i stage.Write = omega arith
+  cell_spends i stage.Mark = omega arith
+  cell_spends i stage.Empty = omega arith
+
+  -- the first event of an attempt is useful
+  frame_opens_with : (s useful : ℕ) → t.line ≡ line.Frame s → least_useful (took_at_line g t old (line.Frame s)) ≤ useful_after (work_at_line g t old (line.Frame s)) useful
+  unfolding took_at_line table.frame_took work_at_line table.frame_work in_attempt
+  frame_opens_with s useful at = elim (cases_Bool (nat_lt 0 (layout.frame_accessors old))) [
+    | inl busy ↦ rw busy (rw at (omega arith))
+    | inr free ↦ rw free (omega arith)
+  ]
+
+  object_opens_with : (useful : ℕ) → t.line ≡ line.Look → least_useful (took_at_line g t old line.Look) ≤ useful_after (work_at_line g t old line.Look) useful
+  unfolding took_at_line table.look_took work_at_line table.look_work in_attempt
+  object_opens_with useful at = elim (cases_Bool (nat_lt 0 (layout.header_accessors old))) [
+    | inl busy ↦ rw busy (rw at (omega arith))
+    | inr free ↦ rw free (omega arith)
+  ]
+
+-- a loss: its events, and that the attempt is open
+loss_events : (c : State) (lost : ℕ) → work_by_collector c ≡ Lost lost → (work_by_collector c ≡ Lost lost) × (lost ≡ c.spot.spent + 1) × (in_attempt c.spot.line ≡ true)
+unfolding in_attempt
+loss_events c lost e = each c.spot.line refl (loss_of c lost e)
+  where
+    each : (ln : Line) → c.spot.line ≡ ln → IsLoss c.geometry c.spot (found_by_collector c) lost ln → (work_by_collector c ≡ Lost lost) × (lost ≡ c.spot.spent + 1) × (in_attempt c.spot.line ≡ true)
+    each _ at (of_frame s other spent) = (e, spent, (rw at refl))
+    each _ at (of_object other spent) = (e, spent, (rw at refl))
+
+pub attempts_are_counted : (c : State) (useful : ℕ) → least_useful c.spot ≤ useful → CountsAttempt c useful
+unfolding in_attempt work_at_line
+attempts_are_counted c useful few = record {
+  least = each c.spot.line refl;
+  taken_away = λ lost e. taken (loss_events c lost e);
+}
+  where
+    after : (ln : Line) → c.spot.line ≡ ln
+        → least_useful (took_at_line c.geometry c.spot (learnt c.row (event_at_line c.geometry c.spot ln)) ln) ≤ useful_after (work_at_line c.geometry c.spot (learnt c.row (event_at_line c.geometry c.spot ln)) ln) useful
+        → least_useful (next_collected c).spot ≤ useful_after (work_by_collector c) useful
+    after ln at least = rw (after_at c ln (event_at_line c.geometry c.spot ln) at refl, work_after c ln (event_at_line c.geometry c.spot ln) at refl) least
+
+    closed : (ln : Line) → c.spot.line ≡ ln → in_attempt (took_at_line c.geometry c.spot (learnt c.row (event_at_line c.geometry c.spot ln)) ln).line ≡ false
+        → least_useful (next_collected c).spot ≤ useful_after (work_by_collector c) useful
+    closed ln at e = none_outside (next_collected c).spot _ (closed_after c ln at e)
+
+    -- one more event of an open attempt
+    further : (useful' : ℕ) (next : Spot) → next.spent ≤ c.spot.spent + 1 → least_useful c.spot ≡ c.spot.spent → useful' ≡ useful + 1 → least_useful next ≤ useful'
+    further useful' next more inside same = let least = spent_least next in omega arith
+
+    each : (ln : Line) → c.spot.line ≡ ln → least_useful (next_collected c).spot ≤ useful_after (work_by_collector c) useful
+    each line.Rest at = closed line.Rest at (rest_outside c.geometry c.spot _ at)
+    each (line.Frame s) at = after (line.Frame s) at (frame_opens_with c.geometry c.spot _ s useful at)
+    each (line.Register s r stage) at = after (line.Register s r stage) at
+        (further (useful + 1) (took_at_line c.geometry c.spot (learnt c.row (event_at_line c.geometry c.spot (line.Register s r stage))) (line.Register s r stage)) (register_spends c.geometry c.spot _ s r stage) (spent_inside c.spot (ap in_attempt at)) refl)
+    each (line.FrameTrade s) at = closed (line.FrameTrade s) at (frame_trade_outside c.geometry c.spot _ s)
+    each line.Scan at = closed line.Scan at (scan_outside c.geometry c.spot _ at)
+    each line.Link at = closed line.Link at (link_outside c.geometry c.spot _)
+    each line.Look at = after line.Look at (object_opens_with c.geometry c.spot _ useful at)
+    each (line.Cell i stage) at = after (line.Cell i stage) at
+        (further (useful + 1) (took_at_line c.geometry c.spot (learnt c.row (event_at_line c.geometry c.spot (line.Cell i stage))) (line.Cell i stage)) (cell_spends c.geometry c.spot _ i stage) (spent_inside c.spot (ap in_attempt at)) refl)
+    each line.ObjectTrade at = closed line.ObjectTrade at (object_trade_outside c.geometry c.spot _)
+    each (line.Pass n) at = closed (line.Pass n) at (pass_outside c.geometry c.spot _ n)
+    each (line.PassHead n) at = closed (line.PassHead n) at (pass_head_outside c.geometry c.spot _ n)
+    each (line.Sweep n stage) at = closed (line.Sweep n stage) at (sweep_outside c.geometry c.spot _ n stage at)
+    each (line.Clear i) at = closed (line.Clear i) at (clear_outside c.geometry c.spot _ i)
+    each line.Reset at = closed line.Reset at (reset_outside c.geometry c.spot _)
+
+    taken : {lost : ℕ} → (work_by_collector c ≡ Lost lost) × (lost ≡ c.spot.spent + 1) × (in_attempt c.spot.line ≡ true) → useful_after (work_by_collector c) useful + lost ≡ useful + 1
+    taken o =
+        let inside : least_useful c.spot ≡ c.spot.spent = spent_inside c.spot o.2 in
+        let spent = o.1 in
+        rw o.0 (omega arith)

@@ -2,11 +2,8 @@
 use Rattle.std.proofs.Common.{◌≡◌, ℕ, ◌+◌, ◌-◌, ◌*◌, ◌/◌, ◌<◌, ◌≤◌, true, false, inl, inr, refl, sym, ◌∙◌, ap, arith, Option, None, Some}
 use Rattle.std.proofs.lemmas.Nat.{mul-le}
 use Rattle.std.specs.Prelude.{is_some}
-use Rattle.hk_words.specs.declared.geometry.Geometry.{Geometry}
-use Rattle.hk_words.specs.Geometry.{tasks, numbers, list_length, space_words}
-use Rattle.hk_words.specs.Layout as layout
+use Rattle.hk_words.specs.Geometry.{tasks, list_length, space_words}
 use Rattle.hk_model.specs.History.{History}
-use Rattle.hk_core.specs.declared.spot.Spot.{Spot}
 use Rattle.hk_core.specs.declared.spot.Line.{Line}
 use Rattle.hk_core.specs.declared.spot.Line.TheVariants as line
 use Rattle.hk_core.specs.declared.spot.Stage.{Stage}
@@ -21,10 +18,9 @@ use Rattle.hk_core.specs.Lawful.{Lawful}
 use Rattle.hk_core.proofs.Inside.{shapes_fit}
 use Rattle.hk_core.proofs.kinds.Seats.{kept_means}
 use Rattle.hk_core.proofs.kinds.WriteCell.{reference_parts, size_of_reference, shades_mean}
-use Rattle.hk_core.proofs.kinds.SpotLines.{AtItem, AtCell, AtFrameTrade, AtObjectTrade, at_frame_trade, at_object_trade}
+use Rattle.hk_core.proofs.kinds.SpotLines.{AtItem, at_object_trade}
 use Rattle.hk_core.proofs.kinds.SpotLoads.{work_at}
-use Rattle.hk_core.proofs.kinds.SpotLoadsCells.{IsItem, item_known}
-use Rattle.hk_collect.specs.Measure.{frame_events, most_for_frames, most_for_scan, most_for_pass, most_for_sweep, most_for_clearing, most_in_sweep, most_useful_at, most_useful, cycle_bound, MovesBirth}
+use Rattle.hk_collect.specs.Measure.{frame_events, most_for_sweep, most_in_sweep, most_useful_at, most_useful, cycle_bound, MovesBirth}
 use Rattle.hk_collect.proofs.MeasureAttempts.{register_knows, cell_knows}
 
 -- NUMBERS
@@ -260,8 +256,10 @@ objects_are_births c history h item =
     ] in
     let means = kept_means g w (flight_at c) c.spot.line names k kept in
     let parts = reference_parts g names k c.spot.item means.within (shapes_fit g history) shows in
-    let born = a_birth (names.bearer k) means.is_born in
-    (born.0, record {
-      bears = ap names.bearer parts.0 ∙ born.1;
-      words = size_of_reference names k c.spot.item parts.1 parts.2 ∙ words_borne names k born.0 born.1;
-    })
+    let born = a_birth (names.bearer k) means.is_born in (
+      born.0,
+      record {
+        bears = ap names.bearer parts.0 ∙ born.1;
+        words = size_of_reference names k c.spot.item parts.1 parts.2 ∙ words_borne names k born.0 born.1;
+      },
+    )

@@ -1,17 +1,15 @@
 -- What a lawful state says where no call is in mid-course: nobody is inside a frame or an object, nobody has a claim in hand,
 -- so no link word is missing; and where all that is reserved was scanned, no number is grey.
-use Rattle.std.proofs.Common.{◌≡◌, ◌≢◌, ℕ, zero, suc, ◌+◌, ◌*◌, ◌<◌, ◌≤◌, Bool, true, false, inl, inr, refl, sym, ◌∙◌, arith, Some}
+use Rattle.std.proofs.Common.{◌≡◌, ◌≢◌, ℕ, zero, suc, ◌+◌, ◌<◌, ◌≤◌, Bool, true, false, inl, inr, refl, sym, ◌∙◌, arith, Some}
 use Rattle.std.proofs.lemmas.Bool.{cases_Bool, ltb-true}
-use Rattle.std.specs.Prelude.{nat_lt, ◌&&◌, if◌then◌else◌}
+use Rattle.std.specs.Prelude.{nat_lt}
 use Rattle.hk_words.specs.declared.geometry.Geometry.{Geometry}
 use Rattle.hk_words.specs.declared.call.Call.{Call}
 use Rattle.hk_words.specs.declared.call.Call.TheVariants as call
 use Rattle.hk_words.specs.Geometry.{tasks, numbers}
-use Rattle.hk_words.specs.Layout as layout
 use Rattle.hk_model.specs.History.{History}
 use Rattle.hk_core.specs.declared.flight.Flight.{Flight}
 use Rattle.hk_core.specs.State.{State}
-use Rattle.hk_core.specs.Step.{reserved_fits}
 use Rattle.hk_core.specs.Counts.{count_below}
 use Rattle.hk_core.specs.View.{words_of, names_of, flight_at}
 use Rattle.hk_core.specs.Flights as f

@@ -1,14 +1,12 @@
 -- With no call in mid-course each event of the collector keeps to the measure, and keeps a calm state calm.
-use Rattle.std.proofs.Common.{◌≡◌, ◌≢◌, ℕ, ◌+◌, ◌-◌, ◌*◌, ◌%◌, ◌<◌, ◌≤◌, Bool, true, false, List, inl, inr, refl, sym, ◌∙◌, ap, arith, Option, Some, None}
+use Rattle.std.proofs.Common.{◌≡◌, ◌≢◌, ℕ, ◌+◌, ◌-◌, ◌*◌, ◌<◌, ◌≤◌, Bool, true, false, inl, inr, refl, sym, ◌∙◌, ap, arith, Option, Some, None}
 use Rattle.std.proofs.lemmas.Bool.{cases_Bool, ltb-false, eqb-true, le-leb, lt-ltb, and_parts, and_from, leb-true, ltb-true, eq-eqb}
-use Rattle.std.specs.Prelude.{nat_eq, nat_lt, nat_le, ◌&&◌, if◌then◌else◌}
+use Rattle.std.specs.Prelude.{nat_eq, nat_lt, nat_le, if◌then◌else◌}
 use Rattle.hk_words.specs.declared.geometry.Geometry.{Geometry}
 use Rattle.hk_words.specs.Geometry.{tasks, numbers, list_length, space_words}
 use Rattle.hk_words.specs.Layout as layout
-use Rattle.hk_words.specs.Row.{word_of, w1_at, header_at, mark_at, frame_at, space_at, place_at}
-use Rattle.hk_words.specs.Row.Slot.{Header, Mark, Frame}
+use Rattle.hk_words.specs.Row.{w1_at, header_at, mark_at, place_at}
 use Rattle.hk_model.specs.History.{History}
-use Rattle.hk_core.specs.declared.event.Event.{Event}
 use Rattle.hk_core.specs.declared.event.Event.TheVariants as event
 use Rattle.hk_core.specs.declared.spot.Spot.{Spot}
 use Rattle.hk_core.specs.declared.spot.Line.{Line}
@@ -20,12 +18,11 @@ use Rattle.hk_core.specs.State.{State, opening, opening_spot}
 use Rattle.hk_core.specs.Step.{reference_size}
 use Rattle.hk_core.specs.Collect as table
 use Rattle.hk_core.specs.Collect.{current_space, old_space, event_at_line, took_at_line, work_at_line, next_collected, work_by_collector, moved_number, moved_to}
-use Rattle.hk_core.specs.Flights.{no_claim}
 use Rattle.hk_core.specs.View.{words_of, decoded, names_of, contents_of, flight_at, begun_at}
 use Rattle.hk_core.specs.Lines as l
 use Rattle.hk_core.specs.Colours.{spaces_of, shades_of}
 use Rattle.hk_core.specs.Lawful.{Lawful}
-use Rattle.hk_core.proofs.Columns.{raw_header, raw_mark, raw_frame}
+use Rattle.hk_core.proofs.Columns.{raw_header, raw_frame}
 use Rattle.hk_core.proofs.Inside.{shapes_fit}
 use Rattle.hk_core.proofs.kinds.Seats.{kept_means}
 use Rattle.hk_core.proofs.kinds.LoadRead.{found-cell, some_words}
@@ -34,8 +31,8 @@ use Rattle.hk_core.proofs.kinds.SpotLines.{AtRange, AtItem, at_link, at_look}
 use Rattle.hk_core.proofs.kinds.SpotLoads.{work_at}
 use Rattle.hk_core.proofs.kinds.SpotLoadsCells.{IsItem, item_known}
 use Rattle.hk_core.proofs.kinds.SpotLoadsRow.{found-reserved, found-frame, found-header, found-mark, space_ends}
-use Rattle.hk_collect.specs.Measure.{most_useful_at, most_useful, useful_after, WaitsForNobody, NoneInFlight, IsCalm, KeepsMeasure, is_grey, is_grey_by}
-use Rattle.hk_collect.proofs.MeasureAttempts.{event_at, found_at, after_at, work_after, load_kept, register_knows, cell_knows}
+use Rattle.hk_collect.specs.Measure.{most_useful_at, most_useful, NoneInFlight, IsCalm, KeepsMeasure, is_grey}
+use Rattle.hk_collect.proofs.MeasureAttempts.{after_at, work_after, load_kept, register_knows, cell_knows}
 use Rattle.hk_collect.proofs.MeasureBounds.{scan_fits, fits_at, spent_at, entries_few}
 use Rattle.hk_collect.proofs.MeasureLines.{Counts, rest_counts, frame_counts, register_counts, frame_trade_counts, scan_counts, link_counts, look_counts, cell_counts, object_trade_counts, pass_counts, pass_head_counts, sweep_counts, clear_counts, reset_counts}
 use Rattle.hk_collect.proofs.MeasureCalm.{nobody_in_frame, nobody_in_object, linked, none_grey}

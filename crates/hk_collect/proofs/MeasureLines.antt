@@ -1,5 +1,5 @@
 -- The measure, line by line: with what an event may find where no call is in mid-course, it keeps to the bound of the spot.
-use Rattle.std.proofs.Common.{◌≡◌, ◌≢◌, ℕ, ◌+◌, ◌-◌, ◌*◌, ◌<◌, ◌≤◌, Bool, true, false, inl, inr, refl, sym, ◌∙◌, ap, arith}
+use Rattle.std.proofs.Common.{◌≡◌, ◌≢◌, ℕ, ◌+◌, ◌-◌, ◌*◌, ◌<◌, ◌≤◌, Bool, true, false, inl, inr, refl, ap, arith}
 use Rattle.std.proofs.lemmas.Bool.{cases_Bool, ltb-false, ne_eqb, le-ltb}
 use Rattle.std.specs.Prelude.{nat_eq, nat_lt, if◌then◌else◌}
 use Rattle.hk_words.specs.declared.geometry.Geometry.{Geometry}
@@ -14,7 +14,7 @@ use Rattle.hk_core.specs.Step.{reference_size, reserved_fits}
 use Rattle.hk_core.specs.Collect as table
 use Rattle.hk_core.specs.Collect.{took_at_line, work_at_line}
 use Rattle.hk_core.specs.Lines as l
-use Rattle.hk_collect.specs.Measure.{frame_events, most_for_frames, most_for_scan, most_for_pass, most_for_sweep, most_for_clearing, most_in_sweep, most_useful_at, most_useful, useful_after, WaitsForNobody}
+use Rattle.hk_collect.specs.Measure.{frame_events, most_for_frames, most_for_scan, most_for_pass, most_in_sweep, most_useful_at, most_useful, useful_after, WaitsForNobody}
 use Rattle.hk_collect.proofs.MeasureBounds.{frames_step}
 
 -- an event that finds `old` keeps to the measure, and waits for nobody

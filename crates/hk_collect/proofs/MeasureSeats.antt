@@ -1,8 +1,8 @@
 -- A begin and a step of a seat keep a calm state calm. While the pass goes on, a calm state is settled. Then a claim is of a
 -- number that was claimed before, a new header shows a place of the current space, and no other event of a seat changes the
 -- place of a number or its mark.
-use Rattle.std.proofs.Common.{◌≡◌, ◌≢◌, ℕ, ◌+◌, ◌*◌, ◌%◌, ◌^◌, ◌<◌, ◌≤◌, ◌⊎◌, Bool, true, false, List, inl, inr, refl, sym, ◌∙◌, ap, arith, Option, Some, None}
-use Rattle.std.proofs.lemmas.Bool.{cases_Bool, cases_eq, cases_lt, eqb-true, eqb-false, ne_eqb, lt-leb, le-ltb, lt-ltb, and_from, and_parts, leb-true, ltb-true}
+use Rattle.std.proofs.Common.{◌≡◌, ◌≢◌, ℕ, ◌+◌, ◌<◌, ◌≤◌, Bool, true, false, List, inl, inr, refl, sym, ◌∙◌, ap, arith, Option, Some, None}
+use Rattle.std.proofs.lemmas.Bool.{cases_Bool, cases_eq, cases_lt, eqb-true, eqb-false, ne_eqb, and_parts, leb-true, ltb-true}
 use Rattle.std.proofs.lemmas.Bool.Decides.{nat_tests}
 use Rattle.std.specs.Prelude.{nat_eq, nat_lt, nat_le, not, max, ◌&&◌, if◌then◌else◌}
 use Rattle.hk_words.specs.declared.geometry.Geometry.{Geometry}
@@ -11,7 +11,7 @@ use Rattle.hk_words.specs.declared.call.Call.TheVariants as call
 use Rattle.hk_words.specs.declared.shape.Shape.{Shape}
 use Rattle.hk_words.specs.Geometry.{tasks, numbers, frames_from}
 use Rattle.hk_words.specs.Layout as layout
-use Rattle.hk_words.specs.Row.{w0_at, header_at, mark_at, place_at}
+use Rattle.hk_words.specs.Row.{w0_at, header_at, mark_at}
 use Rattle.hk_words.specs.Shape.{size}
 use Rattle.hk_model.specs.History.{History}
 use Rattle.hk_model.specs.View.{upd}
@@ -27,7 +27,7 @@ use Rattle.hk_core.specs.State.{State}
 use Rattle.hk_core.specs.Begin.{refusal, accepted, begun_or, after_begin}
 use Rattle.hk_core.specs.Step as table
 use Rattle.hk_core.specs.Step.{next, event_by, new_place, side_of, reserved_fits}
-use Rattle.hk_core.specs.View.{Words, words_of, raw, decoded, names_of, flight_at}
+use Rattle.hk_core.specs.View.{Words, words_of, decoded, names_of, flight_at}
 use Rattle.hk_core.specs.Flights as f
 use Rattle.hk_core.specs.Lines as l
 use Rattle.hk_core.specs.Colours.{spaces_of, is_within, white_by, shades_of}
@@ -45,7 +45,7 @@ use Rattle.hk_core.proofs.kinds.Reserve.{reserve_words}
 use Rattle.hk_core.proofs.kinds.NewRaise.{raised_words}
 use Rattle.hk_core.proofs.kinds.NewWords.{headed_words, words-raise, words-new_header, used_fits, objects_fit, new_place_fits}
 use Rattle.hk_core.proofs.kinds.WriteCell.{shades_mean}
-use Rattle.hk_collect.specs.Measure.{is_grey_by, is_grey, IsCalm, KeepsCalm, SeatsKeepCalm}
+use Rattle.hk_collect.specs.Measure.{is_grey_by, IsCalm, KeepsCalm, SeatsKeepCalm}
 use Rattle.hk_collect.proofs.MeasureAttempts.{word_kept}
 use Rattle.hk_collect.proofs.MeasureBounds.{fits_at}
 

@@ -1,7 +1,7 @@
 -- The measure of a cycle, and the attempts of the collector. Tasks may take steps between any two events of the collector;
 -- the laws of the measure are about events at which no call is in mid-course. Then no event waits for anybody, and the
 -- useful events of a cycle are at most a bound that depends on the spot alone, and is largest at the end of the cycle.
-use Rattle.std.specs.Prelude.{◌≡◌, ◌≢◌, ℕ, ◌+◌, ◌-◌, ◌*◌, ◌<◌, ◌≤◌, max, Bool, true, false, ⊤, Option, Some}
+use Rattle.std.specs.Prelude.{◌≡◌, ◌≢◌, ℕ, ◌+◌, ◌-◌, ◌*◌, ◌<◌, ◌≤◌, max, Bool, true, false, ⊤, Some, if◌then◌else◌}
 use Rattle.hk_words.specs.declared.geometry.Geometry.{Geometry}
 use Rattle.hk_words.specs.declared.call.Call.{Call}
 use Rattle.hk_words.specs.Geometry.{tasks, numbers, list_length}
@@ -229,6 +229,17 @@ pub record ClosesAttempt (c : State) : Type 0 where
 
 abbrev pub LostClosesAttempt : Type 0
 LostClosesAttempt = (c : State) (lost : ℕ) → work_by_collector c ≡ Lost lost → ClosesAttempt c
+
+-- the events of an open attempt are among the useful ones of the cycle, and are taken away from them where it is lost
+abbrev pub least_useful : Spot → ℕ
+least_useful t = if in_attempt t.line then t.spent else 0
+
+pub record CountsAttempt (c : State) (useful : ℕ) : Type 0 where
+  pub least : least_useful (next_collected c).spot ≤ useful_after (work_by_collector c) useful
+  pub taken_away : (lost : ℕ) → work_by_collector c ≡ Lost lost → useful_after (work_by_collector c) useful + lost ≡ useful + 1
+
+abbrev pub AttemptsAreCounted : Type 0
+AttemptsAreCounted = (c : State) (useful : ℕ) → least_useful c.spot ≤ useful → CountsAttempt c useful
 
 -- the events of a lost attempt are at most those of an attempt on a frame, or on the object that is moved
 abbrev pub LostIsBounded : Type 0

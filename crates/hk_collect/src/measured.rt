@@ -1,6 +1,5 @@
 //! Walks of the machine beside the measure of a cycle: each call runs whole, between two events of the collector.
-ghost use Rattle.std.specs.Prelude.{◌≡◌, ℕ, ◌<◌};
-ghost use Rattle.hk_words.specs.Geometry.{tasks};
+ghost use Rattle.std.specs.Prelude.{◌<◌};
 
 use crate::checks::{can_collect, can_step, spot_fits};
 use crate::{Work, advance};

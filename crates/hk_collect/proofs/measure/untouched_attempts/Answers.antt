@@ -1,4 +1,4 @@
-use Rattle.hk_collect.proofs.MeasureAttempts.{untouched_outside, event_keeps_untouched, attempt_succeeds, lost_closes_attempt, lost_is_bounded}
+use Rattle.hk_collect.proofs.MeasureAttempts.{untouched_outside, event_keeps_untouched, attempt_succeeds, lost_closes_attempt, attempts_are_counted, lost_is_bounded}
 use Rattle.hk_collect.proofs.MeasureBounds.{objects_are_births}
 use Rattle.hk_collect.proofs.measure.untouched_attempts.Goals as goal
 
@@ -19,3 +19,6 @@ returns-clause-bounded c = lost_is_bounded
 
 pub returns-clause-births : goal.returns-clause-births
 returns-clause-births c = objects_are_births
+
+pub returns-clause-counted : goal.returns-clause-counted
+returns-clause-counted c = attempts_are_counted

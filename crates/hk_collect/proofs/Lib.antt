@@ -4,3 +4,9 @@ pub mod EachLine
 pub mod Causes
 pub mod Running
 pub mod Attempts
+pub mod MeasureAttempts
+pub mod MeasureBounds
+pub mod MeasureLines
+pub mod MeasureCalm
+pub mod MeasureEvents
+pub mod MeasureSeats

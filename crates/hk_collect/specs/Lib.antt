@@ -2,3 +2,4 @@ pub mod SpotFits
 pub mod Works
 pub mod Runs
 pub mod Laws
+pub mod Measure

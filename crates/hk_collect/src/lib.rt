@@ -9,6 +9,9 @@ mod cycles;
 mod decide;
 mod follow;
 mod laws;
+mod measure;
+#[cfg(test)]
+mod measured;
 #[cfg(test)]
 mod walk;
 
@@ -20,3 +23,4 @@ pub use laws::{
     collector_keeps_history, events_are_counted, inside_stays, operations_end, runs_are_lawful,
     runs_give_fresh_numbers,
 };
+pub use measure::{measured_cycle, untouched_attempts};

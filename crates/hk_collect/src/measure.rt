@@ -1,0 +1,25 @@
+//! Laws of the measure of a cycle and of attempts, over definitions alone.
+ghost use Rattle.hk_collect.specs.Measure.{CollectorIsMeasured, SeatsKeepCalm, OpeningIsCalm, BoundIsCycle, UntouchedOutside, EventKeepsUntouched, AttemptSucceeds, LostClosesAttempt, AttemptsAreCounted, LostIsBounded, ObjectsAreBirths};
+
+/// Where no call is in mid-course and the state is calm, the useful events of a cycle are at most the bound of the spot,
+/// and no event waits for anybody. The opening state is calm, and begins, steps and such events keep a state calm; begins
+/// and steps leave the bound as it is. It is at most the bound of a cycle.
+pub fn measured_cycle()
+    ensures measured { CollectorIsMeasured }
+    ensures opening { OpeningIsCalm }
+    ensures calm { SeatsKeepCalm }
+    ensures cycle { BoundIsCycle }
+{}
+
+/// An open attempt whose word nobody touched isn't lost, and the collector itself doesn't touch it. The events of an
+/// attempt are among the useful ones of the cycle, and are taken away where it is lost; then they are at most those of an
+/// attempt on a frame or on the object, which has the words of a birth.
+pub fn untouched_attempts()
+    ensures outside { UntouchedOutside }
+    ensures keeps { EventKeepsUntouched }
+    ensures succeeds { AttemptSucceeds }
+    ensures closes { LostClosesAttempt }
+    ensures counted { AttemptsAreCounted }
+    ensures bounded { LostIsBounded }
+    ensures births { ObjectsAreBirths }
+{}

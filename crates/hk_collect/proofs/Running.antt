@@ -1,21 +1,40 @@
 -- Runs are lawful, and what follows from it: how operations end, what becomes of an object that a call is inside, and that
 -- a New is given a fresh number.
-use Rattle.std.proofs.Common.{◌≡◌, ℕ, Bool, true, false, List, [], ◌∷◌, refl, ◌∙◌, subst, Option, Some, None}
-use Rattle.std.specs.Prelude.{if◌then◌else◌}
+use Rattle.std.proofs.Common.{◌≡◌, ℕ, ◌+◌, ◌<◌, ◌≤◌, Bool, true, false, List, [], ◌∷◌, ◌++◌, length, refl, sym, ◌∙◌, ap, subst, arith, Option, Some, None}
+use Rattle.std.proofs.lemmas.Bool.{and_parts, ltb-true, eqb-true}
+use Rattle.std.proofs.lemmas.Bool.Decides.{nat_tests}
+use Rattle.std.proofs.lemmas.List.Sums.{fold-append}
+use Rattle.std.specs.Prelude.{nat_lt, nat_eq, not, ◌&&◌, if◌then◌else◌}
 use Rattle.hk_words.specs.declared.call.Call.{Call}
+use Rattle.hk_words.specs.declared.call.Call.TheVariants as call
 use Rattle.hk_words.specs.declared.geometry.Geometry.{Geometry}
+use Rattle.hk_words.specs.declared.shape.Shape.{Shape}
+use Rattle.hk_words.specs.Geometry.{tasks}
 use Rattle.hk_model.specs.Heap.{opening_of}
-use Rattle.hk_model.specs.History.{Legal}
+use Rattle.hk_model.specs.History.{History, Legal, is_question}
+use Rattle.hk_core.specs.declared.flight.Flight.{Flight}
 use Rattle.hk_core.specs.declared.outcome.Fault.{Fault}
-use Rattle.hk_core.specs.State.{State, opening}
-use Rattle.hk_core.specs.Step.{next, history_after}
-use Rattle.hk_core.specs.Begin.{refusal, accepted, after_begin, begun_or}
+use Rattle.hk_core.specs.State.{State, IsSized, opening, flight_of}
+use Rattle.hk_core.specs.Step.{places_of, next, history_after}
+use Rattle.hk_core.specs.Begin.{refusal, first_flight, accepted, after_begin, begun_or}
 use Rattle.hk_core.specs.Collect.{next_collected}
-use Rattle.hk_core.specs.Run.{Action, Running, begin, step, collect, act, run, run_from_opening, may_begin, is_busy}
+use Rattle.hk_core.specs.Run.{Action, Running, begin, step, collect, act, run, run_from_opening, may_begin, is_idle, is_busy, registers_fit}
+use Rattle.hk_core.specs.View.{words_of, flight_at}
+use Rattle.hk_core.specs.Flights as f
+use Rattle.hk_core.specs.Colours.{Covers}
+use Rattle.hk_core.specs.Turns.{steps_of, StandsLater}
+use Rattle.hk_core.specs.Inside.{cell_written, IsLeftAlone, size_in, StandsApart}
+use Rattle.hk_core.specs.Fresh.{IsFresh}
 use Rattle.hk_core.proofs.Actions.{IsLawfulRun, lawful_act_begin, lawful_act_step}
+use Rattle.hk_core.proofs.Apart.{stands_apart, writes_own}
 use Rattle.hk_core.proofs.OpeningLawful.{opening_lawful}
+use Rattle.hk_core.proofs.Places.{begins_first, goes_on, ends}
 use Rattle.hk_core.proofs.Seven.{seat_steps}
-use Rattle.hk_collect.proofs.EachLine.{lawful_collected}
+use Rattle.hk_core.proofs.Turns.{stands_later}
+use Rattle.hk_core.proofs.Unused.{number_is_fresh}
+use Rattle.hk_core.proofs.kinds.Enter.{object_of}
+use Rattle.hk_collect.specs.Runs.{StandsAt, entered_number, written_by, IsStepInside}
+use Rattle.hk_collect.proofs.EachLine.{collects, lawful_collected}
 
 -- LAWFUL RUNS
 

@@ -4,7 +4,7 @@ mod Spacing
 mod FaultOrder
 mod Ranges
 mod NameOrder
-mod Validity
+pub mod Validity
 mod Answering
 mod Stages
 pub mod Redeclared
@@ -13,4 +13,3 @@ pub mod Plain
 pub mod Shallow
 pub mod Puts
 pub mod OneAnswer
-pub mod Sound

@@ -1,1 +1,2 @@
 pub mod SpotFits
+pub mod Used

@@ -1,0 +1,106 @@
+-- Which objects the collector and the calls reserve places for: only those that were in use when the cycle began, or that
+-- were made since by a New which had raised W0 before. A run is traced for that: beside the state and its history goes the
+-- history at the last flip, and the births since then whose New raised W0 after it.
+use Rattle.std.specs.Prelude.{◌≡◌, ◌⊎◌, ℕ, ◌<◌, ◌≤◌, nat_eq, Bool, true, false, ◌&&◌, List, [], ◌∷◌, ◌++◌, fold, Contains, Some, if◌then◌else◌}
+use Rattle.hk_words.specs.declared.geometry.Geometry.{Geometry}
+use Rattle.hk_words.specs.Geometry.{tasks, numbers}
+use Rattle.hk_words.specs.Layout.{reference_number}
+use Rattle.hk_model.specs.Heap.{born, opening_of}
+use Rattle.hk_model.specs.History.{History, after, bearer}
+use Rattle.hk_core.specs.declared.spot.Work.{Work}
+use Rattle.hk_core.specs.declared.spot.Work.TheVariants.{Useful, Flipped, Lost, BusyFrame, BusyObject, Unlinked, Grey, LiveOver, Worn}
+use Rattle.hk_core.specs.State.{State, opening, flight_of}
+use Rattle.hk_core.specs.Collect.{next_collected, work_by_collector}
+use Rattle.hk_core.specs.Run.{Action, Running, begin, step, collect, act, is_busy, run_from_opening}
+use Rattle.hk_core.specs.View.{words_of, flight_at}
+use Rattle.hk_core.specs.Flights.{Hand, to_reserve, has_header, cycle_of}
+use Rattle.hk_core.specs.Colours.{spaces_of, grey_by}
+use Rattle.hk_core.specs.Lawful.{Lawful, hands_of}
+use Rattle.hk_core.specs.Reach.{Reached}
+
+-- TRACED RUNS
+
+-- a run, with the history at the last flip, and the births since then whose New raised W0 since then. Before the first
+-- flip the first is empty
+pub record Trace : Type 0 where
+  pub running : Running
+  pub at_flip : History
+  pub young : List ℕ
+
+-- what the collector did was the flip
+abbrev pub is_flip : Work → Bool
+is_flip Useful = false
+is_flip Flipped = true
+is_flip (Lost events) = false
+is_flip (BusyFrame seat) = false
+is_flip (BusyObject number) = false
+is_flip (Unlinked place) = false
+is_flip (Grey number) = false
+is_flip (LiveOver words) = false
+is_flip Worn = false
+
+-- the birth that comes next after a history: the number of the births before it
+abbrev pub next_birth : Geometry → History → ℕ
+next_birth g history = born (after (opening_of g) history)
+
+-- the next step of a seat is the effect of a New that found room, and that raised W0 in the present cycle
+abbrev pub gives_young : State → ℕ → Bool
+gives_young c seat = has_header (flight_of c.flights seat) && nat_eq (cycle_of (flight_of c.flights seat)) (words_of c.geometry c.row).cycle
+
+-- a traced run after an action: the flip begins anew, and the effect of such a New adds its birth
+unfoldable pub trace_act : Trace → Action → Trace
+trace_act r (begin seat call) = record r { running = act r.running (begin seat call) }
+trace_act r (step seat) = record r {
+  running = act r.running (step seat);
+  young = if is_busy r.running.core seat && gives_young r.running.core seat
+      then r.young ++ next_birth r.running.core.geometry r.running.history ∷ [] else r.young;
+}
+trace_act r collect = if is_flip (work_by_collector r.running.core)
+    then record { running = act r.running collect; at_flip = r.running.history; young = [] }
+    else record r { running = act r.running collect }
+
+unfoldable pub trace_opening : Geometry → Trace
+trace_opening g = record { running = record { core = opening g; history = [] }; at_flip = []; young = [] }
+
+-- the traced run of a list of actions from the opening state of a geometry
+unfoldable pub traced : Geometry → List Action → Trace
+traced g actions = fold trace_act (trace_opening g) actions
+
+-- WHAT WAS IN USE
+
+-- a birth is in use since a history: it was reachable in the plain heap then, or was born later
+abbrev pub UsedSince : Geometry → (at_flip : History) → ℕ → Type 0
+UsedSince g at_flip birth = Reached g (after (opening_of g) at_flip) birth ⊎ (next_birth g at_flip ≤ birth)
+
+-- a birth was in use at the last flip, or is of a New that raised W0 before that flip, and took effect after it
+pub record WasUsed (r : Trace) (birth : ℕ) : Type 0 where
+  pub used : UsedSince r.running.core.geometry r.at_flip birth
+  pub not_young : ¬ Contains r.young birth
+
+-- a number is borne by a birth that was in use
+abbrev pub BearsUsed : Trace → ℕ → Type 0
+BearsUsed r n = (birth : ℕ) × (bearer r.running.history n ≡ Some birth) × WasUsed r birth
+
+-- a number was claimed in this cycle and isn't moved yet
+unfoldable pub is_grey : State → ℕ → Bool
+is_grey c n = let w = words_of c.geometry c.row in grey_by (spaces_of c.geometry w.cycle) w.cycle w.place w.mark n
+
+-- THE LAW
+
+-- whatever the collector keeps, a lawful state stays so
+abbrev pub CollectKeepsLawful : Type 0
+CollectKeepsLawful = (c : State) (history : History) → Lawful c history → Lawful (next_collected c) history
+
+-- a traced run is the run
+abbrev pub TracedIsRun : Type 0
+TracedIsRun = (g : Geometry) (actions : List Action) → (traced g actions).running ≡ run_from_opening g actions
+
+-- each number that was claimed in this cycle and isn't moved yet is borne by a birth that was in use
+abbrev pub ClaimedWasUsed : Type 0
+ClaimedWasUsed = (g : Geometry) (actions : List Action) (n : ℕ) → n < numbers g → is_grey (traced g actions).running.core n ≡ true → BearsUsed (traced g actions) n
+
+-- so is each for which a seat, or the collector, which stands behind the seats, has still to reserve a place
+abbrev pub ReservedWasUsed : Type 0
+ReservedWasUsed = (g : Geometry) (actions : List Action) → let c = (traced g actions).running.core in
+    (k item cycle : ℕ) → k ≤ tasks c.geometry → hands_of c.geometry (flight_at c) c.spot k ≡ to_reserve item cycle
+    → BearsUsed (traced g actions) (reference_number item)

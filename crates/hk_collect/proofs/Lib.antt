@@ -1,1 +1,3 @@
 pub mod UsedHeap
+pub mod UsedRows
+pub mod UsedFacts

@@ -17,11 +17,7 @@ use Rattle.hk_model.proofs.Lists.{get_or-set_cases, get_or-changed_row_cases, re
 use Rattle.hk_model.proofs.Updates.{upd_other}
 use Rattle.hk_model.proofs.Views.{of_object-with_link, of_object-with_value, of_object-with_register, of_object-with_object, link-with_object, register-with_link, register-with_value, register-with_object, link_unborn}
 use Rattle.hk_core.specs.Reach.{Reach, Reached, in_register, in_cell}
-
--- what a heap refers to is in use
-pub record Closed (h : Heap) (used : ℕ → Type 0) : Type 0 where
-  pub registers : (s r b : ℕ) → register h s r ≡ Some b → used b
-  pub links : (b i child : ℕ) → used b → i < refs h b → link h b i ≡ Some child → used child
+use Rattle.hk_collect.specs.Used.{Closed}
 
 -- AT THE FLIP
 

@@ -1,19 +1,21 @@
 -- Which objects the collector and the calls reserve places for: only those that were in use when the cycle began, or that
 -- were made since by a New which had raised W0 before. A run is traced for that: beside the state and its history goes the
 -- history at the last flip, and the births since then whose New raised W0 after it.
-use Rattle.std.specs.Prelude.{◌≡◌, ◌⊎◌, ℕ, ◌<◌, ◌≤◌, nat_eq, Bool, true, false, ◌&&◌, List, [], ◌∷◌, ◌++◌, fold, Contains, Some, if◌then◌else◌}
+use Rattle.std.specs.Prelude.{◌≡◌, ◌⊎◌, ℕ, ◌<◌, ◌≤◌, nat_eq, Bool, true, false, ◌&&◌, List, [], ◌∷◌, ◌++◌, fold, Contains, Option, Some, if◌then◌else◌}
 use Rattle.hk_words.specs.declared.geometry.Geometry.{Geometry}
 use Rattle.hk_words.specs.Geometry.{tasks, numbers}
 use Rattle.hk_words.specs.Layout.{reference_number}
-use Rattle.hk_model.specs.Heap.{born, opening_of}
+use Rattle.hk_model.specs.Heap.{Heap, born, register, refs, link, opening_of}
 use Rattle.hk_model.specs.History.{History, after, bearer}
 use Rattle.hk_core.specs.declared.spot.Work.{Work}
 use Rattle.hk_core.specs.declared.spot.Work.TheVariants.{Useful, Flipped, Lost, BusyFrame, BusyObject, Unlinked, Grey, LiveOver, Worn}
+use Rattle.hk_core.specs.declared.spot.Line.{Line}
 use Rattle.hk_core.specs.State.{State, opening, flight_of}
 use Rattle.hk_core.specs.Collect.{next_collected, work_by_collector}
 use Rattle.hk_core.specs.Run.{Action, Running, begin, step, collect, act, is_busy, run_from_opening}
 use Rattle.hk_core.specs.View.{words_of, flight_at}
 use Rattle.hk_core.specs.Flights.{Hand, to_reserve, has_header, cycle_of}
+use Rattle.hk_core.specs.Lines as l
 use Rattle.hk_core.specs.Colours.{spaces_of, grey_by}
 use Rattle.hk_core.specs.Lawful.{Lawful, hands_of}
 use Rattle.hk_core.specs.Reach.{Reached}
@@ -84,6 +86,41 @@ BearsUsed r n = (birth : ℕ) × (bearer r.running.history n ≡ Some birth) × 
 -- a number was claimed in this cycle and isn't moved yet
 unfoldable pub is_grey : State → ℕ → Bool
 is_grey c n = let w = words_of c.geometry c.row in grey_by (spaces_of c.geometry w.cycle) w.cycle w.place w.mark n
+
+-- THE FACTS OF A TRACED RUN, beside those of a lawful state. Each takes the columns that it reads; `used` says which births are in use.
+
+-- The registers of the plain heap hold births in use, and so do the reference cells of these. Without it a call could read
+-- and claim what wasn't in use.
+pub record Closed (h : Heap) (used : ℕ → Type 0) : Type 0 where
+  pub registers : (s r birth : ℕ) → register h s r ≡ Some birth → used birth
+  pub links : (birth i child : ℕ) → used birth → i < refs h birth → link h birth i ≡ Some child → used child
+
+-- a word is null, or the reference of a number that a birth in use bears
+abbrev pub IsUsedWord : (bearer : ℕ → Option ℕ) (used : ℕ → Type 0) → ℕ → Type 0
+IsUsedWord bearer used word = (word ≡ 0) ⊎ ((birth : ℕ) × (bearer (reference_number word) ≡ Some birth) × used birth)
+
+-- During an attempt on a frame its register words name births in use: a register word that a Load has still to write over
+-- may show what wasn't, but the attempt began where no call was inside the frame. Without it the collector could claim what
+-- a register held before the flip.
+abbrev pub AttemptUsed : Geometry → (bearer : ℕ → Option ℕ) (used : ℕ → Type 0) (register : ℕ → ℕ → ℕ) → Line → Type 0
+AttemptUsed g bearer used register line = (s passed r : ℕ) → l.frame_attempt g line ≡ Some (s, passed) → s < tasks g → r < g.registers
+    → IsUsedWord bearer used (register s r)
+
+-- The reference that the collector deals with names a birth in use. Without it the collector could claim another.
+abbrev pub CellUsed : (bearer : ℕ → Option ℕ) (used : ℕ → Type 0) → Line → (cell : ℕ) → Type 0
+CellUsed bearer used line cell = l.has_reference line ≡ true → IsUsedWord bearer used cell
+
+-- A grey number is borne by a birth in use that isn't young. Without it the collector could come from it to others.
+abbrev pub GreyUsed : Geometry → (bearer : ℕ → Option ℕ) (used : ℕ → Type 0) (young : List ℕ) (grey : ℕ → Bool) → Type 0
+GreyUsed g bearer used young grey = (n : ℕ) → n < numbers g → grey n ≡ true → (birth : ℕ) × (bearer n ≡ Some birth) × used birth × ¬ Contains young birth
+
+-- The number that a young birth bears is marked for the cycle. Without it a claim could make it grey.
+abbrev pub YoungMarked : (bearer : ℕ → Option ℕ) (young : List ℕ) (cycle : ℕ) (mark : ℕ → ℕ) → Type 0
+YoungMarked bearer young cycle mark = (n birth : ℕ) → bearer n ≡ Some birth → Contains young birth → mark n ≡ cycle
+
+-- A young birth is one that there was. Without it the birth of a New from before the flip could seem to be young.
+abbrev pub YoungBorn : (young : List ℕ) (next : ℕ) → Type 0
+YoungBorn young next = (birth : ℕ) → Contains young birth → birth < next
 
 -- THE LAW
 

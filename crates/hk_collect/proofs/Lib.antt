@@ -1,3 +1,4 @@
 pub mod UsedHeap
 pub mod UsedRows
 pub mod UsedFacts
+pub mod UsedCalls

@@ -38,8 +38,11 @@ module _ (g : Geometry) (w v : Words) (bearer : ℕ → Option ℕ) (used : ℕ 
     young_marked = rw (cycle, a.mark) h.young_marked;
   }
 
-  pub spot_agree : (line : Line) (cell : ℕ) → Agrees w v → SpotUsed g w line cell bearer used → SpotUsed g v line cell bearer used
-  spot_agree line cell a h = record { attempt = rw a.register h.attempt; in_work = h.in_work }
+  pub spot_same : (ln : Line) (cell : ℕ) → v.register ≡ w.register → SpotUsed g w ln cell bearer used → SpotUsed g v ln cell bearer used
+  spot_same ln cell same h = record { attempt = rw same h.attempt; in_work = h.in_work }
+
+  pub spot_agree : (ln : Line) (cell : ℕ) → Agrees w v → SpotUsed g w ln cell bearer used → SpotUsed g v ln cell bearer used
+  spot_agree ln cell a h = spot_same ln cell a.register h
 
   -- FEWER GREY NUMBERS
 
@@ -95,9 +98,9 @@ module _ (g : Geometry) (w v : Words) (bearer : ℕ → Option ℕ) (used : ℕ 
 
   -- A REGISTER
 
-  pub spot_register : (line : Line) (cell s r word : ℕ) → v.register ≡ upd2 w.register s r word → IsUsedWord bearer used word
-      → SpotUsed g w line cell bearer used → SpotUsed g v line cell bearer used
-  spot_register line cell s r word registers is h = rw registers (record {
+  pub spot_register : (ln : Line) (cell s r word : ℕ) → v.register ≡ upd2 w.register s r word → IsUsedWord bearer used word
+      → SpotUsed g w ln cell bearer used → SpotUsed g v ln cell bearer used
+  spot_register ln cell s r word registers is h = rw registers (record {
     attempt = λ u passed k at seat reg. elim (upd2_cases w.register s r word u k) [ inl (i, j, q) ↦ rw q is | inr (d, q) ↦ rw q (h.attempt u passed k at seat reg) ];
     in_work = h.in_work;
   })
@@ -117,9 +120,9 @@ module _ (g : Geometry) (bearer : ℕ → Option ℕ) (used : ℕ → Type 0) (n
   pub word_new : (word : ℕ) → layout.reference_number word ≡ n → used b → IsUsedWord (upd bearer n (Some b)) used word
   word_new word e is = inr (b, ap (upd bearer n (Some b)) e ∙ upd_same bearer n (Some b), is)
 
-  pub spot_born : (w : Words) (line : Line) (cell : ℕ) → ((s r : ℕ) → s < tasks g → r < g.registers → w.register s r ≢ 0 → layout.reference_number (w.register s r) ≢ n)
-      → (l.has_reference line ≡ true → cell ≢ 0 → layout.reference_number cell ≢ n) → SpotUsed g w line cell bearer used → SpotUsed g w line cell (upd bearer n (Some b)) used
-  spot_born w line cell registers other h = record {
+  pub spot_born : (w : Words) (ln : Line) (cell : ℕ) → ((s r : ℕ) → s < tasks g → r < g.registers → w.register s r ≢ 0 → layout.reference_number (w.register s r) ≢ n)
+      → (l.has_reference ln ≡ true → cell ≢ 0 → layout.reference_number cell ≢ n) → SpotUsed g w ln cell bearer used → SpotUsed g w ln cell (upd bearer n (Some b)) used
+  spot_born w ln cell registers other h = record {
     attempt = λ s passed r at seat reg. word_born (w.register s r) (registers s r seat reg) (h.attempt s passed r at seat reg);
     in_work = λ deals. word_born cell (other deals) (h.in_work deals);
   }

@@ -15,6 +15,7 @@ use Rattle.hk_words.specs.Shape.{size}
 use Rattle.hk_model.specs.Heap.{opening_of}
 use Rattle.hk_model.specs.History.{History, after}
 use Rattle.hk_model.specs.View.{upd}
+use Rattle.hk_model.proofs.Updates.{upd_same}
 use Rattle.hk_core.specs.declared.event.Event.{Event}
 use Rattle.hk_core.specs.declared.event.Event.TheVariants as event
 use Rattle.hk_core.specs.declared.flight.Flight.{Flight}
@@ -345,3 +346,83 @@ module _ (c : State) (history : History) (h : Lawful c history) (used : ℕ → 
         (λ _. by_test (nat_eq x.place 6) _ _ (λ e. writes_cell (reference_cell x field) x.item)
         (λ _. by_test (nat_eq x.place 7) _ _ (λ e. let at = eqb-true x.place 7 e in leaves (rw is_store refl) (rw at refl) (rw (is_store, at) refl))
         (λ _. rests)))))))
+
+    -- the header of a New's number gets a place of the space of the New's cycle: the number isn't grey
+    new_dark : (dest : ℕ) (shape : Shape) → (flight_at c s).call ≡ call.New dest shape → (flight_at c s).place ≡ 5 → (flight_at c s).full ≡ false
+        → grey_by (spaces_of c.geometry now.cycle) now.cycle (upd now.place (flight_at c s).number (new_place c.geometry (flight_at c s))) now.mark (flight_at c s).number ≡ false
+    unfolding f.is_making f.has_number f.has_room f.has_raised f.is_new_at f.new_size f.new_size_of
+    new_dark dest shape is_new at room =
+        let g = c.geometry in
+        let x = flight_at c s in
+        let step : f.IsNewInStep x.place x.full x.raised = rw is_new at (h.facts.news_in_step s below) in
+        let raised : x.raised ≡ true = step.raised_by_then (omega arith) room in
+        let own = h.facts.own_entries s below (rw (is_new, at, room) refl) in
+        let number = h.facts.number_is_own s below (rw (is_new, at, room) refl) in
+        let there = h.facts.news_found_room s below (rw (is_new, at, raised, room) refl) in
+        let words : f.words_before x + size shape ≤ g.alloc = rw is_new at there.words in
+        let marked : now.mark x.number ≡ f.cycle_of x = ap now.mark number ∙ own.is_marked in
+        elim (cases_eq (now.mark x.number) now.cycle) [
+          | inr other ↦ rw (ne_eqb (now.mark x.number) now.cycle other) refl
+          | inl same ↦
+              let cycle : f.cycle_of x ≡ now.cycle = sym marked ∙ same in
+              let away = not_old g now.cycle (g.live + f.words_before x) (omega arith) in
+              rw (upd_same now.place x.number (new_place g x)) (and_right _ _ (ap (λ k. is_within (spaces_of g now.cycle) (spaces_of g now.cycle).old (place_at g (k % 2) (g.live + f.words_before x))) cycle ∙ away))
+        ]
+
+    new_heads : (dest : ℕ) (shape : Shape) → (flight_at c s).call ≡ call.New dest shape → (flight_at c s).place ≡ 5 → (flight_at c s).full ≡ false
+        → Keeps (table.write_header c.geometry (flight_at c s))
+    unfolding table.write_header
+    new_heads dest shape is_new at room cycle =
+        let g = c.geometry in
+        let x = flight_at c s in
+        let e = event.Write (header_at g x.number) (layout.pack_header 0 (new_place g x) 0) in
+        let after' = (new_does_5 c history h s dest shape below is_new at room).words in
+        let places : (then_words (Some e)).place ≡ upd now.place x.number (new_place g x) = ap (λ (u : Words). u.place) after' in
+        let marked : (then_words (Some e)).mark ≡ now.mark = ap (λ (u : Words). u.mark) after' in (
+          marks_place g now (then_words (Some e)) borne used young x.number (new_place g x) cycle marked places
+          (λ within. rw (cycle, places, marked) (new_dark dest shape is_new at room)) marks,
+          spot_same g now (then_words (Some e)) borne used young c.spot.line c.spot.cell (ap (λ (u : Words). u.register) after') spot,
+        )
+
+    -- a New, but for its effect where it found room
+    new_keeps : (dest : ℕ) (shape : Shape) → (flight_at c s).call ≡ call.New dest shape → ((flight_at c s).place ≡ 6 → (flight_at c s).full ≡ true)
+        → Keeps (table.new_event c.geometry (flight_at c s) dest shape)
+    unfolding table.new_event
+    new_keeps dest shape is_new refused =
+        let x = flight_at c s in
+        let g = c.geometry in
+        by_test (nat_eq x.place 1) _ _ (λ e. loads_w0)
+        (λ _. by_test (nat_eq x.place 2) _ _ (λ e. by_test x.full _ _ (λ full. rests) (λ found. enters_frame))
+        (λ _. by_test (nat_eq x.place 3) _ _ (λ e. by_test x.full _ _ (λ full. rests) (λ found. raises shape))
+        (λ _. by_test (nat_eq x.place 4) _ _ (λ e. by_test x.full _ _ (λ full. rests) (λ found. loads_entry))
+        (λ _. by_test (nat_eq x.place 5) _ _ (λ e. by_test x.full _ _ (λ full. rests) (λ found. new_heads dest shape is_new (eqb-true x.place 5 e) found))
+        (λ _. by_test (nat_eq x.place 6) _ _ (λ e. by_test x.full _ _ (λ full. rests) (λ found. never (sym found ∙ refused (eqb-true x.place 6 e))))
+        (λ _. by_test (nat_eq x.place 7) _ _ (λ e. by_test (x.full && not x.raised) _ _ (λ full. rests) (λ busy. leaves_frame))
+        (λ _. rests)))))))
+      where
+        never : {A : Type 0} → false ≡ true → A
+        never e = absurd (cc)
+
+    refused_at_6 : (dest : ℕ) (shape : Shape) → (flight_at c s).call ≡ call.New dest shape → f.has_header (flight_at c s) ≡ false → (flight_at c s).place ≡ 6 → (flight_at c s).full ≡ true
+    unfolding f.has_header f.is_new_at
+    refused_at_6 dest shape is_new none at = by_full (flight_at c s).full (rw (is_new, at) at none)
+      where
+        by_full : (full : Bool) → not full ≡ false → full ≡ true
+        by_full true e = refl
+        by_full false e = absurd (cc)
+
+    -- so every step but a birth keeps the facts
+    pub step_keeps : f.has_header (flight_at c s) ≡ false → Keeps (table.event_by c s)
+    unfolding table.event_by table.event_of table.event_at flight_at
+    step_keeps none = each (flight_at c s).call refl
+      where
+        each : (call' : Call) → (flight_at c s).call ≡ call' → Keeps (table.event_at c.geometry (flight_at c s) call')
+        each (call.Get reg field) e = get_keeps reg field e
+        each (call.Put reg field value) e = put_keeps reg field value e
+        each (call.Load dest reg field) e = load_keeps dest reg field e
+        each (call.Store reg field from) e = store_keeps reg field from e
+        each (call.Move dest from) e = move_keeps dest from e
+        each (call.Clear dest) e = clear_keeps dest e
+        each (call.New dest shape) e = new_keeps dest shape e (refused_at_6 dest shape e none)
+        each (call.Same a b) e = rests
+        each (call.IsNull reg) e = rests

@@ -39,7 +39,7 @@ use Rattle.hk_core.proofs.kinds.NewSteps.{new_does_5}
 use Rattle.hk_core.proofs.kinds.Seats.{kept_means}
 use Rattle.hk_core.proofs.kinds.Words.{words-enter_object, words-leave_object, words-write_register, room_in_object, some_in_object}
 use Rattle.hk_collect.specs.Used.{Closed, IsUsedWord}
-use Rattle.hk_collect.proofs.UsedFacts.{grey_of, MarksUsed, SpotUsed, marks_agree, marks_claim, marks_place, spot_agree, spot_same, spot_register}
+use Rattle.hk_collect.proofs.UsedFacts.{grey_of, MarksUsed, SpotUsed, marks_same, marks_agree, marks_claim, marks_place, spot_agree, spot_same, spot_register}
 use Rattle.hk_collect.proofs.UsedRows.{Agrees, agrees_itself, agrees_fired, agrees_load, agrees_rest, beside_w0, beside_w1, beside_frame, beside_entry, beside_space}
 
 -- a place of the current space isn't one of the old one
@@ -220,12 +220,9 @@ module _ (c : State) (history : History) (h : Lawful c history) (used : ℕ → 
         let g = c.geometry in
         let e = event.Write (register_at g s r) v in
         let after' = words_some g c.row e _ (words-write_register g c.row h.sized.row s r v below fits) in (
-          marks_agree_but (ap (λ (u : Words). u.mark) after') (ap (λ (u : Words). u.place) after') cycle,
+          marks_same g now (then_words (Some e)) borne used young (ap (λ (u : Words). u.mark) after') (ap (λ (u : Words). u.place) after') cycle marks,
           spot_register g now (then_words (Some e)) borne used young c.spot.line c.spot.cell s r v (ap (λ (u : Words). u.register) after') is spot,
         ))
-      where
-        marks_agree_but : {v' : Words} → v'.mark ≡ now.mark → v'.place ≡ now.place → v'.cycle ≡ now.cycle → MarksUsed c.geometry v' borne used young
-        marks_agree_but a b cycle = record { grey = rw (cycle, a, b) marks.grey; young_marked = rw (cycle, a) marks.young_marked }
 
     -- A CLAIM
 

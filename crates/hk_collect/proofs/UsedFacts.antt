@@ -32,11 +32,11 @@ pub record SpotUsed (g : Geometry) (w : Words) (line : Line) (cell : ℕ) (beare
 module _ (g : Geometry) (w v : Words) (bearer : ℕ → Option ℕ) (used : ℕ → Type 0) (young : List ℕ) where
   -- NO CHANGE
 
+  pub marks_same : v.mark ≡ w.mark → v.place ≡ w.place → v.cycle ≡ w.cycle → MarksUsed g w bearer used young → MarksUsed g v bearer used young
+  marks_same marks places cycle h = record { grey = rw (cycle, places, marks) h.grey; young_marked = rw (cycle, marks) h.young_marked }
+
   pub marks_agree : Agrees w v → v.cycle ≡ w.cycle → MarksUsed g w bearer used young → MarksUsed g v bearer used young
-  marks_agree a cycle h = record {
-    grey = rw (cycle, a.place, a.mark) h.grey;
-    young_marked = rw (cycle, a.mark) h.young_marked;
-  }
+  marks_agree a cycle h = marks_same a.mark a.place cycle h
 
   pub spot_same : (ln : Line) (cell : ℕ) → v.register ≡ w.register → SpotUsed g w ln cell bearer used → SpotUsed g v ln cell bearer used
   spot_same ln cell same h = record { attempt = rw same h.attempt; in_work = h.in_work }

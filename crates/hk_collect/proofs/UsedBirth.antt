@@ -33,6 +33,7 @@ use Rattle.hk_core.proofs.kinds.NewHeader.{holder_holds}
 use Rattle.hk_core.proofs.kinds.NewHistory.{made, is_next, names-born}
 use Rattle.hk_core.proofs.kinds.NewSteps.{new_does_6}
 use Rattle.hk_core.proofs.kinds.Seats.{kept_means}
+use Rattle.hk_core.proofs.kinds.WriteRegister.{writing_words}
 use Rattle.hk_collect.specs.Used.{IsUsedWord, YoungBorn, next_birth, gives_young}
 use Rattle.hk_collect.proofs.UsedCalls.{not_old}
 use Rattle.hk_collect.proofs.UsedFacts.{grey_of, MarksUsed, SpotUsed, marks_same, marks_born, marks_born_young, spot_born, spot_register, word_new}
@@ -66,16 +67,16 @@ about_to_bear x has = each x.call refl has
     each (call.IsNull reg) e has = absurd (cc)
 
 module _ (c : State) (history : History) (h : Lawful c history) (s : ℕ) (below : s < tasks c.geometry) (x : IsAboutToBear (flight_at c s)) where
-  abbrev n : ℕ
+  abbrev pub n : ℕ
   n = (flight_at c s).number
 
-  abbrev b : ℕ
+  abbrev pub b : ℕ
   b = next_birth c.geometry history
 
-  abbrev now : Words
+  abbrev pub now : Words
   now = words_of c.geometry c.row
 
-  abbrev borne : ℕ → Option ℕ
+  abbrev pub borne : ℕ → Option ℕ
   borne = (names_of c.geometry history).bearer
 
   numbered : f.has_number (flight_at c s) ≡ true
@@ -161,5 +162,46 @@ module _ (c : State) (history : History) (h : Lawful c history) (s : ℕ) (below
       ap (λ k. (names_of c.geometry k).bearer) longer
       ∙ ap (λ names. names.bearer) (names-born c.geometry history h.legal s x.dest x.shape n below reg_fits)
 
-  then_words : Words
+  abbrev pub then_words : Words
   then_words = words_of c.geometry (fired_if c.row (event_by c s))
+
+  words_after : then_words ≡ writing_words now s x.dest (new_reference (flight_at c s) x.shape)
+  unfolding event_by flight_at
+  words_after =
+      let does = new_does_6 c history h s x.dest x.shape below x.is_new x.at x.room in
+      ap (λ (e : Option Event). words_of c.geometry (fired_if c.row e)) does.event ∙ does.words
+
+  -- the young births after the step
+  abbrev pub young_after : List ℕ → List ℕ
+  young_after young = if gives_young c s then young ++ b ∷ [] else young
+
+  module _ (used : ℕ → Type 0) (young : List ℕ) (marks : MarksUsed c.geometry now borne used young) (spot : SpotUsed c.geometry now c.spot.line c.spot.cell borne used)
+      (is : used b) (born : YoungBorn young b) where
+    unborn : (m : ℕ) → borne m ≢ Some b
+    unborn = (is_next c.geometry history h.legal).unborn
+
+    old : ¬ Contains young b
+    old there = let less : b < b = born b there in absurd (omega arith)
+
+    marks_now : MarksUsed c.geometry now (upd borne n (Some b)) used (young_after young)
+    unfolding flight_at
+    marks_now = by_test (gives_young c s) refl
+      where
+        by_test : (test : Bool) → gives_young c s ≡ test → MarksUsed c.geometry now (upd borne n (Some b)) used (if test then young ++ b ∷ [] else young)
+        by_test false e = marks_born c.geometry borne used n b now young dark unborn old marks
+        by_test true e =
+            let p = and_parts (f.has_header (flight_of c.flights s)) (nat_eq (f.cycle_of (flight_of c.flights s)) now.cycle) e in
+            let same : f.cycle_of (flight_at c s) ≡ now.cycle = eqb-true _ _ p.1 in
+            marks_born_young c.geometry borne used n b now young dark unborn (marked ∙ same) marks
+
+    pub birth_keeps : MarksUsed c.geometry then_words (names_of c.geometry (history_after c s history)).bearer used (young_after young)
+        × SpotUsed c.geometry then_words c.spot.line c.spot.cell (names_of c.geometry (history_after c s history)).bearer used
+    birth_keeps =
+        let g = c.geometry in
+        let v = new_reference (flight_at c s) x.shape in
+        let bearer' = upd borne n (Some b) in
+        rw bearer_after (
+          marks_same g now then_words bearer' used (young_after young) (ap (λ (u : Words). u.mark) words_after) (ap (λ (u : Words). u.place) words_after) (ap (λ (u : Words). u.cycle) words_after) marks_now,
+          spot_register g now then_words bearer' used young c.spot.line c.spot.cell s x.dest v (ap (λ (u : Words). u.register) words_after)
+          (word_new g borne used n b v names_new is) (spot_born g borne used n b now c.spot.line c.spot.cell register_else cell_else spot),
+        )

@@ -3,3 +3,5 @@ pub mod UsedRows
 pub mod UsedFacts
 pub mod UsedCalls
 pub mod UsedBirth
+pub mod UsedMarks
+pub mod UsedSpot

@@ -67,7 +67,7 @@ agrees_to : (w v u : Words) → v ≡ u → Agrees w u → Agrees w v
 agrees_to w v u e a = rw e a
 
 -- a word that isn't null names a number that a birth in use bears
-used_some : (bearer : ℕ → Option ℕ) (used : ℕ → Type 0) (word : ℕ) → word ≢ 0 → IsUsedWord bearer used word
+pub used_some : (bearer : ℕ → Option ℕ) (used : ℕ → Type 0) (word : ℕ) → word ≢ 0 → IsUsedWord bearer used word
     → (b : ℕ) × (bearer (layout.reference_number word) ≡ Some b) × used b
 used_some bearer used word some (inl null) = absurd (some null)
 used_some bearer used word some (inr found) = found

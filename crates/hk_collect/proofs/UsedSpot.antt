@@ -243,3 +243,150 @@ module _ (c : State) (history : History) (h : Lawful c history) (used : ℕ → 
           | inr current ↦ let ends : now.place n + sh.size n ≤ z.current + (z.live + z.alloc) = current.before in omega arith
         ] in
         found-cell g c.row (moved_from t + 1 + i) (omega arith) within
+
+    -- THE SPOT AFTER ITS EVENT
+
+    module _ (spot : Stands c.spot) where
+      -- the facts of a line and a cell
+      abbrev At : Line → ℕ → Type 0
+      At ln cell = SpotUsed c.geometry now ln cell borne used
+
+      by_line : (P : Line → Type 0) (test : Bool) (a b : Line) → (test ≡ true → P a) → (test ≡ false → P b) → P (if test then a else b)
+      by_line P true a b yes' no' = yes' refl
+      by_line P false a b yes' no' = no' refl
+
+      by_stage : (P : Stage → Type 0) (test : Bool) (a b : Stage) → (test ≡ true → P a) → (test ≡ false → P b) → P (if test then a else b)
+      by_stage P true a b yes' no' = yes' refl
+      by_stage P false a b yes' no' = no' refl
+
+      still : (ln : Line) (cell : ℕ) → l.frame_attempt c.geometry ln ≡ None → l.has_reference ln ≡ false → At ln cell
+      still ln cell no_attempt no_reference = idle (record c.spot { line = ln; cell = cell }) no_attempt no_reference
+
+      inside : (ln : Line) (cell s p : ℕ) → l.frame_attempt c.geometry ln ≡ Some (s, p) → FrameUsed s → (l.has_reference ln ≡ true → IsUsedWord borne used cell) → At ln cell
+      inside ln cell s p at all deals = in_attempt (record c.spot { line = ln; cell = cell }) s p at all deals
+
+      dealt : (ln : Line) (cell : ℕ) → l.frame_attempt c.geometry ln ≡ None → (l.has_reference ln ≡ true → IsUsedWord borne used cell) → At ln cell
+      dealt ln cell no_attempt deals = at_cell_of (record c.spot { line = ln; cell = cell }) no_attempt deals
+
+      -- a frame
+      frame_stands : (s : ℕ) → c.spot.line ≡ line.Frame s → Stands (table.frame_took c.spot s (learnt c.row (table.frame_event c.geometry s)))
+      unfolding table.frame_took table.frame_event l.frame_attempt l.has_reference l.is_in_work
+      frame_stands s at =
+          let g = c.geometry in
+          let below : s < tasks g = subst (l.LineFits g c.spot) at h.facts.spot_formed in
+          let old = learnt c.row (Some (event.Load (frame_at g s))) in
+          let parts : layout.frame_accessors old ≡ now.frame_accessors s = ap (λ k. layout.frame_accessors k) (found-frame g c.row s) ∙ frame_word s below in
+          by_test (nat_lt 0 (layout.frame_accessors old)) _ _ (λ busy. spot)
+          (λ free. let none' = ltb-false 0 (layout.frame_accessors old) free in let empty : now.frame_accessors s ≡ 0 = omega arith in
+          inside (line.Register s 0 stage.Read) c.spot.cell s 0 refl (frame_used s below empty) (λ deals. never deals))
+
+      -- a register
+      after_register_stands : (s r cell : ℕ) → FrameUsed s → At (after_register c.geometry s r) cell
+      unfolding l.frame_attempt l.has_reference l.is_in_work
+      after_register_stands s r cell all = by_line (λ ln. At ln cell) (nat_lt (r + 1) c.geometry.registers) _ _
+          (λ _. inside (line.Register s (r + 1) stage.Read) cell s (r + 1) refl all (λ deals. never deals))
+          (λ _. inside (line.FrameTrade s) cell s c.geometry.registers refl all (λ deals. never deals))
+
+      register_stands : (s r : ℕ) (st : Stage) → c.spot.line ≡ line.Register s r st
+          → Stands (table.register_took c.geometry c.spot s r st (learnt c.row (table.register_event c.geometry c.spot s r st)))
+      unfolding table.register_took table.register_event l.frame_attempt l.has_reference l.is_in_work
+      register_stands s r st at = each st at
+        where
+          fits : (st : Stage) → c.spot.line ≡ line.Register s r st → (s < tasks c.geometry) × (r < c.geometry.registers) × l.IsRegisterStage st
+          fits st at = subst (l.LineFits c.geometry c.spot) at h.facts.spot_formed
+
+          all : (st : Stage) → c.spot.line ≡ line.Register s r st → FrameUsed s
+          all st at k few = spot.attempt s r k (ap (l.frame_attempt c.geometry) at) (fits st at).0 few
+
+          each : (st : Stage) → c.spot.line ≡ line.Register s r st → Stands (table.register_took c.geometry c.spot s r st (learnt c.row (table.register_event c.geometry c.spot s r st)))
+          each stage.Read at =
+              let here = fits stage.Read at in
+              let old = learnt c.row (Some (event.Load (register_at c.geometry s r))) in
+              let found : old ≡ now.register s r = found-register c.geometry c.row s r here.0 here.1 in
+              by_line (λ ln. At ln old) (nat_eq old 0) _ _ (λ _. after_register_stands s r old (all stage.Read at))
+              (λ _. inside (line.Register s r stage.Claim) old s r refl (all stage.Read at) (λ deals. rw found (all stage.Read at r here.1)))
+          each stage.Claim at =
+              let old = learnt c.row (table.claim_cell c.geometry c.spot) in
+              by_line (λ ln. At ln c.spot.cell) (nat_lt old c.spot.cycle) _ _
+              (λ _. inside (line.Register s r stage.Reserve) c.spot.cell s r refl (all stage.Claim at) (λ deals. spot.in_work (ap l.has_reference at)))
+              (λ _. after_register_stands s r c.spot.cell (all stage.Claim at))
+          each stage.Reserve at =
+              let old = learnt c.row (table.reserve_cell c.geometry c.spot) in
+              by_line (λ ln. At ln c.spot.cell) (reserved_fits c.geometry old c.spot.cell) _ _
+              (λ _. inside (line.Register s r stage.Tie) c.spot.cell s r refl (all stage.Reserve at) (λ deals. spot.in_work (ap l.has_reference at)))
+              (λ _. after_register_stands s r c.spot.cell (all stage.Reserve at))
+          each stage.Tie at = after_register_stands s r c.spot.cell (all stage.Tie at)
+          each stage.Write at = spot
+          each stage.Mark at = spot
+          each stage.Empty at = spot
+
+      -- a cell
+      cell_stands : (i : ℕ) (st : Stage) → c.spot.line ≡ line.Cell i st → Stands (table.cell_took c.geometry c.spot i st (learnt c.row (table.cell_event c.geometry c.spot i st)))
+      unfolding table.cell_took table.cell_event l.frame_attempt l.has_reference l.is_in_work
+      cell_stands i stage.Read at =
+          let old = learnt c.row (Some (event.Load (space_at c.geometry (moved_from c.spot + 1 + i)))) in
+          by_stage (λ st. At (line.Cell i st) old) (is_reference c.spot i old) _ _
+          (λ e. let p = and_parts (nat_lt i (layout.reference_refs c.spot.item)) (not (nat_eq old 0)) e in
+          let within = ltb-true i (layout.reference_refs c.spot.item) p.0 in
+          dealt (line.Cell i stage.Claim) old refl (λ deals. rw (cell_found i at within) (cell_used i at within)))
+          (λ _. still (line.Cell i stage.Write) old refl refl)
+      cell_stands i stage.Claim at =
+          let old = learnt c.row (table.claim_cell c.geometry c.spot) in
+          by_stage (λ st. At (line.Cell i st) c.spot.cell) (nat_lt old c.spot.cycle) _ _
+          (λ _. dealt (line.Cell i stage.Reserve) c.spot.cell refl (λ deals. spot.in_work (ap l.has_reference at)))
+          (λ _. still (line.Cell i stage.Write) c.spot.cell refl refl)
+      cell_stands i stage.Reserve at =
+          let old = learnt c.row (table.reserve_cell c.geometry c.spot) in
+          by_stage (λ st. At (line.Cell i st) c.spot.cell) (reserved_fits c.geometry old c.spot.cell) _ _
+          (λ _. dealt (line.Cell i stage.Tie) c.spot.cell refl (λ deals. spot.in_work (ap l.has_reference at)))
+          (λ _. still (line.Cell i stage.Write) c.spot.cell refl refl)
+      cell_stands i stage.Tie at = still (line.Cell i stage.Write) c.spot.cell refl refl
+      cell_stands i stage.Write at = by_line (λ ln. At ln c.spot.cell) (nat_lt (i + 2) (reference_size c.spot.item)) _ _
+          (λ _. still (line.Cell (i + 1) stage.Read) c.spot.cell refl refl) (λ _. still line.ObjectTrade c.spot.cell refl refl)
+      cell_stands i stage.Mark at = spot
+      cell_stands i stage.Empty at = spot
+
+      -- the sweep
+      sweep_stands : (n old : ℕ) (st : Stage) → Stands (table.sweep_took c.geometry c.spot n st old)
+      unfolding table.sweep_took l.frame_attempt l.has_reference
+      sweep_stands n old stage.Read = by_line (λ ln. At ln c.spot.cell) (nat_lt old c.spot.cycle) _ _
+          (λ _. still (line.Sweep n stage.Write) c.spot.cell refl refl) (λ _. still (line.Sweep (n + 1) stage.Read) c.spot.cell refl refl)
+      sweep_stands n old stage.Claim = spot
+      sweep_stands n old stage.Reserve = spot
+      sweep_stands n old stage.Tie = spot
+      sweep_stands n old stage.Write = still (line.Sweep n stage.Mark) c.spot.cell refl refl
+      sweep_stands n old stage.Mark = still (line.Sweep n stage.Empty) c.spot.cell refl refl
+      sweep_stands n old stage.Empty = by_line (λ ln. At ln c.spot.cell) _ _ _
+          (λ _. still (line.Sweep (n + 1) stage.Read) c.spot.cell refl refl) (λ _. still (line.Clear 0) c.spot.cell refl refl)
+
+      after_pass_stands : (n cell : ℕ) → At (after_pass c.geometry n) cell
+      unfolding l.frame_attempt l.has_reference
+      after_pass_stands n cell = by_line (λ ln. At ln cell) (nat_lt (n + 1) (numbers c.geometry)) _ _
+          (λ _. still (line.Pass (n + 1)) cell refl refl) (λ _. still (line.Sweep 0 stage.Read) cell refl refl)
+
+      -- each line, but for the flip
+      line_stands : (ln : Line) → c.spot.line ≡ ln → (ln ≡ line.Rest → nat_eq c.spot.cycle last_cycle ≡ true)
+          → Stands (table.took_at_line c.geometry c.spot (learnt c.row (table.event_at_line c.geometry c.spot ln)) ln)
+      unfolding table.took_at_line table.event_at_line table.rest_took table.frame_trade_took table.scan_took table.link_took table.look_took table.object_trade_took table.pass_took table.pass_head_took table.clear_took l.frame_attempt l.has_reference l.is_in_work
+      line_stands line.Rest at worn = by_test (nat_eq c.spot.cycle last_cycle) _ _ (λ _. spot) (λ flips. never (sym flips ∙ worn refl))
+      line_stands (line.Frame s) at worn = frame_stands s at
+      line_stands (line.Register s r st) at worn = register_stands s r st at
+      line_stands (line.FrameTrade s) at worn = by_line (λ ln. At ln c.spot.cell) _ _ _
+          (λ _. by_line (λ ln. At ln c.spot.cell) (nat_lt (s + 1) (tasks c.geometry)) _ _ (λ _. still (line.Frame (s + 1)) c.spot.cell refl refl) (λ _. still line.Scan c.spot.cell refl refl))
+          (λ _. still (line.Frame s) c.spot.cell refl refl)
+      line_stands line.Scan at worn = by_test _ _ _ (λ _. spot)
+          (λ _. by_line (λ ln. At ln c.spot.cell) _ _ _ (λ _. still line.Link c.spot.cell refl refl) (λ _. still (line.Pass 0) c.spot.cell refl refl))
+      line_stands line.Link at worn = by_test _ _ _ (λ _. still line.Scan c.spot.cell refl refl) (λ _. still line.Look c.spot.cell refl refl)
+      line_stands line.Look at worn = by_test _ _ _ (λ _. spot) (λ _. still (line.Cell 0 stage.Read) c.spot.cell refl refl)
+      line_stands (line.Cell i st) at worn = cell_stands i st at
+      line_stands line.ObjectTrade at worn = by_test _ _ _ (λ _. still line.Scan c.spot.cell refl refl) (λ _. still line.Look c.spot.cell refl refl)
+      line_stands (line.Pass n) at worn = by_line (λ ln. At ln c.spot.cell) _ _ _ (λ _. still (line.PassHead n) c.spot.cell refl refl) (λ _. after_pass_stands n c.spot.cell)
+      line_stands (line.PassHead n) at worn = by_line (λ ln. At ln c.spot.cell) _ _ _ (λ _. still line.Scan c.spot.cell refl refl) (λ _. after_pass_stands n c.spot.cell)
+      line_stands (line.Sweep n st) at worn = sweep_stands n _ st
+      line_stands (line.Clear i) at worn = by_line (λ ln. At ln c.spot.cell) _ _ _ (λ _. still (line.Clear (i + 1)) c.spot.cell refl refl) (λ _. still line.Reset c.spot.cell refl refl)
+      line_stands line.Reset at worn = still line.Rest c.spot.cell refl refl
+
+      -- so the spot after the collector's event, but for the flip
+      pub spot_stands : (c.spot.line ≡ line.Rest → nat_eq c.spot.cycle last_cycle ≡ true) → Stands (table.next_collected c).spot
+      unfolding table.next_collected table.spot_took table.found_by_collector table.event_by_collector table.spot_event
+      spot_stands worn = line_stands c.spot.line refl worn

@@ -5,3 +5,5 @@ pub mod UsedCalls
 pub mod UsedBirth
 pub mod UsedMarks
 pub mod UsedSpot
+pub mod UsedTables
+pub mod UsedTrace

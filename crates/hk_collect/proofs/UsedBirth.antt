@@ -13,8 +13,9 @@ use Rattle.hk_words.specs.Calls.{RegistersFit}
 use Rattle.hk_words.specs.Layout as layout
 use Rattle.hk_words.specs.Row.{place_at, register_at}
 use Rattle.hk_words.specs.Shape.{size}
-use Rattle.hk_model.specs.Heap.{opening_of}
-use Rattle.hk_model.specs.History.{History, after}
+use Rattle.hk_model.specs.Heap.{born, opening_of}
+use Rattle.hk_model.specs.History.{History, after, after_entry}
+use Rattle.hk_model.proofs.Histories.{after-push, born-heap_after_new}
 use Rattle.hk_model.specs.View.{upd}
 use Rattle.hk_core.specs.declared.event.Event.{Event}
 use Rattle.hk_core.specs.declared.event.Event.TheVariants as event
@@ -162,6 +163,14 @@ module _ (c : State) (history : History) (h : Lawful c history) (s : ℕ) (below
       ap (λ k. (names_of c.geometry k).bearer) longer
       ∙ ap (λ names. names.bearer) (names-born c.geometry history h.legal s x.dest x.shape n below reg_fits)
 
+  -- the next birth is one more
+  pub next_after : next_birth c.geometry (history_after c s history) ≡ b + 1
+  unfolding after_entry
+  next_after =
+      ap (next_birth c.geometry) longer
+      ∙ ap born (after-push (opening_of c.geometry) history (made s x.dest x.shape n))
+      ∙ born-heap_after_new (after (opening_of c.geometry) history) s x.dest x.shape
+
   abbrev pub then_words : Words
   then_words = words_of c.geometry (fired_if c.row (event_by c s))
 
@@ -176,12 +185,12 @@ module _ (c : State) (history : History) (h : Lawful c history) (s : ℕ) (below
   young_after young = if gives_young c s then young ++ b ∷ [] else young
 
   module _ (used : ℕ → Type 0) (young : List ℕ) (marks : MarksUsed c.geometry now borne used young) (spot : SpotUsed c.geometry now c.spot.line c.spot.cell borne used)
-      (is : used b) (born : YoungBorn young b) where
+      (is : used b) (all_born : YoungBorn young b) where
     unborn : (m : ℕ) → borne m ≢ Some b
     unborn = (is_next c.geometry history h.legal).unborn
 
     old : ¬ Contains young b
-    old there = let less : b < b = born b there in absurd (omega arith)
+    old there = let less : b < b = all_born b there in absurd (omega arith)
 
     marks_now : MarksUsed c.geometry now (upd borne n (Some b)) used (young_after young)
     unfolding flight_at

@@ -42,7 +42,7 @@ use Rattle.hk_collect.proofs.UsedFacts.{grey_of, MarksUsed, SpotUsed, marks_agre
 use Rattle.hk_collect.proofs.UsedRows.{Agrees, agrees_fired, agrees_load, agrees_rest, agrees_same, beside_w0, beside_w1, beside_frame, beside_entry, beside_space}
 
 -- no word of the old space stands at place 0
-zero_not_old : (z : Spaces) → 1 ≤ z.old → is_within z z.old 0 ≡ false
+pub zero_not_old : (z : Spaces) → 1 ≤ z.old → is_within z z.old 0 ≡ false
 zero_not_old z some = outside z.old (z.old + (z.live + z.alloc)) some
   where
     outside : (from to : ℕ) → 1 ≤ from → (nat_le from 0 && nat_lt 0 to) ≡ false

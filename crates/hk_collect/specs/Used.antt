@@ -134,7 +134,8 @@ TracedIsRun = (g : Geometry) (actions : List Action) → (traced g actions).runn
 
 -- each number that was claimed in this cycle and isn't moved yet is borne by a birth that was in use
 abbrev pub ClaimedWasUsed : Type 0
-ClaimedWasUsed = (g : Geometry) (actions : List Action) (n : ℕ) → n < numbers g → is_grey (traced g actions).running.core n ≡ true → BearsUsed (traced g actions) n
+ClaimedWasUsed = (g : Geometry) (actions : List Action) → let c = (traced g actions).running.core in
+    (n : ℕ) → n < numbers c.geometry → is_grey c n ≡ true → BearsUsed (traced g actions) n
 
 -- so is each for which a seat, or the collector, which stands behind the seats, has still to reserve a place
 abbrev pub ReservedWasUsed : Type 0

@@ -1,6 +1,7 @@
 -- The facts of a traced run hold from the opening state on, whatever the actions.
 use Rattle.std.proofs.Common.{◌≡◌, ◌≢◌, ◌⊎◌, ℕ, ◌+◌, ◌*◌, ◌%◌, ◌<◌, ◌≤◌, Bool, true, false, inl, inr, refl, sym, ◌∙◌, ap, arith, subst, List, [], ◌∷◌, ◌++◌, Option, Some, None}
-use Rattle.std.proofs.lemmas.Bool.{cases_Bool, cases_eq, and_parts, and_left, and_right, eqb-true, le-leb, ltb-true}
+use Rattle.std.proofs.lemmas.Bool.{cases_Bool, cases_eq, and_parts, and_left, and_right, ltb-true, ne_eqb, not-true}
+use Rattle.std.proofs.lemmas.Bool.Decides.{nat_tests}
 use Rattle.std.proofs.lemmas.List.Elements.{Contains-push_cases}
 use Rattle.std.specs.Prelude.{nat_eq, nat_lt, nat_le, not, ◌&&◌, fold, Contains, option_to_list, if◌then◌else◌}
 use Rattle.hk_words.specs.declared.geometry.Geometry.{Geometry}
@@ -32,6 +33,7 @@ use Rattle.hk_core.proofs.Actions.{IsLawfulRun, lawful_act_begin, lawful_act_ste
 use Rattle.hk_core.proofs.OpeningLawful.{opening_lawful}
 use Rattle.hk_core.proofs.Seven.{seat_steps}
 use Rattle.hk_core.proofs.kinds.Effects.{is_heap}
+use Rattle.hk_core.proofs.kinds.SpotFlip.{flipped_spot}
 use Rattle.hk_collect.specs.Used.{Closed, Trace, UsedSince, WasUsed, BearsUsed, YoungBorn, CollectKeepsLawful, next_birth, gives_young, is_flip, is_grey, trace_act, trace_opening, traced}
 use Rattle.hk_collect.proofs.UsedBirth.{about_to_bear, birth_keeps, next_after}
 use Rattle.hk_collect.proofs.UsedCalls.{step_keeps}
@@ -219,3 +221,142 @@ module _ (c : State) (history at_flip : History) (young : List ℕ) (h : Lawful 
         all_born = o.all_born;
         later = o.later;
       }
+
+  -- THE FLIP
+
+  module _ (flips : is_flip (work_by_collector c) ≡ true) where
+    at_rest : c.spot.line ≡ line.Rest
+    unfolding work_by_collector table.spot_work
+    at_rest = elim (rests_or_not c.geometry c.spot c.spot.line) [
+      | inl at ↦ at
+      | inr other ↦ never (sym (no_flip c.geometry c.spot c.spot.line (found_by_collector c) other) ∙ flips)
+    ]
+
+    early : nat_eq c.spot.cycle last_cycle ≡ false
+    unfolding work_by_collector table.spot_work
+    early = by_worn (nat_eq c.spot.cycle last_cycle)
+        (sym (rest_flips c.geometry c.spot (found_by_collector c)) ∙ ap (λ ln. is_flip (table.work_at_line c.geometry c.spot (found_by_collector c) ln)) (sym at_rest) ∙ flips)
+      where
+        by_worn : (worn : Bool) → not worn ≡ true → worn ≡ false
+        by_worn true e = absurd (cc)
+        by_worn false e = refl
+
+    spot_flipped : (next_collected c).spot ≡ flipped_spot c.spot
+    unfolding next_collected table.spot_took table.took_at_line table.rest_took
+    spot_flipped = ap (table.took_at_line c.geometry c.spot (found_by_collector c)) at_rest ∙ rw early refl
+
+    event_is : event_by_collector c ≡ Some (event.Swap (w0_at c.geometry) (layout.pack_w0 0 0 (c.spot.cycle + 1)))
+    unfolding event_by_collector table.spot_event table.event_at_line table.rest_event
+    event_is = ap (table.event_at_line c.geometry c.spot) at_rest ∙ rw early refl
+
+    agrees : Agrees (words_of c.geometry c.row) (words_of c.geometry (fired_if c.row (event_by_collector c)))
+    agrees = rw event_is (agrees_fired c.geometry c.row (event.Swap (w0_at c.geometry) (layout.pack_w0 0 0 (c.spot.cycle + 1))) (beside_w0 c.geometry))
+
+    cycle_then : (words_of c.geometry (fired_if c.row (event_by_collector c))).cycle ≡ (words_of c.geometry c.row).cycle + 1
+    unfolding next_collected
+    cycle_then = sym (after_it.facts.spot_knows_cycle) ∙ ap (λ (u : Spot). u.cycle) spot_flipped ∙ ap (λ k. k + 1) h.facts.spot_knows_cycle
+
+    -- a number that is marked for the next cycle has no place yet
+    dark : (n : ℕ) → n < numbers c.geometry → grey_of c.geometry (words_of c.geometry (fired_if c.row (event_by_collector c))) n ≡ false
+    unfolding l.marked l.emptied
+    dark n within =
+        let g = c.geometry in
+        let w = words_of g c.row in
+        let w' = words_of g (fired_if c.row (event_by_collector c)) in
+        let marked : w'.mark n ≡ w.mark n = ap (λ f. f n) agrees.mark in
+        let cycle = cycle_then in
+        elim (cases_eq (w.mark n) (w.cycle + 1)) [
+          | inr other ↦ rw (ne_eqb (w'.mark n) w'.cycle (λ same. other (sym marked ∙ same ∙ cycle))) refl
+          | inl same ↦
+              let all_marked : l.marked g c.spot c.spot.line ≡ list_length g = ap (l.marked g c.spot) at_rest in
+              let all_emptied : l.emptied g c.spot c.spot.line ≡ list_length g = ap (l.emptied g c.spot) at_rest in
+              let found = h.facts.marks_above_are_written n within (omega arith) in
+              let below : found.0 < l.marked g c.spot c.spot.line = found.1 in
+              let empty = h.facts.written_empty found.0 (omega arith) in
+              let unplaced : w.place n ≡ 0 = ap w.place (sym found.2) ∙ empty.no_place in
+              let there : w'.place n ≡ 0 = ap (λ f. f n) agrees.place ∙ unplaced in
+              rw there (and_right _ _ (zero_not_old (spaces_of g w'.cycle) (omega arith)))
+        ]
+
+    pub uses_flip : UsesOf (next_collected c) history history []
+    unfolding next_collected l.frame_attempt l.has_reference
+    uses_flip =
+        let g = c.geometry in
+        uses_at_rest g (words_of g (fired_if c.row (event_by_collector c))) (next_collected c).spot history dark
+        (ap (λ (u : Spot). l.frame_attempt g u.line) spot_flipped) (ap (λ (u : Spot). l.has_reference u.line) spot_flipped)
+
+-- ANY ACTION
+
+-- what holds of a traced run
+pub record InUse (r : Trace) : Type 0 where
+  pub lawful : Lawful r.running.core r.running.history
+  pub uses : UsesOf r.running.core r.running.history r.at_flip r.young
+
+-- a begin changes no word and not the spot
+begun_uses : (c : State) (seat : ℕ) (call : Call) (history at_flip : History) (young : List ℕ) → UsesOf c history at_flip young → UsesOf (after_begin c seat call) history at_flip young
+unfolding after_begin accepted
+begun_uses c seat call history at_flip young o = by_fault (refusal c seat call)
+  where
+    by_fault : (fault : Option Fault) → UsesOf (begun_or fault (accepted c seat call) c) history at_flip young
+    by_fault None = o
+    by_fault (Some fault) = o
+
+in_use_begin : (r : Trace) (seat : ℕ) (call : Call) → InUse r → InUse (trace_act r (begin seat call))
+unfolding trace_act act
+in_use_begin r seat call o = record {
+  lawful = lawful_act_begin r.running seat call o.lawful;
+  uses = by_test (may_begin r.running.core seat call);
+}
+  where
+    by_test : (test : Bool) → (let k : Running = if test then record r.running { core = after_begin r.running.core seat call } else r.running in UsesOf k.core k.history r.at_flip r.young)
+    by_test true = begun_uses r.running.core seat call r.running.history r.at_flip r.young o.uses
+    by_test false = o.uses
+
+in_flight : (place : ℕ) → nat_eq place 0 ≡ false → 1 ≤ place
+in_flight place e = grind (arith, nat_tests)
+
+in_use_step : (r : Trace) (seat : ℕ) → InUse r → InUse (trace_act r (step seat))
+unfolding trace_act act flight_at
+in_use_step r seat o = by_busy (is_busy r.running.core seat) refl
+  where
+    by_busy : (busy : Bool) → is_busy r.running.core seat ≡ busy → InUse (record r {
+      running = if busy then record { core = next r.running.core seat; history = history_after r.running.core seat r.running.history } else r.running;
+      young = if busy && gives_young r.running.core seat then r.young ++ next_birth r.running.core.geometry r.running.history ∷ [] else r.young;
+    })
+    by_busy false e = o
+    by_busy true e =
+        let p = and_parts (nat_lt seat (tasks r.running.core.geometry)) (not (nat_eq (flight_of r.running.core.flights seat).place 0)) e in
+        let below = ltb-true seat (tasks r.running.core.geometry) p.0 in
+        let some = in_flight (flight_of r.running.core.flights seat).place (not-true (nat_eq (flight_of r.running.core.flights seat).place 0) p.1) in
+        record {
+          lawful = (seat_steps r.running.core r.running.history seat below o.lawful some).lawful;
+          uses = uses_step r.running.core r.running.history r.at_flip r.young o.lawful o.uses seat below some;
+        }
+
+in_use_collect : CollectKeepsLawful → (r : Trace) → InUse r → InUse (trace_act r collect)
+unfolding trace_act act
+in_use_collect keeps r o = by_flip (is_flip (work_by_collector r.running.core)) refl
+  where
+    by_flip : (flips : Bool) → is_flip (work_by_collector r.running.core) ≡ flips → InUse (if flips then record { running = record r.running { core = next_collected r.running.core }; at_flip = r.running.history; young = [] }
+        else record r { running = record r.running { core = next_collected r.running.core } })
+    by_flip true e = record {
+      lawful = keeps r.running.core r.running.history o.lawful;
+      uses = uses_flip r.running.core r.running.history r.at_flip r.young o.lawful (keeps r.running.core r.running.history o.lawful) o.uses e;
+    }
+    by_flip false e = record {
+      lawful = keeps r.running.core r.running.history o.lawful;
+      uses = uses_collect r.running.core r.running.history r.at_flip r.young o.lawful (keeps r.running.core r.running.history o.lawful) o.uses e;
+    }
+
+pub in_use_act : CollectKeepsLawful → (r : Trace) (a : Action) → InUse r → InUse (trace_act r a)
+in_use_act keeps r (begin seat call) o = in_use_begin r seat call o
+in_use_act keeps r (step seat) o = in_use_step r seat o
+in_use_act keeps r collect o = in_use_collect keeps r o
+
+in_use_all : CollectKeepsLawful → (r : Trace) (actions : List Action) → InUse r → InUse (fold trace_act r actions)
+in_use_all keeps r [] o = o
+in_use_all keeps r (a ∷ later) o = in_use_all keeps (trace_act r a) later (in_use_act keeps r a o)
+
+pub in_use_traced : CollectKeepsLawful → (g : Geometry) (actions : List Action) → InUse (traced g actions)
+unfolding traced trace_opening
+in_use_traced keeps g actions = in_use_all keeps (trace_opening g) actions (record { lawful = opening_lawful g; uses = uses_opening g })

@@ -7,3 +7,4 @@ pub mod UsedMarks
 pub mod UsedSpot
 pub mod UsedTables
 pub mod UsedTrace
+pub mod UsedLaws

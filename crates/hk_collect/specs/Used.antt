@@ -5,13 +5,16 @@ use Rattle.std.specs.Prelude.{◌≡◌, ◌⊎◌, ℕ, ◌<◌, ◌≤◌, nat
 use Rattle.hk_words.specs.declared.geometry.Geometry.{Geometry}
 use Rattle.hk_words.specs.Geometry.{tasks, numbers}
 use Rattle.hk_words.specs.Layout.{reference_number}
+use Rattle.hk_words.specs.Row.{w1_at}
 use Rattle.hk_model.specs.Heap.{Heap, born, register, refs, link, opening_of}
 use Rattle.hk_model.specs.History.{History, after, bearer}
 use Rattle.hk_core.specs.declared.spot.Work.{Work}
 use Rattle.hk_core.specs.declared.spot.Work.TheVariants.{Useful, Flipped, Lost, BusyFrame, BusyObject, Unlinked, Grey, LiveOver, Worn}
+use Rattle.hk_core.specs.declared.event.Event.TheVariants.{Add}
 use Rattle.hk_core.specs.declared.spot.Line.{Line}
 use Rattle.hk_core.specs.State.{State, opening, flight_of}
-use Rattle.hk_core.specs.Collect.{next_collected, work_by_collector}
+use Rattle.hk_core.specs.Collect.{event_by_collector, next_collected, work_by_collector}
+use Rattle.hk_core.specs.Step.{reference_size, event_by}
 use Rattle.hk_core.specs.Run.{Action, Running, begin, step, collect, act, is_busy, run_from_opening}
 use Rattle.hk_core.specs.View.{words_of, flight_at}
 use Rattle.hk_core.specs.Flights.{Hand, to_reserve, has_header, cycle_of}
@@ -128,17 +131,33 @@ YoungBorn young next = (birth : ℕ) → Contains young birth → birth < next
 abbrev pub CollectKeepsLawful : Type 0
 CollectKeepsLawful = (c : State) (history : History) → Lawful c history → Lawful (next_collected c) history
 
--- a traced run is the run
+-- a traced run is the run, and its geometry is the one it began with
 abbrev pub TracedIsRun : Type 0
 TracedIsRun = (g : Geometry) (actions : List Action) → (traced g actions).running ≡ run_from_opening g actions
+
+abbrev pub TracedKeepsGeometry : Type 0
+TracedKeepsGeometry = (g : Geometry) (actions : List Action) → (traced g actions).running.core.geometry ≡ g
 
 -- each number that was claimed in this cycle and isn't moved yet is borne by a birth that was in use
 abbrev pub ClaimedWasUsed : Type 0
 ClaimedWasUsed = (g : Geometry) (actions : List Action) → let c = (traced g actions).running.core in
     (n : ℕ) → n < numbers c.geometry → is_grey c n ≡ true → BearsUsed (traced g actions) n
 
--- so is each for which a seat, or the collector, which stands behind the seats, has still to reserve a place
-abbrev pub ReservedWasUsed : Type 0
-ReservedWasUsed = (g : Geometry) (actions : List Action) → let c = (traced g actions).running.core in
+-- so is each that a claim in hand is for, of a seat or of the collector, which stands behind the seats
+abbrev pub HeldWasUsed : Type 0
+HeldWasUsed = (g : Geometry) (actions : List Action) → let c = (traced g actions).running.core in
     (k item cycle : ℕ) → k ≤ tasks c.geometry → hands_of c.geometry (flight_at c) c.spot k ≡ to_reserve item cycle
     → BearsUsed (traced g actions) (reference_number item)
+
+-- Who reserves adds to W1. Each event by which a call or the collector does so is for an object that was in use: its number
+-- is borne by a birth that could be reached in the plain heap at the last flip, or that was born after it of a New that
+-- raised W0 before it.
+abbrev pub CallsReserveUsed : Type 0
+CallsReserveUsed = (g : Geometry) (actions : List Action) → let c = (traced g actions).running.core in
+    (seat words : ℕ) → seat < tasks c.geometry → event_by c seat ≡ Some (Add (w1_at c.geometry) words)
+    → (words ≡ reference_size (flight_of c.flights seat).item) × BearsUsed (traced g actions) (reference_number (flight_of c.flights seat).item)
+
+abbrev pub CollectorReservesUsed : Type 0
+CollectorReservesUsed = (g : Geometry) (actions : List Action) → let c = (traced g actions).running.core in
+    (words : ℕ) → event_by_collector c ≡ Some (Add (w1_at c.geometry) words)
+    → (words ≡ reference_size c.spot.cell) × BearsUsed (traced g actions) (reference_number c.spot.cell)

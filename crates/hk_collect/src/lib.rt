@@ -6,6 +6,7 @@ mod checks;
 mod decide;
 mod follow;
 mod step;
+mod used;
 #[cfg(test)]
 mod walk;
 
@@ -13,3 +14,4 @@ pub use decide::event;
 pub use follow::took;
 pub use hk_core::Work;
 pub use step::advance;
+pub use used::reserved_was_used;

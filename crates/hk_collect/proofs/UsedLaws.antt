@@ -8,7 +8,7 @@ use Rattle.hk_words.specs.declared.call.Call.TheVariants as call
 use Rattle.hk_words.specs.declared.shape.Shape.{Shape}
 use Rattle.hk_words.specs.Geometry.{tasks, numbers}
 use Rattle.hk_words.specs.Layout as layout
-use Rattle.hk_words.specs.Row.{w0_at, w1_at, header_at, frame_at}
+use Rattle.hk_words.specs.Row.{word_of, w0_at, w1_at, header_at, frame_at}
 use Rattle.hk_words.specs.Row.Slot.{Header}
 use Rattle.hk_core.specs.declared.event.Event.{Event}
 use Rattle.hk_core.specs.declared.event.Event.TheVariants as event
@@ -30,7 +30,7 @@ use Rattle.hk_core.specs.State.{State, opening, flight_of}
 use Rattle.hk_core.specs.Step as table
 use Rattle.hk_core.specs.Step.{reference_size, next, history_after}
 use Rattle.hk_core.specs.View.{words_of, decoded, raw, word_if, names_of, flight_at}
-use Rattle.hk_core.specs.Colours.{spaces_of, is_within}
+use Rattle.hk_core.specs.Colours.{spaces_of, shades_of, is_within}
 use Rattle.hk_core.specs.Lawful.{hands_of}
 use Rattle.hk_collect.specs.Used.{Trace, BearsUsed, CollectKeepsLawful, TracedIsRun, TracedKeepsGeometry, ClaimedWasUsed, HeldWasUsed, CallsReserveUsed, CollectorReservesUsed, is_flip, is_grey, trace_act, trace_opening, traced}
 use Rattle.hk_collect.proofs.UsedFacts.{grey_of}
@@ -108,14 +108,17 @@ unfolding is_grey words_of decoded raw word_if
 grey_within c n grey = elim (cases_Bool (nat_lt n (numbers c.geometry))) [
   | inl within ↦ ltb-true n (numbers c.geometry) within
   | inr out ↦
-      let z = spaces_of c.geometry (words_of c.geometry c.row).cycle in
-      let p = and_parts _ _ grey in
-      let there : is_within z z.old 0 ≡ true = rw out at p.1 in
+      let w = words_of c.geometry c.row in
+      let z = spaces_of c.geometry w.cycle in
+      let p = and_parts (nat_eq (w.mark n) w.cycle) (is_within z z.old (w.place n)) grey in
+      let unplaced : w.place n ≡ 0 = ap (λ (test : Bool). layout.header_place (if test then word_of c.geometry c.row (Header n) else 0)) out in
+      let there : is_within z z.old 0 ≡ true = ap (is_within z z.old) (sym unplaced) ∙ p.1 in
       never (sym (zero_not_old z (omega arith)) ∙ there)
 ]
 
 held_used : (r : Trace) → InUse r → (k item cycle : ℕ) → k ≤ tasks r.running.core.geometry
     → hands_of r.running.core.geometry (flight_at r.running.core) r.running.core.spot k ≡ to_reserve item cycle → BearsUsed r (layout.reference_number item)
+unfolding is_grey shades_of
 held_used r o k item cycle few holds =
     let grey = holder_grey in
     grey_was_used r o (layout.reference_number item) (grey_within r.running.core (layout.reference_number item) grey) grey
@@ -125,3 +128,150 @@ held_used r o k item cycle few holds =
 
 pub held_was_used : CollectKeepsLawful → HeldWasUsed
 held_was_used keeps g actions k item cycle few holds = held_used (traced g actions) (in_use_traced keeps g actions) k item cycle few holds
+
+-- WHO RESERVES
+
+module _ (g : Geometry) (x : Flight) where
+  -- an event that adds to W1 is that of a claim in hand that has still to reserve
+  abbrev Reserves : Option Event → Type 0
+  Reserves e = (words : ℕ) → e ≡ Some (event.Add (w1_at g) words) → (words ≡ reference_size x.item) × (hand_of_flight g x ≡ to_reserve x.item (layout.w0_cycle x.word))
+
+  by_test : (test : Bool) (a b : Option Event) → (test ≡ true → Reserves a) → (test ≡ false → Reserves b) → Reserves (if test then a else b)
+  by_test true a b yes' no' = yes' refl
+  by_test false a b yes' no' = no' refl
+
+  rests : Reserves None
+  rests words e = absurd (cc)
+
+  loads : (word : ℕ) → Reserves (Some (event.Load word))
+  loads word words e = absurd (cc)
+
+  writes : (word v : ℕ) → Reserves (Some (event.Write word v))
+  writes word v words e = absurd (cc)
+
+  subtracts : (word v : ℕ) → Reserves (Some (event.Sub word v))
+  subtracts word v words e = absurd (cc)
+
+  raises_mark : (word v : ℕ) → Reserves (Some (event.Max word v))
+  raises_mark word v words e = absurd (cc)
+
+  adds_elsewhere : (word v : ℕ) → word ≢ w1_at g → Reserves (Some (event.Add word v))
+  adds_elsewhere word v other words e = let same : word ≡ w1_at g = cc in absurd (other same)
+
+  enters : Reserves (table.enter_object g x)
+  unfolding table.enter_object
+  enters = adds_elsewhere (header_at g (layout.reference_number x.entered)) layout.entering (λ e. absurd (omega arith))
+
+  leaves : Reserves (table.leave_object g x)
+  unfolding table.leave_object
+  leaves = subtracts _ _
+
+  enters_frame : Reserves (table.enter_frame g x)
+  unfolding table.enter_frame
+  enters_frame = adds_elsewhere (frame_at g x.seat) layout.entering (λ e. absurd (omega arith))
+
+  leaves_frame : Reserves (table.leave_frame g x)
+  unfolding table.leave_frame
+  leaves_frame = subtracts _ _
+
+  reads_cell : (p : ℕ) → Reserves (table.read_cell g p)
+  unfolding table.read_cell
+  reads_cell p = loads _
+
+  writes_cell : (p v : ℕ) → Reserves (table.write_cell g p v)
+  unfolding table.write_cell
+  writes_cell p v = writes _ _
+
+  loads_w0 : Reserves (table.load_w0 g)
+  unfolding table.load_w0
+  loads_w0 = loads _
+
+  writes_register : (r v : ℕ) → Reserves (table.write_register g x r v)
+  unfolding table.write_register
+  writes_register r v = writes _ _
+
+  claims : Reserves (table.claim g x)
+  unfolding table.claim
+  claims = by_test (nat_eq x.item 0) None (Some (event.Max _ _)) (λ _. rests) (λ _. raises_mark _ _)
+
+  links : Reserves (table.link g x)
+  unfolding table.link
+  links = by_test (x.claimer && table.reserved_fits g x.offset x.item) (Some (event.Write _ x.item)) None (λ _. writes _ _) (λ _. rests)
+
+  raises : (shape : Shape) → Reserves (table.raise g shape)
+  unfolding table.raise
+  raises shape = adds_elsewhere (w0_at g) _ (λ e. absurd (omega arith))
+
+  loads_entry : Reserves (table.load_entry g x)
+  unfolding table.load_entry
+  loads_entry = loads _
+
+  writes_header : Reserves (table.write_header g x)
+  unfolding table.write_header
+  writes_header = writes _ _
+
+  reserves : f.reserves_at x.call x.place ≡ true → Reserves (table.reserve g x)
+  unfolding table.reserve hand_of_flight
+  reserves here = by_test x.claimer (Some (event.Add (w1_at g) (reference_size x.item))) None
+      (λ claimer words e. (let same : reference_size x.item ≡ words = cc in sym same, rw (claimer, here) refl)) (λ _. rests)
+
+  -- the calls
+  load_reserves : (dest reg field : ℕ) → x.call ≡ call.Load dest reg field → Reserves (table.load_event g x dest field)
+  unfolding table.load_event f.reserves_at
+  load_reserves dest reg field is_load =
+      by_test (nat_eq x.place 1) _ _ (λ e. enters_frame)
+      (λ _. by_test (nat_eq x.place 2) _ _ (λ e. enters)
+      (λ _. by_test (nat_eq x.place 3) _ _ (λ e. loads_w0)
+      (λ _. by_test (nat_eq x.place 4) _ _ (λ e. reads_cell (table.reference_cell x field))
+      (λ _. by_test (nat_eq x.place 5) _ _ (λ e. claims)
+      (λ _. by_test (nat_eq x.place 6) _ _ (λ e. let at = eqb-true x.place 6 e in reserves (rw (is_load, at) refl))
+      (λ _. by_test (nat_eq x.place 7) _ _ (λ e. links)
+      (λ _. by_test (nat_eq x.place 8) _ _ (λ e. writes_register dest x.item)
+      (λ _. by_test (nat_eq x.place 9) _ _ (λ e. leaves)
+      (λ _. by_test (nat_eq x.place 10) _ _ (λ e. leaves_frame)
+      (λ _. rests))))))))))
+
+  store_reserves : (reg field from : ℕ) → x.call ≡ call.Store reg field from → Reserves (table.store_event g x field)
+  unfolding table.store_event f.reserves_at
+  store_reserves reg field from is_store =
+      by_test (nat_eq x.place 1) _ _ (λ e. enters)
+      (λ _. by_test (nat_eq x.place 2) _ _ (λ e. by_test (nat_eq x.item 0) _ _ (λ null. rests) (λ some. loads_w0))
+      (λ _. by_test (nat_eq x.place 3) _ _ (λ e. claims)
+      (λ _. by_test (nat_eq x.place 4) _ _ (λ e. let at = eqb-true x.place 4 e in reserves (rw (is_store, at) refl))
+      (λ _. by_test (nat_eq x.place 5) _ _ (λ e. links)
+      (λ _. by_test (nat_eq x.place 6) _ _ (λ e. writes_cell (table.reference_cell x field) x.item)
+      (λ _. by_test (nat_eq x.place 7) _ _ (λ e. leaves)
+      (λ _. rests)))))))
+
+  new_reserves : (dest : ℕ) (shape : Shape) → Reserves (table.new_event g x dest shape)
+  unfolding table.new_event
+  new_reserves dest shape =
+      by_test (nat_eq x.place 1) _ _ (λ e. loads_w0)
+      (λ _. by_test (nat_eq x.place 2) _ _ (λ e. by_test x.full _ _ (λ full. rests) (λ found. enters_frame))
+      (λ _. by_test (nat_eq x.place 3) _ _ (λ e. by_test x.full _ _ (λ full. rests) (λ found. raises shape))
+      (λ _. by_test (nat_eq x.place 4) _ _ (λ e. by_test x.full _ _ (λ full. rests) (λ found. loads_entry))
+      (λ _. by_test (nat_eq x.place 5) _ _ (λ e. by_test x.full _ _ (λ full. rests) (λ found. writes_header))
+      (λ _. by_test (nat_eq x.place 6) _ _ (λ e. by_test x.full _ _ (λ full. rests) (λ found. writes_register dest (table.new_reference x shape)))
+      (λ _. by_test (nat_eq x.place 7) _ _ (λ e. by_test (x.full && not x.raised) _ _ (λ full. rests) (λ busy. leaves_frame))
+      (λ _. rests)))))))
+
+  call_reserves : Reserves (table.event_of g x)
+  unfolding table.event_of table.event_at table.get_event table.put_event table.move_event table.clear_event
+  call_reserves = each x.call refl
+    where
+      each : (call' : Call) → x.call ≡ call' → Reserves (table.event_at g x call')
+      each (call.Get reg field) e =
+          by_test (nat_eq x.place 1) _ _ (λ e. enters) (λ _. by_test (nat_eq x.place 2) _ _ (λ e. reads_cell (table.number_cell x field))
+          (λ _. by_test (nat_eq x.place 3) _ _ (λ e. leaves) (λ _. rests)))
+      each (call.Put reg field value) e =
+          by_test (nat_eq x.place 1) _ _ (λ e. enters) (λ _. by_test (nat_eq x.place 2) _ _ (λ e. writes_cell (table.number_cell x field) value)
+          (λ _. by_test (nat_eq x.place 3) _ _ (λ e. leaves) (λ _. rests)))
+      each (call.Load dest reg field) e = load_reserves dest reg field e
+      each (call.Store reg field from) e = store_reserves reg field from e
+      each (call.Move dest from) e =
+          by_test (nat_eq x.place 1) _ _ (λ e. enters_frame) (λ _. by_test (nat_eq x.place 2) _ _ (λ e. writes_register dest x.item)
+          (λ _. by_test (nat_eq x.place 3) _ _ (λ e. leaves_frame) (λ _. rests)))
+      each (call.Clear dest) e = by_test (nat_eq x.place 1) _ _ (λ e. writes_register dest 0) (λ _. rests)
+      each (call.New dest shape) e = new_reserves dest shape
+      each (call.Same a b) e = rests
+      each (call.IsNull reg) e = rests

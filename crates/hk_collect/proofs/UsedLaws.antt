@@ -32,6 +32,7 @@ use Rattle.hk_core.specs.Step.{reference_size, next, history_after}
 use Rattle.hk_core.specs.View.{words_of, decoded, raw, word_if, names_of, flight_at}
 use Rattle.hk_core.specs.Colours.{spaces_of, shades_of, is_within}
 use Rattle.hk_core.specs.Lawful.{hands_of}
+use Rattle.hk_core.proofs.kinds.SpotClaim.{own_hand}
 use Rattle.hk_collect.specs.Used.{Trace, BearsUsed, CollectKeepsLawful, TracedIsRun, TracedKeepsGeometry, ClaimedWasUsed, HeldWasUsed, CallsReserveUsed, CollectorReservesUsed, is_flip, is_grey, trace_act, trace_opening, traced}
 use Rattle.hk_collect.proofs.UsedFacts.{grey_of}
 use Rattle.hk_collect.proofs.UsedMarks.{zero_not_old}
@@ -275,3 +276,106 @@ module _ (g : Geometry) (x : Flight) where
       each (call.New dest shape) e = new_reserves dest shape
       each (call.Same a b) e = rests
       each (call.IsNull reg) e = rests
+
+module _ (g : Geometry) (t : Spot) where
+  abbrev ReservesAtSpot : Option Event → Type 0
+  ReservesAtSpot e = (words : ℕ) → e ≡ Some (event.Add (w1_at g) words) → (words ≡ reference_size t.cell) × (l.hand_of_spot t ≡ to_reserve t.cell t.cycle)
+
+  spot_rests : ReservesAtSpot None
+  spot_rests words e = absurd (cc)
+
+  spot_loads : (word : ℕ) → ReservesAtSpot (Some (event.Load word))
+  spot_loads word words e = absurd (cc)
+
+  spot_writes : (word v : ℕ) → ReservesAtSpot (Some (event.Write word v))
+  spot_writes word v words e = absurd (cc)
+
+  spot_swaps : (word v : ℕ) → ReservesAtSpot (Some (event.Swap word v))
+  spot_swaps word v words e = absurd (cc)
+
+  spot_trades : (word current new : ℕ) → ReservesAtSpot (Some (event.Trade word current new))
+  spot_trades word current new words e = absurd (cc)
+
+  spot_claims : ReservesAtSpot (collects.claim_cell g t)
+  unfolding collects.claim_cell
+  spot_claims words e = absurd (cc)
+
+  spot_links : ReservesAtSpot (collects.link_cell g t)
+  unfolding collects.link_cell
+  spot_links = spot_writes _ _
+
+  spot_reserves : l.hand_of_spot t ≡ to_reserve t.cell t.cycle → ReservesAtSpot (collects.reserve_cell g t)
+  unfolding collects.reserve_cell
+  spot_reserves holds words e = (let same : reference_size t.cell ≡ words = cc in sym same, holds)
+
+  register_reserves : (s r : ℕ) (st : Stage) → t.line ≡ line.Register s r st → ReservesAtSpot (collects.register_event g t s r st)
+  unfolding collects.register_event l.hand_of_spot l.hand_at_line l.hand_at
+  register_reserves s r stage.Read at = spot_loads _
+  register_reserves s r stage.Claim at = spot_claims
+  register_reserves s r stage.Reserve at = spot_reserves (ap (l.hand_at_line t) at)
+  register_reserves s r stage.Tie at = spot_links
+  register_reserves s r stage.Write at = spot_rests
+  register_reserves s r stage.Mark at = spot_rests
+  register_reserves s r stage.Empty at = spot_rests
+
+  cell_reserves : (i : ℕ) (st : Stage) → t.line ≡ line.Cell i st → ReservesAtSpot (collects.cell_event g t i st)
+  unfolding collects.cell_event l.hand_of_spot l.hand_at_line l.hand_at
+  cell_reserves i stage.Read at = spot_loads _
+  cell_reserves i stage.Claim at = spot_claims
+  cell_reserves i stage.Reserve at = spot_reserves (ap (l.hand_at_line t) at)
+  cell_reserves i stage.Tie at = spot_links
+  cell_reserves i stage.Write at = spot_writes _ _
+  cell_reserves i stage.Mark at = spot_rests
+  cell_reserves i stage.Empty at = spot_rests
+
+  sweep_reserves : (n : ℕ) (st : Stage) → ReservesAtSpot (collects.sweep_event g t n st)
+  unfolding collects.sweep_event
+  sweep_reserves n stage.Read = spot_loads _
+  sweep_reserves n stage.Claim = spot_rests
+  sweep_reserves n stage.Reserve = spot_rests
+  sweep_reserves n stage.Tie = spot_rests
+  sweep_reserves n stage.Write = spot_writes _ _
+  sweep_reserves n stage.Mark = spot_writes _ _
+  sweep_reserves n stage.Empty = spot_writes _ _
+
+  line_reserves : (ln : Line) → t.line ≡ ln → ReservesAtSpot (collects.event_at_line g t ln)
+  unfolding collects.event_at_line collects.rest_event collects.frame_event collects.frame_trade_event collects.scan_event collects.link_event collects.look_event collects.object_trade_event collects.pass_event collects.pass_head_event collects.clear_event collects.reset_event
+  line_reserves line.Rest at = by_worn (nat_eq t.cycle collects.last_cycle)
+    where
+      by_worn : (worn : Bool) → ReservesAtSpot (if worn then None else Some (event.Swap (w0_at g) (layout.pack_w0 0 0 (t.cycle + 1))))
+      by_worn true = spot_rests
+      by_worn false = spot_swaps _ _
+  line_reserves (line.Frame s) at = spot_loads _
+  line_reserves (line.Register s r st) at = register_reserves s r st at
+  line_reserves (line.FrameTrade s) at = spot_trades _ _ _
+  line_reserves line.Scan at = spot_loads _
+  line_reserves line.Link at = spot_loads _
+  line_reserves line.Look at = spot_loads _
+  line_reserves (line.Cell i st) at = cell_reserves i st at
+  line_reserves line.ObjectTrade at = spot_trades _ _ _
+  line_reserves (line.Pass n) at = spot_loads _
+  line_reserves (line.PassHead n) at = spot_loads _
+  line_reserves (line.Sweep n st) at = sweep_reserves n st
+  line_reserves (line.Clear i) at = spot_writes _ _
+  line_reserves line.Reset at = spot_writes _ _
+
+-- THE LAWS
+
+pub calls_reserve_used : CollectKeepsLawful → CallsReserveUsed
+unfolding table.event_by flight_at hands_of
+calls_reserve_used keeps g actions seat words below e =
+    let r = traced g actions in
+    let c = r.running.core in
+    let x = flight_of c.flights seat in
+    let found = call_reserves c.geometry x words e in
+    let holds : hands_of c.geometry (flight_at c) c.spot seat ≡ to_reserve x.item (layout.w0_cycle x.word) = rw (lt-ltb seat (tasks c.geometry) below) found.1 in
+    (found.0, held_used r (in_use_traced keeps g actions) seat x.item (layout.w0_cycle x.word) (omega arith) holds)
+
+pub collector_reserves_used : CollectKeepsLawful → CollectorReservesUsed
+unfolding collects.event_by_collector collects.spot_event
+collector_reserves_used keeps g actions words e =
+    let r = traced g actions in
+    let c = r.running.core in
+    let t = c.spot in
+    let found = line_reserves c.geometry t t.line refl words e in
+    (found.0, held_used r (in_use_traced keeps g actions) (tasks c.geometry) t.cell t.cycle (omega arith) (own_hand c.geometry (flight_at c) t ∙ found.1))

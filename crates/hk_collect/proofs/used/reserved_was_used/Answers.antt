@@ -1,0 +1,20 @@
+use Rattle.hk_collect.proofs.UsedLaws.{traced_is_run, traced_keeps_geometry, claimed_was_used, held_was_used, calls_reserve_used, collector_reserves_used}
+use Rattle.hk_collect.proofs.used.reserved_was_used.Goals as goal
+
+pub returns-clause-run : goal.returns-clause-run
+returns-clause-run c = traced_is_run
+
+pub returns-clause-geometry : goal.returns-clause-geometry
+returns-clause-geometry c = traced_keeps_geometry
+
+pub returns-clause-claimed : goal.returns-clause-claimed
+returns-clause-claimed c = claimed_was_used
+
+pub returns-clause-held : goal.returns-clause-held
+returns-clause-held c = held_was_used
+
+pub returns-clause-calls : goal.returns-clause-calls
+returns-clause-calls c = calls_reserve_used
+
+pub returns-clause-collector : goal.returns-clause-collector
+returns-clause-collector c = collector_reserves_used

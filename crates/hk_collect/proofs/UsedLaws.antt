@@ -1,7 +1,8 @@
 -- The laws of traced runs, from the facts that hold of them.
 use Rattle.std.proofs.Common.{◌≡◌, ◌≢◌, ◌⊎◌, ℕ, ◌+◌, ◌*◌, ◌<◌, ◌≤◌, Bool, true, false, inl, inr, refl, sym, ◌∙◌, ap, arith, List, [], ◌∷◌, Option, Some, None}
-use Rattle.std.proofs.lemmas.Bool.{cases_Bool, and_parts, lt-ltb, ltb-true, eqb-true}
-use Rattle.std.specs.Prelude.{nat_eq, nat_lt, not, ◌&&◌, fold, if◌then◌else◌}
+use Rattle.std.proofs.lemmas.Bool.{cases_Bool, and_from, and_parts, lt-ltb, ltb-true, eq-eqb, eqb-true}
+use Rattle.std.proofs.lemmas.List.Elements.{Contains-push}
+use Rattle.std.specs.Prelude.{nat_eq, nat_lt, not, ◌&&◌, fold, Contains, if◌then◌else◌}
 use Rattle.hk_words.specs.declared.geometry.Geometry.{Geometry}
 use Rattle.hk_words.specs.declared.call.Call.{Call}
 use Rattle.hk_words.specs.declared.call.Call.TheVariants as call
@@ -33,7 +34,8 @@ use Rattle.hk_core.specs.View.{words_of, decoded, raw, word_if, names_of, flight
 use Rattle.hk_core.specs.Colours.{spaces_of, shades_of, is_within}
 use Rattle.hk_core.specs.Lawful.{hands_of}
 use Rattle.hk_core.proofs.kinds.SpotClaim.{own_hand}
-use Rattle.hk_collect.specs.Used.{Trace, BearsUsed, CollectKeepsLawful, TracedIsRun, TracedKeepsGeometry, ClaimedWasUsed, HeldWasUsed, CallsReserveUsed, CollectorReservesUsed, is_flip, is_grey, trace_act, trace_opening, traced}
+use Rattle.hk_collect.specs.Used.{Trace, BearsUsed, CollectKeepsLawful, TracedIsRun, TracedKeepsGeometry, OthersAreLate, ClaimedWasUsed, HeldWasUsed, CallsReserveUsed, CollectorReservesUsed, gives_young, is_flip, is_grey, next_birth, trace_act, trace_opening, traced}
+use Rattle.hk_collect.proofs.UsedBirth.{about_to_bear}
 use Rattle.hk_collect.proofs.UsedFacts.{grey_of}
 use Rattle.hk_collect.proofs.UsedMarks.{zero_not_old}
 use Rattle.hk_collect.proofs.UsedTrace.{InUse, in_use_traced}
@@ -379,3 +381,38 @@ collector_reserves_used keeps g actions words e =
     let t = c.spot in
     let found = line_reserves c.geometry t t.line refl words e in
     (found.0, held_used r (in_use_traced keeps g actions) (tasks c.geometry) t.cell t.cycle (omega arith) (own_hand c.geometry (flight_at c) t ∙ found.1))
+
+-- a New that has its header has raised W0
+header_raised : (x : Flight) → f.IsInStep x → f.has_header x ≡ true → f.has_raised x ≡ true
+unfolding f.has_raised f.is_new_at
+header_raised x news has =
+    let about = about_to_bear x has in
+    let in_step : f.IsNewInStep x.place x.full x.raised = rw about.is_new at news in
+    let raised : x.raised ≡ true = in_step.raised_by_then (let at = about.at in omega arith) about.room in
+    rw (about.is_new, about.at, raised) refl
+
+pub others_are_late : CollectKeepsLawful → OthersAreLate
+unfolding trace_act flight_at
+others_are_late keeps g actions seat below has = by_young (gives_young (traced g actions).running.core seat) refl
+  where
+    by_young : (young : Bool) → gives_young (traced g actions).running.core seat ≡ young
+        → Contains (trace_act (traced g actions) (step seat)).young (next_birth (traced g actions).running.core.geometry (traced g actions).running.history)
+        ⊎ (f.cycle_of (flight_of (traced g actions).running.core.flights seat) + 1 ≡ (words_of (traced g actions).running.core.geometry (traced g actions).running.core.row).cycle)
+    by_young true e =
+        let r = traced g actions in
+        let c = r.running.core in
+        let b = next_birth c.geometry r.running.history in
+        let about = about_to_bear (flight_of c.flights seat) has in
+        let busy : is_busy c seat ≡ true = rw (lt-ltb seat (tasks c.geometry) below, about.at) refl in
+        inl (rw (busy, e) (Contains-push r.young b))
+    by_young false e =
+        let r = traced g actions in
+        let c = r.running.core in
+        let o = in_use_traced keeps g actions in
+        let x = flight_of c.flights seat in
+        let raised = header_raised x (o.lawful.facts.news_in_step seat below) has in
+        let w = words_of c.geometry c.row in
+        elim (o.lawful.facts.news_recent seat below raised) [
+          | inl same ↦ never (sym e ∙ and_from _ _ has (eq-eqb (f.cycle_of x) w.cycle same))
+          | inr before ↦ inr before
+        ]

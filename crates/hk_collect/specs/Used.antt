@@ -1,7 +1,7 @@
 -- Which objects the collector and the calls reserve places for: only those that were in use when the cycle began, or that
 -- were made since by a New which had raised W0 before. A run is traced for that: beside the state and its history goes the
 -- history at the last flip, and the births since then whose New raised W0 after it.
-use Rattle.std.specs.Prelude.{◌≡◌, ◌⊎◌, ℕ, ◌<◌, ◌≤◌, nat_eq, Bool, true, false, ◌&&◌, List, [], ◌∷◌, ◌++◌, fold, Contains, Option, Some, if◌then◌else◌}
+use Rattle.std.specs.Prelude.{◌≡◌, ◌⊎◌, ℕ, ◌+◌, ◌<◌, ◌≤◌, nat_eq, Bool, true, false, ◌&&◌, List, [], ◌∷◌, ◌++◌, fold, Contains, Option, Some, if◌then◌else◌}
 use Rattle.hk_words.specs.declared.geometry.Geometry.{Geometry}
 use Rattle.hk_words.specs.Geometry.{tasks, numbers}
 use Rattle.hk_words.specs.Layout.{reference_number}
@@ -127,7 +127,7 @@ YoungBorn young next = (birth : ℕ) → Contains young birth → birth < next
 
 -- THE LAW
 
--- whatever the collector keeps, a lawful state stays so
+-- each event of the collector keeps a lawful state lawful, for the same history
 abbrev pub CollectKeepsLawful : Type 0
 CollectKeepsLawful = (c : State) (history : History) → Lawful c history → Lawful (next_collected c) history
 
@@ -137,6 +137,14 @@ TracedIsRun = (g : Geometry) (actions : List Action) → (traced g actions).runn
 
 abbrev pub TracedKeepsGeometry : Type 0
 TracedKeepsGeometry = (g : Geometry) (actions : List Action) → (traced g actions).running.core.geometry ≡ g
+
+-- A birth that isn't added to the young ones is of a New that raised W0 in the cycle before, so before the last flip: the
+-- step of a seat that makes an object adds its birth, or the W0 that it raised was of the cycle before.
+abbrev pub OthersAreLate : Type 0
+OthersAreLate = (g : Geometry) (actions : List Action) (seat : ℕ) → let r = traced g actions in let c = r.running.core in
+    seat < tasks c.geometry → has_header (flight_of c.flights seat) ≡ true
+    → Contains (trace_act r (step seat)).young (next_birth c.geometry r.running.history)
+    ⊎ (cycle_of (flight_of c.flights seat) + 1 ≡ (words_of c.geometry c.row).cycle)
 
 -- each number that was claimed in this cycle and isn't moved yet is borne by a birth that was in use
 abbrev pub ClaimedWasUsed : Type 0

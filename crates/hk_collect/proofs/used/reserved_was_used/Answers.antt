@@ -1,4 +1,4 @@
-use Rattle.hk_collect.proofs.UsedLaws.{traced_is_run, traced_keeps_geometry, claimed_was_used, held_was_used, calls_reserve_used, collector_reserves_used}
+use Rattle.hk_collect.proofs.UsedLaws.{traced_is_run, traced_keeps_geometry, others_are_late, claimed_was_used, held_was_used, calls_reserve_used, collector_reserves_used}
 use Rattle.hk_collect.proofs.used.reserved_was_used.Goals as goal
 
 pub returns-clause-run : goal.returns-clause-run
@@ -6,6 +6,9 @@ returns-clause-run c = traced_is_run
 
 pub returns-clause-geometry : goal.returns-clause-geometry
 returns-clause-geometry c = traced_keeps_geometry
+
+pub returns-clause-late : goal.returns-clause-late
+returns-clause-late c = others_are_late
 
 pub returns-clause-claimed : goal.returns-clause-claimed
 returns-clause-claimed c = claimed_was_used

@@ -1,41 +1,39 @@
 -- What is in use after the birth of an object: the new birth is in use, and it is young where its New raised W0 in the present
 -- cycle.
-use Rattle.std.proofs.Common.{◌≡◌, ◌≢◌, ◌⊎◌, ℕ, ◌+◌, ◌*◌, ◌%◌, ◌^◌, ◌<◌, ◌≤◌, Bool, true, false, [], ◌∷◌, ◌++◌, inl, inr, refl, sym, ◌∙◌, ap, arith, List, Option, Some, None}
-use Rattle.std.proofs.lemmas.Bool.{cases_eq, cases_Bool, eqb-true, ne_eqb, and_parts, and_right, not-true}
+use Rattle.std.proofs.Common.{◌≡◌, ◌≢◌, ℕ, ◌+◌, ◌%◌, ◌<◌, ◌≤◌, Bool, true, false, [], ◌∷◌, ◌++◌, inl, inr, refl, sym, ◌∙◌, ap, arith, List, Option, Some}
+use Rattle.std.proofs.lemmas.Bool.{cases_eq, eqb-true, ne_eqb, and_parts, and_right, not-true}
 use Rattle.std.proofs.lemmas.Bool.Decides.{nat_tests}
 use Rattle.std.specs.Prelude.{nat_eq, nat_le, not, ◌&&◌, Contains, if◌then◌else◌}
-use Rattle.hk_words.specs.declared.geometry.Geometry.{Geometry}
 use Rattle.hk_words.specs.declared.call.Call.{Call}
 use Rattle.hk_words.specs.declared.call.Call.TheVariants as call
 use Rattle.hk_words.specs.declared.shape.Shape.{Shape}
 use Rattle.hk_words.specs.Geometry.{tasks, numbers}
 use Rattle.hk_words.specs.Calls.{RegistersFit}
 use Rattle.hk_words.specs.Layout as layout
-use Rattle.hk_words.specs.Row.{place_at, register_at}
+use Rattle.hk_words.specs.Row.{place_at}
 use Rattle.hk_words.specs.Shape.{size}
 use Rattle.hk_model.specs.Heap.{born, opening_of}
 use Rattle.hk_model.specs.History.{History, after, after_entry}
 use Rattle.hk_model.proofs.Histories.{after-push, born-heap_after_new}
 use Rattle.hk_model.specs.View.{upd}
 use Rattle.hk_core.specs.declared.event.Event.{Event}
-use Rattle.hk_core.specs.declared.event.Event.TheVariants as event
 use Rattle.hk_core.specs.declared.flight.Flight.{Flight}
 use Rattle.hk_core.specs.State.{State, flight_of}
 use Rattle.hk_core.specs.Event.{fired_if}
-use Rattle.hk_core.specs.Step.{event_of, event_by, history_after, new_place, new_reference}
-use Rattle.hk_core.specs.View.{Words, words_of, names_of, flight_at, reference_at}
+use Rattle.hk_core.specs.Step.{event_by, history_after, new_place, new_reference}
+use Rattle.hk_core.specs.View.{Words, words_of, names_of, flight_at}
 use Rattle.hk_core.specs.Flights as f
 use Rattle.hk_core.specs.Lines as l
 use Rattle.hk_core.specs.Colours.{spaces_of, shades_of, held_by, is_within, IsGood}
 use Rattle.hk_core.specs.Lawful.{Lawful}
-use Rattle.hk_core.proofs.Next.{found_at_place, history_at_place}
+use Rattle.hk_core.proofs.Next.{history_at_place}
 use Rattle.hk_core.proofs.kinds.LoadRead.{names_number}
 use Rattle.hk_core.proofs.kinds.NewHeader.{holder_holds}
 use Rattle.hk_core.proofs.kinds.NewHistory.{made, is_next, names-born}
 use Rattle.hk_core.proofs.kinds.NewSteps.{new_does_6}
 use Rattle.hk_core.proofs.kinds.Seats.{kept_means}
 use Rattle.hk_core.proofs.kinds.WriteRegister.{writing_words}
-use Rattle.hk_collect.specs.Used.{IsUsedWord, YoungBorn, next_birth, gives_young}
+use Rattle.hk_collect.specs.Used.{YoungBorn, next_birth, gives_young}
 use Rattle.hk_collect.proofs.UsedCalls.{not_old}
 use Rattle.hk_collect.proofs.UsedFacts.{grey_of, MarksUsed, SpotUsed, marks_same, marks_born, marks_born_young, spot_born, spot_register, word_new}
 
@@ -212,5 +210,5 @@ module _ (c : State) (history : History) (h : Lawful c history) (s : ℕ) (below
         rw bearer_after (
           marks_same g now then_words bearer' used (young_after young) (ap (λ (u : Words). u.mark) words_after) (ap (λ (u : Words). u.place) words_after) (ap (λ (u : Words). u.cycle) words_after) marks_now,
           spot_register g now then_words bearer' used young c.spot.line c.spot.cell s x.dest v (ap (λ (u : Words). u.register) words_after)
-          (word_new g borne used n b v names_new is) (spot_born g borne used n b now c.spot.line c.spot.cell register_else cell_else spot),
+              (word_new g borne used n b v names_new is) (spot_born g borne used n b now c.spot.line c.spot.cell register_else cell_else spot),
         )

@@ -1,6 +1,6 @@
 -- What is in use after a step of a seat that makes no birth: the event of each place of each call keeps the facts.
-use Rattle.std.proofs.Common.{◌≡◌, ◌≢◌, ◌⊎◌, ℕ, ◌+◌, ◌*◌, ◌%◌, ◌<◌, ◌≤◌, Bool, true, false, inl, inr, refl, sym, ◌∙◌, ap, arith, List, Option, Some, None}
-use Rattle.std.proofs.lemmas.Bool.{cases_eq, cases_Bool, eqb-true, eq-eqb, ne_eqb, le-ltb, ltb-true, and_right}
+use Rattle.std.proofs.Common.{◌≡◌, ◌≢◌, ℕ, ◌+◌, ◌*◌, ◌%◌, ◌<◌, ◌≤◌, Bool, true, false, inl, inr, refl, sym, ◌∙◌, ap, arith, List, Option, Some, None}
+use Rattle.std.proofs.lemmas.Bool.{cases_eq, eqb-true, eq-eqb, ne_eqb, and_right}
 use Rattle.std.proofs.lemmas.Bool.Decides.{nat_tests}
 use Rattle.std.specs.Prelude.{nat_eq, nat_le, nat_lt, not, ◌&&◌, if◌then◌else◌}
 use Rattle.hk_words.specs.declared.geometry.Geometry.{Geometry}
@@ -18,7 +18,6 @@ use Rattle.hk_model.specs.View.{upd}
 use Rattle.hk_model.proofs.Updates.{upd_same}
 use Rattle.hk_core.specs.declared.event.Event.{Event}
 use Rattle.hk_core.specs.declared.event.Event.TheVariants as event
-use Rattle.hk_core.specs.declared.flight.Flight.{Flight}
 use Rattle.hk_core.specs.Begin.{copied}
 use Rattle.hk_core.specs.Event.{fired_if}
 use Rattle.hk_core.specs.State.{State}
@@ -27,7 +26,7 @@ use Rattle.hk_core.specs.Step.{number_cell, reference_cell, reference_size, rese
 use Rattle.hk_core.specs.View.{Words, words_of, names_of, contents_of, flight_at, shown}
 use Rattle.hk_core.specs.Flights as f
 use Rattle.hk_core.specs.Facts.{IsRecent}
-use Rattle.hk_core.specs.Colours.{Spaces, spaces_of, shades_of, held_by, grey_by, is_within, IsKeptBirth, IsNullOrKept}
+use Rattle.hk_core.specs.Colours.{spaces_of, shades_of, held_by, grey_by, is_within, IsKeptBirth, IsNullOrKept}
 use Rattle.hk_core.specs.Lawful.{Lawful}
 use Rattle.hk_core.proofs.Rows.{words_some}
 use Rattle.hk_core.proofs.kinds.ClaimWords.{words-claim}
@@ -39,8 +38,8 @@ use Rattle.hk_core.proofs.kinds.NewSteps.{new_does_5}
 use Rattle.hk_core.proofs.kinds.Seats.{kept_means}
 use Rattle.hk_core.proofs.kinds.Words.{words-enter_object, words-leave_object, words-write_register, room_in_object, some_in_object}
 use Rattle.hk_collect.specs.Used.{Closed, IsUsedWord}
-use Rattle.hk_collect.proofs.UsedFacts.{grey_of, MarksUsed, SpotUsed, marks_same, marks_agree, marks_claim, marks_place, spot_agree, spot_same, spot_register}
-use Rattle.hk_collect.proofs.UsedRows.{Agrees, agrees_itself, agrees_fired, agrees_load, agrees_rest, beside_w0, beside_w1, beside_frame, beside_entry, beside_space}
+use Rattle.hk_collect.proofs.UsedFacts.{MarksUsed, SpotUsed, marks_same, marks_agree, marks_claim, marks_place, spot_agree, spot_same, spot_register}
+use Rattle.hk_collect.proofs.UsedRows.{Agrees, agrees_fired, agrees_load, agrees_rest, beside_w0, beside_w1, beside_frame, beside_space}
 
 -- a place of the current space isn't one of the old one
 pub not_old : (g : Geometry) (cycle x : ℕ) → x < g.live + g.alloc → is_within (spaces_of g cycle) (spaces_of g cycle).old (place_at g (cycle % 2) x) ≡ false
@@ -377,7 +376,7 @@ module _ (c : State) (history : History) (h : Lawful c history) (used : ℕ → 
         let places : (then_words (Some e)).place ≡ upd now.place x.number (new_place g x) = ap (λ (u : Words). u.place) after' in
         let marked : (then_words (Some e)).mark ≡ now.mark = ap (λ (u : Words). u.mark) after' in (
           marks_place g now (then_words (Some e)) borne used young x.number (new_place g x) cycle marked places
-          (λ within. rw (cycle, places, marked) (new_dark dest shape is_new at room)) marks,
+              (λ within. rw (cycle, places, marked) (new_dark dest shape is_new at room)) marks,
           spot_same g now (then_words (Some e)) borne used young c.spot.line c.spot.cell (ap (λ (u : Words). u.register) after') spot,
         )
 

@@ -1,6 +1,6 @@
 -- The facts of a traced run after each kind of change of the columns.
-use Rattle.std.proofs.Common.{◌≡◌, ◌≢◌, ◌⊎◌, ℕ, ◌+◌, ◌<◌, ◌≤◌, Bool, true, false, inl, inr, refl, sym, ◌∙◌, ap, arith, List, [], ◌∷◌, ◌++◌, Option, Some, None}
-use Rattle.std.proofs.lemmas.Bool.{cases_eq, and_parts, and_from, eqb-true, eq-eqb}
+use Rattle.std.proofs.Common.{◌≡◌, ◌≢◌, ℕ, ◌<◌, ◌≤◌, Bool, true, false, inl, inr, sym, ◌∙◌, ap, arith, List, [], ◌∷◌, ◌++◌, Option, Some}
+use Rattle.std.proofs.lemmas.Bool.{cases_eq, and_parts, and_from, eq-eqb}
 use Rattle.std.proofs.lemmas.List.Elements.{Contains-push_cases}
 use Rattle.std.specs.Prelude.{nat_eq, ◌&&◌, max, Contains}
 use Rattle.hk_words.specs.declared.geometry.Geometry.{Geometry}
@@ -13,7 +13,7 @@ use Rattle.hk_core.specs.View.{Words}
 use Rattle.hk_core.specs.Lines as l
 use Rattle.hk_core.specs.Colours.{Spaces, spaces_of, grey_by, is_within}
 use Rattle.hk_core.proofs.Update.{upd_cases, upd2_cases}
-use Rattle.hk_collect.specs.Used.{IsUsedWord, AttemptUsed, CellUsed, GreyUsed, YoungMarked, YoungBorn}
+use Rattle.hk_collect.specs.Used.{IsUsedWord, AttemptUsed, CellUsed, GreyUsed, YoungMarked}
 use Rattle.hk_collect.proofs.UsedRows.{Agrees}
 
 -- what is grey, of the words
@@ -149,10 +149,15 @@ module _ (g : Geometry) (bearer : ℕ → Option ℕ) (used : ℕ → Type 0) (n
   marks_born_young w young dark unborn marked h = record {
     grey = λ m within grey. let found = h.grey m within grey in elim (cases_eq m n) [
       | inl e ↦ never (sym dark ∙ ap (grey_of g w) (sym e) ∙ grey)
-      | inr d ↦ (found.0, upd_other bearer n (Some b) m d ∙ found.1, found.2, λ here. elim (Contains-push_cases young b found.0 here) [
-        | inl there ↦ found.3 there
-        | inr same ↦ unborn m (found.1 ∙ ap (λ k. Some k) (sym same))
-      ])
+      | inr d ↦ (
+        found.0,
+        upd_other bearer n (Some b) m d ∙ found.1,
+        found.2,
+        λ here. elim (Contains-push_cases young b found.0 here) [
+          | inl there ↦ found.3 there
+          | inr same ↦ unborn m (found.1 ∙ ap (λ k. Some k) (sym same))
+        ],
+      )
     ];
     young_marked = λ m c bears here. elim (upd_cases bearer n (Some b) m) [
       | inl (e, q) ↦ ap w.mark e ∙ marked

@@ -1,6 +1,6 @@
 -- The plain heap alone: what its registers and the births in use refer to is in use, from the flip on. A birth is in use that
 -- could be reached at the flip, or was born since.
-use Rattle.std.proofs.Common.{◌≡◌, ◌≢◌, ◌⊎◌, ℕ, ◌+◌, ◌<◌, ◌≤◌, Bool, true, false, inl, inr, refl, sym, ◌∙◌, ap, arith, List, [], ◌∷◌, length, get_or, set, slice_get, unwrap_or, option_map, Option, Some, None}
+use Rattle.std.proofs.Common.{◌≡◌, ◌≢◌, ◌⊎◌, ℕ, ◌<◌, ◌≤◌, Bool, true, false, inl, inr, refl, sym, ◌∙◌, ap, arith, List, [], length, get_or, set, slice_get, unwrap_or, option_map, Option, Some, None}
 use Rattle.std.proofs.lemmas.Bool.{cases_eq, cases_lt, ltb-true}
 use Rattle.std.proofs.lemmas.List.{get_or_past}
 use Rattle.std.specs.Prelude.{if◌then◌else◌}
@@ -12,11 +12,10 @@ use Rattle.hk_words.specs.Geometry.{tasks}
 use Rattle.hk_model.specs.Heap.{Object, Heap, IsHeap, born, register, register_count, of_object, refs, link}
 use Rattle.hk_model.specs.Replies.{entering, has_number, has_reference, heap_after, with_register, with_link, with_value, with_object}
 use Rattle.hk_model.specs.History.{Entry, is_refused, after_entry}
-use Rattle.hk_model.specs.View.{upd}
 use Rattle.hk_model.proofs.Lists.{get_or-set_cases, get_or-changed_row_cases, read-changed_at_same, read-changed_at_other}
 use Rattle.hk_model.proofs.Updates.{upd_other}
-use Rattle.hk_model.proofs.Views.{of_object-with_link, of_object-with_value, of_object-with_register, of_object-with_object, link-with_object, register-with_link, register-with_value, register-with_object, link_unborn}
-use Rattle.hk_core.specs.Reach.{Reach, Reached, in_register, in_cell}
+use Rattle.hk_model.proofs.Views.{of_object-with_link, of_object-with_value, of_object-with_object, link-with_object, register-with_link, register-with_value, register-with_object, link_unborn}
+use Rattle.hk_core.specs.Reach.{Reached, in_register, in_cell}
 use Rattle.hk_collect.specs.Used.{Closed}
 
 -- AT THE FLIP

@@ -1,5 +1,5 @@
 -- The laws of traced runs, from the facts that hold of them.
-use Rattle.std.proofs.Common.{◌≡◌, ◌≢◌, ◌⊎◌, ℕ, ◌+◌, ◌*◌, ◌<◌, ◌≤◌, Bool, true, false, inl, inr, refl, sym, ◌∙◌, ap, arith, List, [], ◌∷◌, Option, Some, None}
+use Rattle.std.proofs.Common.{◌≡◌, ◌≢◌, ◌⊎◌, ℕ, ◌+◌, ◌<◌, ◌≤◌, Bool, true, false, inl, inr, refl, sym, ◌∙◌, ap, arith, List, [], ◌∷◌, Option, Some, None}
 use Rattle.std.proofs.lemmas.Bool.{cases_Bool, and_from, and_parts, lt-ltb, ltb-true, eq-eqb, eqb-true}
 use Rattle.std.proofs.lemmas.List.Elements.{Contains-push}
 use Rattle.std.specs.Prelude.{nat_eq, nat_lt, not, ◌&&◌, fold, Contains, if◌then◌else◌}
@@ -36,7 +36,6 @@ use Rattle.hk_core.specs.Lawful.{hands_of}
 use Rattle.hk_core.proofs.kinds.SpotClaim.{own_hand}
 use Rattle.hk_collect.specs.Used.{Trace, BearsUsed, CollectKeepsLawful, TracedIsRun, TracedKeepsGeometry, OthersAreLate, ClaimedWasUsed, HeldWasUsed, CallsReserveUsed, CollectorReservesUsed, gives_young, is_flip, is_grey, next_birth, trace_act, trace_opening, traced}
 use Rattle.hk_collect.proofs.UsedBirth.{about_to_bear}
-use Rattle.hk_collect.proofs.UsedFacts.{grey_of}
 use Rattle.hk_collect.proofs.UsedMarks.{zero_not_old}
 use Rattle.hk_collect.proofs.UsedTrace.{InUse, in_use_traced}
 

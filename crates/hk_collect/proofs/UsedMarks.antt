@@ -1,10 +1,9 @@
 -- What is in use after an event of the collector: marks and places, but for the flip, and no register changes.
-use Rattle.std.proofs.Common.{◌≡◌, ◌≢◌, ◌⊎◌, ℕ, ◌+◌, ◌*◌, ◌%◌, ◌<◌, ◌≤◌, Bool, true, false, inl, inr, refl, sym, ◌∙◌, ap, arith, subst, List, Option, Some, None}
-use Rattle.std.proofs.lemmas.Bool.{cases_eq, cases_Bool, eqb-true, ne_eqb, and_parts, and_left, and_right}
+use Rattle.std.proofs.Common.{◌≡◌, ℕ, ◌+◌, ◌%◌, ◌<◌, ◌≤◌, Bool, true, false, inl, inr, refl, sym, ◌∙◌, ap, arith, subst, List, Option, Some, None}
+use Rattle.std.proofs.lemmas.Bool.{cases_eq, eqb-true, and_parts, and_right}
 use Rattle.std.proofs.lemmas.Bool.Decides.{nat_tests}
 use Rattle.std.specs.Prelude.{nat_eq, nat_le, nat_lt, ◌&&◌, if◌then◌else◌}
-use Rattle.hk_words.specs.declared.geometry.Geometry.{Geometry}
-use Rattle.hk_words.specs.Geometry.{tasks, numbers, list_length, space_words}
+use Rattle.hk_words.specs.Geometry.{tasks, numbers, list_length}
 use Rattle.hk_words.specs.Layout as layout
 use Rattle.hk_words.specs.Row.{place_at, w0_at, w1_at, header_at, mark_at, frame_at, register_at, entry_at, space_at, word_of}
 use Rattle.hk_words.specs.Row.Slot.{Header}
@@ -13,32 +12,29 @@ use Rattle.hk_model.specs.View.{upd}
 use Rattle.hk_model.proofs.Updates.{upd_same, upd_other}
 use Rattle.hk_core.specs.declared.event.Event.{Event}
 use Rattle.hk_core.specs.declared.event.Event.TheVariants as event
-use Rattle.hk_core.specs.declared.spot.Spot.{Spot}
 use Rattle.hk_core.specs.declared.spot.Line.{Line}
 use Rattle.hk_core.specs.declared.spot.Line.TheVariants as line
 use Rattle.hk_core.specs.declared.spot.Stage.{Stage}
 use Rattle.hk_core.specs.declared.spot.Stage.TheVariants as stage
 use Rattle.hk_core.specs.Collect as table
 use Rattle.hk_core.specs.Collect.{last_cycle, current_space, old_space, next_list, moved_number, moved_from, moved_to}
-use Rattle.hk_core.specs.Event.{fired_if, fired, word_after, old_of}
+use Rattle.hk_core.specs.Event.{fired_if, word_after, old_of}
 use Rattle.hk_core.specs.State.{State}
 use Rattle.hk_core.specs.Step.{reference_size}
 use Rattle.hk_core.specs.View.{Words, words_of, names_of, contents_of, flight_at, begun_at}
 use Rattle.hk_core.specs.Lines as l
-use Rattle.hk_core.specs.Colours.{Spaces, spaces_of, shades_of, grey_by, is_within}
+use Rattle.hk_core.specs.Colours.{Spaces, spaces_of, is_within}
 use Rattle.hk_core.specs.Lawful.{Lawful}
-use Rattle.hk_core.proofs.Columns.{fired_at, fired_kept, fired_if_some, old_at}
+use Rattle.hk_core.proofs.Columns.{fired_kept, old_at}
 use Rattle.hk_core.proofs.Inside.{shapes_fit}
 use Rattle.hk_core.proofs.Rows.{words_some}
-use Rattle.hk_core.proofs.Update.{upd_cases}
 use Rattle.hk_core.proofs.kinds.ClaimWords.{words-claim}
 use Rattle.hk_core.proofs.kinds.Seats.{kept_means}
 use Rattle.hk_core.proofs.kinds.SpotMove.{item_there}
 use Rattle.hk_core.proofs.kinds.SpotMoveRows.{words-move}
 use Rattle.hk_core.proofs.kinds.SpotSweepRow.{words-write_mark, words-empty_header}
-use Rattle.hk_collect.specs.Used.{IsUsedWord}
 use Rattle.hk_collect.proofs.UsedCalls.{not_old, used_some}
-use Rattle.hk_collect.proofs.UsedFacts.{grey_of, MarksUsed, SpotUsed, marks_agree, marks_claim, marks_fewer, marks_place}
+use Rattle.hk_collect.proofs.UsedFacts.{MarksUsed, SpotUsed, marks_agree, marks_claim, marks_fewer, marks_place}
 use Rattle.hk_collect.proofs.UsedRows.{Agrees, agrees_fired, agrees_load, agrees_rest, agrees_same, beside_w0, beside_w1, beside_frame, beside_entry, beside_space}
 
 -- no word of the old space stands at place 0
@@ -138,7 +134,7 @@ module _ (c : State) (history : History) (h : Lawful c history) (used : ℕ → 
             let out : is_within (spaces_of g now.cycle) (spaces_of g now.cycle).old p ≡ false =
             ap (λ k. is_within (spaces_of g now.cycle) (spaces_of g now.cycle).old (place_at g (k % 2) t.scan)) knows ∙ away in (
               (λ cycle. marks_place g now (then_words (Some e')) borne used young n p cycle (ap (λ (u : Words). u.mark) after') places
-              (λ within. rw (cycle, places, upd_same now.place n p) (and_right _ _ out)) marks),
+                  (λ within. rw (cycle, places, upd_same now.place n p) (and_right _ _ out)) marks),
               ap (λ (u : Words). u.register) after',
             )
         by_word false e =
@@ -163,21 +159,21 @@ module _ (c : State) (history : History) (h : Lawful c history) (used : ℕ → 
         let marks' : (then_words (Some e)).mark ≡ upd now.mark n (t.cycle + 1) = ap (λ (u : Words). u.mark) after' in
         let places : (then_words (Some e)).place ≡ now.place = ap (λ (u : Words). u.place) after' in (
           (λ cycle. marks_fewer g now (then_words (Some e)) borne used young cycle
-          (λ m within grey. elim (cases_eq m n) [
-            | inl same ↦
-                let p = and_parts _ _ grey in
-                let top : (then_words (Some e)).mark m ≡ (then_words (Some e)).cycle = eqb-true _ _ p.0 in
-                let above : (then_words (Some e)).mark m ≡ t.cycle + 1 = ap (λ f. f m) marks' ∙ ap (upd now.mark n (t.cycle + 1)) same ∙ upd_same now.mark n (t.cycle + 1) in
-                let k = knows in
-                absurd (omega arith)
-            | inr d ↦
-                let kept : (then_words (Some e)).mark m ≡ now.mark m = ap (λ f. f m) marks' ∙ upd_other now.mark n (t.cycle + 1) m d in
-                rw (cycle, places, kept) at grey
-          ])
-          (λ m was. elim (cases_eq m n) [
-            | inl same ↦ let is : now.mark n ≡ now.cycle = ap now.mark (sym same) ∙ was in absurd (omega arith)
-            | inr d ↦ ap (λ f. f m) marks' ∙ upd_other now.mark n (t.cycle + 1) m d ∙ was ∙ sym cycle
-          ]) marks),
+              (λ m within grey. elim (cases_eq m n) [
+                | inl same ↦
+                    let p = and_parts _ _ grey in
+                    let top : (then_words (Some e)).mark m ≡ (then_words (Some e)).cycle = eqb-true _ _ p.0 in
+                    let above : (then_words (Some e)).mark m ≡ t.cycle + 1 = ap (λ f. f m) marks' ∙ ap (upd now.mark n (t.cycle + 1)) same ∙ upd_same now.mark n (t.cycle + 1) in
+                    let k = knows in
+                    absurd (omega arith)
+                | inr d ↦
+                    let kept : (then_words (Some e)).mark m ≡ now.mark m = ap (λ f. f m) marks' ∙ upd_other now.mark n (t.cycle + 1) m d in
+                    rw (cycle, places, kept) at grey
+              ])
+              (λ m was. elim (cases_eq m n) [
+                | inl same ↦ let is : now.mark n ≡ now.cycle = ap now.mark (sym same) ∙ was in absurd (omega arith)
+                | inr d ↦ ap (λ f. f m) marks' ∙ upd_other now.mark n (t.cycle + 1) m d ∙ was ∙ sym cycle
+              ]) marks),
           ap (λ (u : Words). u.register) after',
         )
 
@@ -190,7 +186,7 @@ module _ (c : State) (history : History) (h : Lawful c history) (used : ℕ → 
         let after' = words_some g c.row e _ (words-empty_header g c.row h.sized.row n fits.0) in
         let places : (then_words (Some e)).place ≡ upd now.place n 0 = ap (λ (u : Words). u.place) after' in (
           (λ cycle. marks_place g now (then_words (Some e)) borne used young n 0 cycle (ap (λ (u : Words). u.mark) after') places
-          (λ within. rw (cycle, places, upd_same now.place n 0) (and_right _ _ (zero_not_old (spaces_of g now.cycle) (omega arith)))) marks),
+              (λ within. rw (cycle, places, upd_same now.place n 0) (and_right _ _ (zero_not_old (spaces_of g now.cycle) (omega arith)))) marks),
           ap (λ (u : Words). u.register) after',
         )
 

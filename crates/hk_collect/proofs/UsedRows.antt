@@ -1,12 +1,12 @@
 -- The columns that what is in use is read from (marks, places and registers) after an event at one of the other words.
-use Rattle.std.proofs.Common.{◌≡◌, ◌≢◌, ◌⊎◌, ℕ, ◌+◌, ◌*◌, ◌<◌, ◌≤◌, Bool, true, false, inl, inr, refl, sym, ◌∙◌, ap, arith, List, get_or-set_other, Option, Some, None}
+use Rattle.std.proofs.Common.{◌≡◌, ◌≢◌, ℕ, ◌<◌, ◌≤◌, Bool, true, false, refl, ap, arith, List, get_or-set_other, Some, None}
 use Rattle.std.proofs.lemmas.Bool.{ltb-true, and_parts}
 use Rattle.std.proofs.lemmas.Nat.{mul-add-lt}
 use Rattle.std.specs.Prelude.{nat_lt, ◌&&◌, slice_set}
 use Rattle.hk_words.specs.declared.geometry.Geometry.{Geometry}
-use Rattle.hk_words.specs.Geometry.{tasks, numbers, list_length, marks_from, frames_from, registers_from, lists_from, spaces_from}
+use Rattle.hk_words.specs.Geometry.{tasks, numbers, frames_from, registers_from, lists_from}
 use Rattle.hk_words.specs.Layout as layout
-use Rattle.hk_words.specs.Row.{Slot, index_of, word_of, w0_at, w1_at, header_at, mark_at, frame_at, register_at, entry_at, space_at}
+use Rattle.hk_words.specs.Row.{Slot, index_of, w0_at, w1_at, header_at, mark_at, frame_at, register_at, entry_at, space_at}
 use Rattle.hk_words.specs.Row.Slot.{Header, Mark, Register}
 use Rattle.hk_core.specs.declared.event.Event.{Event}
 use Rattle.hk_core.specs.declared.event.Event.TheVariants as event

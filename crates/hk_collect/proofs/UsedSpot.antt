@@ -1,14 +1,13 @@
 -- What is in use at the spot of the collector after its event: the words of a frame from the start of an attempt on it, and
 -- the reference that is dealt with.
-use Rattle.std.proofs.Common.{◌≡◌, ◌≢◌, ◌⊎◌, ℕ, ◌+◌, ◌*◌, ◌%◌, ◌<◌, ◌≤◌, Bool, true, false, inl, inr, refl, sym, ◌∙◌, ap, arith, subst, List, Option, Some, None}
-use Rattle.std.proofs.lemmas.Bool.{cases_eq, cases_Bool, eqb-true, eqb-false, and_parts, ltb-true, ltb-false}
-use Rattle.std.specs.Prelude.{nat_eq, nat_le, nat_lt, not, ◌&&◌, is_some, if◌then◌else◌}
-use Rattle.hk_words.specs.declared.geometry.Geometry.{Geometry}
+use Rattle.std.proofs.Common.{◌≡◌, ℕ, ◌+◌, ◌*◌, ◌<◌, ◌≤◌, Bool, true, false, inl, inr, refl, sym, ◌∙◌, ap, arith, subst, List, Option, Some, None}
+use Rattle.std.proofs.lemmas.Bool.{and_parts, ltb-true, ltb-false}
+use Rattle.std.specs.Prelude.{nat_eq, nat_lt, not, ◌&&◌, is_some, if◌then◌else◌}
 use Rattle.hk_words.specs.declared.call.Call.{Call}
 use Rattle.hk_words.specs.declared.call.Call.TheVariants as call
 use Rattle.hk_words.specs.Geometry.{tasks, numbers, space_words}
 use Rattle.hk_words.specs.Layout as layout
-use Rattle.hk_words.specs.Row.{frame_at, register_at, space_at, place_at, word_of}
+use Rattle.hk_words.specs.Row.{frame_at, register_at, space_at, word_of}
 use Rattle.hk_words.specs.Row.Slot.{Frame}
 use Rattle.hk_model.specs.Heap.{opening_of}
 use Rattle.hk_model.specs.History.{History, after}
@@ -21,13 +20,13 @@ use Rattle.hk_core.specs.declared.spot.Stage.{Stage}
 use Rattle.hk_core.specs.declared.spot.Stage.TheVariants as stage
 use Rattle.hk_core.specs.Collect as table
 use Rattle.hk_core.specs.Collect.{last_cycle, moved_number, moved_from, after_register, after_frame, after_cell, after_pass, is_reference}
-use Rattle.hk_core.specs.Event.{learnt, old_of}
+use Rattle.hk_core.specs.Event.{learnt}
 use Rattle.hk_core.specs.State.{State}
 use Rattle.hk_core.specs.Step.{reference_size, reserved_fits}
 use Rattle.hk_core.specs.View.{Words, words_of, decoded, names_of, contents_of, flight_at, begun_at, shown, size_at, refs_at, reference_at}
 use Rattle.hk_core.specs.Flights as f
 use Rattle.hk_core.specs.Lines as l
-use Rattle.hk_core.specs.Colours.{Spaces, spaces_of, shades_of, held_by, IsKeptBirth, IsNullOrKept}
+use Rattle.hk_core.specs.Colours.{spaces_of, shades_of, held_by, IsKeptBirth, IsNullOrKept}
 use Rattle.hk_core.specs.Lawful.{Lawful}
 use Rattle.hk_core.proofs.Columns.{raw_frame}
 use Rattle.hk_core.proofs.Inside.{shapes_fit}
@@ -39,7 +38,7 @@ use Rattle.hk_core.proofs.kinds.SpotLoads.{work_at}
 use Rattle.hk_core.proofs.kinds.SpotLoadsCells.{IsItem, item_known}
 use Rattle.hk_core.proofs.kinds.SpotLoadsRow.{found-frame, found-register, space_ends}
 use Rattle.hk_core.proofs.kinds.WriteCell.{shades_mean}
-use Rattle.hk_collect.specs.Used.{Closed, IsUsedWord, AttemptUsed, CellUsed}
+use Rattle.hk_collect.specs.Used.{Closed, IsUsedWord}
 use Rattle.hk_collect.proofs.UsedCalls.{word_used}
 use Rattle.hk_collect.proofs.UsedFacts.{grey_of, MarksUsed, SpotUsed}
 

@@ -1,10 +1,9 @@
 -- The tables of seats and collector, as far as what is in use needs them: which entries make no birth, which lines keep the
 -- cycle, and which event is the flip.
-use Rattle.std.proofs.Common.{◌≡◌, ◌≢◌, ◌⊎◌, ℕ, ◌+◌, ◌<◌, ◌≤◌, Bool, true, false, inl, inr, refl, sym, ◌∙◌, ap, arith, List, [], ◌∷◌, ◌++◌, Option, Some, None}
+use Rattle.std.proofs.Common.{◌≡◌, ◌≢◌, ◌⊎◌, ℕ, ◌+◌, ◌≤◌, Bool, true, false, inl, inr, refl, sym, ◌∙◌, ap, arith, List, [], ◌∷◌, ◌++◌, Option, None}
 use Rattle.std.proofs.lemmas.Bool.{and_left, and_right, eqb-true}
-use Rattle.std.specs.Prelude.{nat_eq, nat_le, nat_lt, not, ◌&&◌, option_to_list, if◌then◌else◌}
+use Rattle.std.specs.Prelude.{nat_eq, nat_lt, not, ◌&&◌, option_to_list, if◌then◌else◌}
 use Rattle.hk_words.specs.declared.geometry.Geometry.{Geometry}
-use Rattle.hk_words.specs.Geometry.{tasks, numbers}
 use Rattle.hk_words.specs.Layout as layout
 use Rattle.hk_words.specs.declared.shape.Shape.{Shape}
 use Rattle.hk_words.specs.declared.call.Call.{Call}
@@ -12,7 +11,7 @@ use Rattle.hk_words.specs.declared.call.Call.TheVariants as call
 use Rattle.hk_words.specs.declared.call.Reply.{Reply}
 use Rattle.hk_words.specs.declared.call.Reply.TheVariants as reply
 use Rattle.hk_model.specs.Heap.{Heap, born}
-use Rattle.hk_model.specs.History.{Entry, History, is_new, is_done, is_birth, is_refused, after_entry, bearer}
+use Rattle.hk_model.specs.History.{Entry, History, is_new, is_done, is_refused, after_entry, bearer}
 use Rattle.hk_model.specs.Replies.{heap_after}
 use Rattle.hk_model.proofs.Histories.{bearer-push_other, born-heap_after_other, born-heap_after_new}
 use Rattle.hk_core.specs.declared.flight.Flight.{Flight}

@@ -1,16 +1,16 @@
 -- The facts of a traced run hold from the opening state on, whatever the actions.
-use Rattle.std.proofs.Common.{◌≡◌, ◌≢◌, ◌⊎◌, ℕ, ◌+◌, ◌*◌, ◌%◌, ◌<◌, ◌≤◌, Bool, true, false, inl, inr, refl, sym, ◌∙◌, ap, arith, subst, List, [], ◌∷◌, ◌++◌, Option, Some, None}
+use Rattle.std.proofs.Common.{◌≡◌, ℕ, ◌+◌, ◌<◌, ◌≤◌, Bool, true, false, inl, inr, refl, sym, ◌∙◌, ap, arith, List, [], ◌∷◌, ◌++◌, Option, Some, None}
 use Rattle.std.proofs.lemmas.Bool.{cases_Bool, cases_eq, and_parts, and_left, and_right, ltb-true, ne_eqb, not-true}
 use Rattle.std.proofs.lemmas.Bool.Decides.{nat_tests}
 use Rattle.std.proofs.lemmas.List.Elements.{Contains-push_cases}
-use Rattle.std.specs.Prelude.{nat_eq, nat_lt, nat_le, not, ◌&&◌, fold, Contains, option_to_list, if◌then◌else◌}
+use Rattle.std.specs.Prelude.{nat_eq, nat_lt, not, ◌&&◌, fold, Contains, option_to_list, if◌then◌else◌}
 use Rattle.hk_words.specs.declared.geometry.Geometry.{Geometry}
 use Rattle.hk_words.specs.declared.call.Call.{Call}
 use Rattle.hk_words.specs.Geometry.{tasks, numbers, list_length}
 use Rattle.hk_words.specs.Layout as layout
 use Rattle.hk_words.specs.Row.{w0_at}
-use Rattle.hk_model.specs.Heap.{Heap, born, opening_of}
-use Rattle.hk_model.specs.History.{Entry, History, after, after_entry, bearer}
+use Rattle.hk_model.specs.Heap.{opening_of}
+use Rattle.hk_model.specs.History.{Entry, History, after}
 use Rattle.hk_model.proofs.Histories.{after-push}
 use Rattle.hk_core.specs.declared.event.Event.TheVariants as event
 use Rattle.hk_core.specs.declared.outcome.Fault.{Fault}
@@ -22,19 +22,18 @@ use Rattle.hk_core.specs.Event.{fired_if}
 use Rattle.hk_core.specs.State.{State, opening, opening_spot, flight_of}
 use Rattle.hk_core.specs.Step.{event_by, effect_of, found_by, next, history_after}
 use Rattle.hk_core.specs.Begin.{refusal, accepted, after_begin, begun_or}
-use Rattle.hk_core.specs.Run.{Action, Running, begin, step, collect, act, is_busy, may_begin, run_from_opening}
-use Rattle.hk_core.specs.Run as runs
-use Rattle.hk_core.specs.View.{Words, words_of, names_of, contents_of, flight_at, decoded, raw, word_if}
+use Rattle.hk_core.specs.Run.{Action, Running, begin, step, collect, act, is_busy, may_begin}
+use Rattle.hk_core.specs.View.{Words, words_of, names_of, flight_at}
 use Rattle.hk_core.specs.Flights as f
 use Rattle.hk_core.specs.Lines as l
-use Rattle.hk_core.specs.Colours.{Spaces, spaces_of, shades_of, is_within}
-use Rattle.hk_core.specs.Lawful.{Lawful, hands_of}
-use Rattle.hk_core.proofs.Actions.{IsLawfulRun, lawful_act_begin, lawful_act_step}
+use Rattle.hk_core.specs.Colours.{spaces_of, shades_of}
+use Rattle.hk_core.specs.Lawful.{Lawful}
+use Rattle.hk_core.proofs.Actions.{lawful_act_begin}
 use Rattle.hk_core.proofs.OpeningLawful.{opening_lawful}
 use Rattle.hk_core.proofs.Seven.{seat_steps}
 use Rattle.hk_core.proofs.kinds.Effects.{is_heap}
 use Rattle.hk_core.proofs.kinds.SpotFlip.{flipped_spot}
-use Rattle.hk_collect.specs.Used.{Closed, Trace, UsedSince, WasUsed, BearsUsed, YoungBorn, CollectKeepsLawful, next_birth, gives_young, is_flip, is_grey, trace_act, trace_opening, traced}
+use Rattle.hk_collect.specs.Used.{Closed, Trace, UsedSince, YoungBorn, CollectKeepsLawful, next_birth, gives_young, is_flip, trace_act, trace_opening, traced}
 use Rattle.hk_collect.proofs.UsedBirth.{about_to_bear, birth_keeps, next_after}
 use Rattle.hk_collect.proofs.UsedCalls.{step_keeps}
 use Rattle.hk_collect.proofs.UsedFacts.{grey_of, MarksUsed, SpotUsed, spot_same}

@@ -17,7 +17,7 @@ use Rattle.hk_core.specs.Collect.{event_by_collector, next_collected, work_by_co
 use Rattle.hk_core.specs.Step.{reference_size, event_by}
 use Rattle.hk_core.specs.Run.{Action, Running, begin, step, collect, act, is_busy, run_from_opening}
 use Rattle.hk_core.specs.View.{words_of, flight_at}
-use Rattle.hk_core.specs.Flights.{Hand, to_reserve, has_header, cycle_of}
+use Rattle.hk_core.specs.Flights.{to_reserve, has_header, cycle_of}
 use Rattle.hk_core.specs.Lines as l
 use Rattle.hk_core.specs.Colours.{spaces_of, grey_by}
 use Rattle.hk_core.specs.Lawful.{Lawful, hands_of}

@@ -7,4 +7,5 @@ pub mod UsedMarks
 pub mod UsedSpot
 pub mod UsedTables
 pub mod UsedTrace
+pub mod UsedReserves
 pub mod UsedLaws

@@ -77,7 +77,8 @@ traced g actions = fold trace_act (trace_opening g) actions
 abbrev pub UsedSince : Geometry → (at_flip : History) → ℕ → Type 0
 UsedSince g at_flip birth = Reached g (after (opening_of g) at_flip) birth ⊎ (next_birth g at_flip ≤ birth)
 
--- a birth was in use at the last flip, or is of a New that raised W0 before that flip, and took effect after it
+-- a birth could be reached in the plain heap at the last flip, or was born since and isn't young: it is of a New that
+-- raised W0 before that flip and had its effect after it
 pub record WasUsed (r : Trace) (birth : ℕ) : Type 0 where
   pub used : UsedSince r.running.core.geometry r.at_flip birth
   pub not_young : ¬ Contains r.young birth
@@ -90,7 +91,8 @@ BearsUsed r n = (birth : ℕ) × (bearer r.running.history n ≡ Some birth) × 
 unfoldable pub is_grey : State → ℕ → Bool
 is_grey c n = let w = words_of c.geometry c.row in grey_by (spaces_of c.geometry w.cycle) w.cycle w.place w.mark n
 
--- THE FACTS OF A TRACED RUN, beside those of a lawful state. Each takes the columns that it reads; `used` says which births are in use.
+-- THE FACTS OF A TRACED RUN, beside those of a lawful state. Each takes the columns that it reads; `used` says which births
+-- are in use.
 
 -- The registers of the plain heap hold births in use, and so do the reference cells of these. Without it a call could read
 -- and claim what wasn't in use.
@@ -146,9 +148,10 @@ OthersAreLate = (g : Geometry) (actions : List Action) (seat : ℕ) → let r = 
     → Contains (trace_act r (step seat)).young (next_birth c.geometry r.running.history)
     ⊎ (cycle_of (flight_of c.flights seat) + 1 ≡ (words_of c.geometry c.row).cycle)
 
--- each number that was claimed in this cycle and isn't moved yet is borne by a birth that was in use
-abbrev pub ClaimedWasUsed : Type 0
-ClaimedWasUsed = (g : Geometry) (actions : List Action) → let c = (traced g actions).running.core in
+-- Each number that was claimed in this cycle and isn't moved yet is borne by a birth that was in use. Who reserves holds a
+-- claim of such a number.
+abbrev pub ReservedWasUsed : Type 0
+ReservedWasUsed = (g : Geometry) (actions : List Action) → let c = (traced g actions).running.core in
     (n : ℕ) → n < numbers c.geometry → is_grey c n ≡ true → BearsUsed (traced g actions) n
 
 -- so is each that a claim in hand is for, of a seat or of the collector, which stands behind the seats

@@ -1,5 +1,5 @@
 //! Laws of traced runs: which objects places are reserved for.
-ghost use Rattle.hk_collect.specs.Used.{CollectKeepsLawful, TracedIsRun, TracedKeepsGeometry, OthersAreLate, ClaimedWasUsed, HeldWasUsed, CallsReserveUsed, CollectorReservesUsed};
+ghost use Rattle.hk_collect.specs.Used.{CollectKeepsLawful, TracedIsRun, TracedKeepsGeometry, OthersAreLate, ReservedWasUsed, HeldWasUsed, CallsReserveUsed, CollectorReservesUsed};
 
 /// In any run, each object that is claimed in a cycle, and each that a call or the collector reserves a place for, could be
 /// reached in the heap that never collects when the cycle began, or was made since by a New that had raised W0 before.
@@ -7,7 +7,7 @@ pub fn reserved_was_used()
     ensures run { TracedIsRun }
     ensures geometry { TracedKeepsGeometry }
     ensures late { CollectKeepsLawful → OthersAreLate }
-    ensures claimed { CollectKeepsLawful → ClaimedWasUsed }
+    ensures reserved { CollectKeepsLawful → ReservedWasUsed }
     ensures held { CollectKeepsLawful → HeldWasUsed }
     ensures calls { CollectKeepsLawful → CallsReserveUsed }
     ensures collector { CollectKeepsLawful → CollectorReservesUsed }

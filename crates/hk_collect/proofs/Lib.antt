@@ -10,3 +10,14 @@ pub mod MeasureLines
 pub mod MeasureCalm
 pub mod MeasureEvents
 pub mod MeasureSeats
+pub mod UsedHeap
+pub mod UsedRows
+pub mod UsedFacts
+pub mod UsedCalls
+pub mod UsedBirth
+pub mod UsedMarks
+pub mod UsedSpot
+pub mod UsedTables
+pub mod UsedTrace
+pub mod UsedReserves
+pub mod UsedLaws

@@ -3,3 +3,4 @@ pub mod Works
 pub mod Runs
 pub mod Laws
 pub mod Measure
+pub mod Used

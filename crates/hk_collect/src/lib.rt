@@ -12,6 +12,7 @@ mod laws;
 mod measure;
 #[cfg(test)]
 mod measured;
+mod used;
 #[cfg(test)]
 mod walk;
 
@@ -24,3 +25,4 @@ pub use laws::{
     runs_give_fresh_numbers,
 };
 pub use measure::{measured_cycle, untouched_attempts};
+pub use used::reserved_was_used;

@@ -4,3 +4,4 @@ pub mod EachLine
 pub mod Causes
 pub mod Running
 pub mod Attempts
+pub mod Worn

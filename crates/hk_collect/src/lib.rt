@@ -1,14 +1,14 @@
 //! The collector of the heap, one event on one word at a time.
 #![tactic(auto)]
 
-#[cfg(test)]
-mod checks;
 mod collector;
 #[cfg(test)]
 mod cycles;
 mod decide;
 mod follow;
 mod laws;
+#[cfg(test)]
+mod lawful;
 #[cfg(test)]
 mod walk;
 
@@ -17,6 +17,6 @@ pub use decide::event;
 pub use follow::took;
 pub use hk_core::Work;
 pub use laws::{
-    collector_keeps_history, events_are_counted, inside_stays, operations_end, runs_are_lawful,
+    collector_can_go_on, collector_keeps_history, events_are_counted, inside_stays, operations_end, runs_are_lawful,
     runs_give_fresh_numbers,
 };

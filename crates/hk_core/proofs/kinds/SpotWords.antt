@@ -1,5 +1,6 @@
--- What the words of a row say after each event of the collector that writes, what it finds, and that the event may be
--- fired, where its slot is one of the row. Claims, reserves and writes of cells stand in ClaimWords and Words.
+-- What the words of a row say after the collector's exchanges, what its events find, and that they may be fired, where
+-- their slots are those of the row. Claims, reserves and writes of cells stand in ClaimWords and Words, the flip and what
+-- the sweep writes in SpotSweepRow.
 use Rattle.std.proofs.Common.{◌≡◌, ℕ, ◌+◌, ◌^◌, ◌<◌, List, length, refl, sym, ◌∙◌, ap, arith, Some}
 use Rattle.std.proofs.lemmas.Bool.{eq-eqb}
 use Rattle.std.specs.Prelude.{nat_eq, if◌then◌else◌}
@@ -9,14 +10,14 @@ use Rattle.hk_words.specs.Layout as layout
 use Rattle.hk_words.specs.Row.{Slot, InRow, index_of, word_of, with_word, w0_at, w1_at, header_at, mark_at, frame_at, register_at, entry_at}
 use Rattle.hk_words.specs.Row.Slot.{W0, W1, Header, Mark, Frame, Register, Entry}
 use Rattle.hk_words.proofs.RowLaws.{index_below}
-use Rattle.hk_model.specs.View.{upd, upd2}
+use Rattle.hk_model.specs.View.{upd}
 use Rattle.hk_core.specs.declared.event.Event.{Event}
 use Rattle.hk_core.specs.declared.event.Event.TheVariants as event
 use Rattle.hk_core.specs.Event.{CanFire, AmountFits, fired, learnt, old_of}
 use Rattle.hk_core.specs.Event as events
 use Rattle.hk_core.specs.View.{words_of, raw, decoded}
-use Rattle.hk_core.proofs.Columns.{fired_at, old_at, raw-w0, raw-w1, raw-header, raw-mark, raw-frame, raw-entry, raw_w1, raw_mark, raw_header, raw_frame}
-use Rattle.hk_core.proofs.Encode.{decoded-flip, decoded-w1, decoded-mark, decoded-entry, decoded-empty_header, decoded-move_object, decoded-blacken_frame}
+use Rattle.hk_core.proofs.Columns.{fired_at, old_at, raw-header, raw-frame, raw_w1, raw_mark, raw_header, raw_frame}
+use Rattle.hk_core.proofs.Encode.{decoded-move_object, decoded-blacken_frame}
 
 module _ (g : Geometry) (row : List ℕ) (whole : length row ≡ row_length g) where
   -- EVENTS THAT MAY BE FIRED
@@ -63,14 +64,6 @@ module _ (g : Geometry) (row : List ℕ) (whole : length row ≡ row_length g) w
 
   -- WORDS AFTER AN EVENT
 
-  -- the flip
-  pub words-flip : (cycle : ℕ) → words_of g (fired row (event.Swap (w0_at g) (layout.pack_w0 0 0 cycle))) ≡ record (words_of g row) { used = 0; objects = 0; cycle = cycle }
-  unfolding words_of
-  words-flip cycle =
-      ap (λ (r : List ℕ). decoded (raw g r)) (fired_at g row (event.Swap (w0_at g) (layout.pack_w0 0 0 cycle)) W0 refl)
-      ∙ ap decoded (raw-w0 g row (layout.pack_w0 0 0 cycle) whole)
-      ∙ decoded-flip (raw g row) cycle
-
   -- an exchange that finds the word that it expects
   trades : (word current new : ℕ) → word ≡ current → (if nat_eq word current then new else word) ≡ new
   trades word current new same = rw (eq-eqb word current same) refl
@@ -100,40 +93,6 @@ module _ (g : Geometry) (row : List ℕ) (whole : length row ≡ row_length g) w
       ∙ ap (λ (r : ℕ). decoded (raw g (with_word g row (Header n) r))) (trades word first (layout.header_moved first place) same ∙ ap (λ (r : ℕ). layout.header_moved r place) (sym same))
       ∙ ap decoded (raw-header g row n (layout.header_moved word place) fits whole)
       ∙ rw (← raw_header g row n fits) (decoded-move_object (raw g row) n place few)
-
-  -- the sweep: a list entry, a mark, and an empty header
-  pub words-write_entry : (l j v : ℕ) → l < 2 → j < list_length g
-      → words_of g (fired row (event.Write (entry_at g l j) v)) ≡ record (words_of g row) { entry = upd2 (words_of g row).entry l j v }
-  unfolding words_of
-  words-write_entry l j v list index =
-      ap (λ (r : List ℕ). decoded (raw g r)) (fired_at g row (event.Write (entry_at g l j) v) (Entry l j) refl)
-      ∙ ap decoded (raw-entry g row l j v list index whole)
-      ∙ decoded-entry (raw g row) l j v
-
-  pub words-write_mark : (n v : ℕ) → n < numbers g
-      → words_of g (fired row (event.Write (mark_at g n) v)) ≡ record (words_of g row) { mark = upd (words_of g row).mark n v }
-  unfolding words_of
-  words-write_mark n v fits =
-      ap (λ (r : List ℕ). decoded (raw g r)) (fired_at g row (event.Write (mark_at g n) v) (Mark n) refl)
-      ∙ ap decoded (raw-mark g row n v fits whole)
-      ∙ decoded-mark (raw g row) n v
-
-  pub words-empty_header : (n : ℕ) → n < numbers g
-      → words_of g (fired row (event.Write (header_at g n) 0))
-      ≡ record (words_of g row) { accessors = upd (words_of g row).accessors n 0; place = upd (words_of g row).place n 0; version = upd (words_of g row).version n 0 }
-  unfolding words_of
-  words-empty_header n fits =
-      ap (λ (r : List ℕ). decoded (raw g r)) (fired_at g row (event.Write (header_at g n) 0) (Header n) refl)
-      ∙ ap decoded (raw-header g row n 0 fits whole)
-      ∙ decoded-empty_header (raw g row) n
-
-  -- the reset
-  pub words-reset : words_of g (fired row (event.Write (w1_at g) 0)) ≡ record (words_of g row) { reserved = 0 }
-  unfolding words_of
-  words-reset =
-      ap (λ (r : List ℕ). decoded (raw g r)) (fired_at g row (event.Write (w1_at g) 0) W1 refl)
-      ∙ ap decoded (raw-w1 g row 0 whole)
-      ∙ decoded-w1 (raw g row) 0
 
 -- WHAT AN EVENT FINDS
 

@@ -1,13 +1,10 @@
 -- Each answer of the collector's step comes exactly where its cause is there.
-use Rattle.std.proofs.Common.{◌≡◌, ◌≢◌, ◌⊎◌, ℕ, ◌+◌, ◌<◌, Bool, true, false, List, inl, inr, refl, sym, ◌∙◌, ap, subst, arith, Option, Some, None}
+use Rattle.std.proofs.Common.{◌≡◌, ℕ, ◌+◌, ◌<◌, Bool, true, false, inl, inr, refl, sym, ◌∙◌, ap, subst, Some, None}
 use Rattle.std.proofs.lemmas.Bool.{eqb-true, eqb-false, eq-eqb, ne_eqb, ltb-true, lt-ltb}
 use Rattle.std.specs.Prelude.{nat_eq, nat_lt, ⊤, if◌then◌else◌}
-use Rattle.hk_words.specs.declared.geometry.Geometry.{Geometry}
-use Rattle.hk_words.specs.Layout.{frame_accessors, header_accessors, header_place, frame_blackened, header_moved, pack_w0}
+use Rattle.hk_words.specs.Layout.{frame_accessors, header_accessors, frame_blackened, header_moved, pack_w0}
 use Rattle.hk_words.specs.Row.{Slot, W0, W1, Frame, Header, Space, index_of, word_of}
-use Rattle.hk_core.specs.declared.event.Event.{Event}
 use Rattle.hk_core.specs.declared.event.Event.TheVariants as event
-use Rattle.hk_core.specs.declared.spot.Spot.{Spot}
 use Rattle.hk_core.specs.declared.spot.Line.{Line}
 use Rattle.hk_core.specs.declared.spot.Line.TheVariants as line
 use Rattle.hk_core.specs.declared.spot.Work.{Work}
@@ -16,7 +13,7 @@ use Rattle.hk_core.specs.Event.{fired_if, learnt, old_of}
 use Rattle.hk_core.specs.State.{State}
 use Rattle.hk_core.specs.Collect as table
 use Rattle.hk_core.specs.Collect.{last_cycle, moved_number, moved_to, is_old, spot_event, event_at_line, spot_took, took_at_line, spot_work, work_at_line, event_by_collector, found_by_collector, next_collected, work_by_collector}
-use Rattle.hk_collect.specs.Works.{Loads, Flips, IsWorn, LosesFrame, LosesObject, Loses, FindsBusyFrame, FindsBusyObject, FindsUnlinked, FindsGrey, FindsLiveOver, HasCauses}
+use Rattle.hk_collect.specs.Works.{Flips, IsWorn, Loses, FindsBusyFrame, FindsBusyObject, FindsUnlinked, FindsGrey, FindsLiveOver, HasCauses}
 
 -- the cause of an answer
 abbrev Cause : State → Work → Type 0
@@ -140,12 +137,15 @@ module _ (c : State) where
     where
       by_test : (test : Bool) → nat_eq (found_by_collector c) c.spot.first ≡ test → Cause c (if test then work.Useful else work.Lost (c.spot.spent + 1))
       by_test true e = tt
-      by_test false e = inl (seat, record {
-        at = at;
-        exchanges = event_at (line.FrameTrade seat) at;
-        another = λ same. eqb-false (found_by_collector c) c.spot.first e (found_trade (line.FrameTrade seat) at (Frame seat) c.spot.first (frame_blackened c.spot.first c.spot.cycle) refl ∙ same);
-        counted = refl;
-      })
+      by_test false e = inl (
+        seat,
+        record {
+          at = at;
+          exchanges = event_at (line.FrameTrade seat) at;
+          another = λ same. eqb-false (found_by_collector c) c.spot.first e (found_trade (line.FrameTrade seat) at (Frame seat) c.spot.first (frame_blackened c.spot.first c.spot.cycle) refl ∙ same);
+          counted = refl;
+        },
+      )
 
   object_trade_cause : c.spot.line ≡ line.ObjectTrade → Cause c (table.object_trade_work c.spot (found_by_collector c))
   unfolding table.object_trade_work event_at_line table.object_trade_event

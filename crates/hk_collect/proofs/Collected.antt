@@ -1,6 +1,6 @@
 -- An event of the collector keeps a lawful state lawful, for the same history, where all facts hold of the row and the
 -- spot after it; and it leaves each object alone that a call is inside, where it changes no word of a kept one.
-use Rattle.std.proofs.Common.{◌≡◌, ◌≢◌, ℕ, ◌<◌, true, List, length, refl, sym, ◌∙◌, ap, subst, arith, Option, Some, None}
+use Rattle.std.proofs.Common.{◌≡◌, ◌≢◌, ℕ, ◌<◌, true, length, sym, ◌∙◌, ap, subst, Option, Some, None}
 use Rattle.hk_words.specs.Geometry.{tasks}
 use Rattle.hk_model.proofs.Updates.{upd_other}
 use Rattle.hk_model.specs.History.{History}

@@ -1,8 +1,8 @@
 -- Line by line, the event of the collector leads from a lawful state to a lawful one for the same history, and leaves each
 -- object alone that a call is inside.
-use Rattle.std.proofs.Common.{◌≡◌, ◌≢◌, ◌⊎◌, ℕ, ◌+◌, ◌-◌, ◌*◌, ◌^◌, ◌<◌, ◌≤◌, Bool, true, false, List, inl, inr, refl, sym, ◌∙◌, ap, subst, arith, Option, Some, None}
-use Rattle.std.proofs.lemmas.Bool.{cases_Bool, cases_eq, cases_lt, eq-eqb, ne_eqb, eqb-true, lt-ltb, le-ltb}
-use Rattle.std.specs.Prelude.{nat_eq, nat_lt, if◌then◌else◌}
+use Rattle.std.proofs.Common.{◌≡◌, ◌≢◌, ◌⊎◌, ℕ, ◌+◌, ◌-◌, ◌*◌, ◌^◌, ◌<◌, ◌≤◌, true, false, List, inl, inr, refl, sym, ◌∙◌, ap, subst, arith, Option, Some, None}
+use Rattle.std.proofs.lemmas.Bool.{cases_Bool, cases_eq, cases_lt, eq-eqb, ne_eqb, le-ltb}
+use Rattle.std.specs.Prelude.{nat_eq, nat_lt}
 use Rattle.hk_words.specs.declared.geometry.Geometry.{Geometry}
 use Rattle.hk_words.specs.Geometry.{tasks, numbers, space_words}
 use Rattle.hk_words.specs.Layout as layout
@@ -16,12 +16,12 @@ use Rattle.hk_core.specs.declared.spot.Line.{Line}
 use Rattle.hk_core.specs.declared.spot.Line.TheVariants as line
 use Rattle.hk_core.specs.declared.spot.Stage.{Stage}
 use Rattle.hk_core.specs.declared.spot.Stage.TheVariants as stage
-use Rattle.hk_core.specs.Event.{fired, fired_if, learnt, old_of, word_after}
+use Rattle.hk_core.specs.Event.{fired, fired_if, learnt, old_of}
 use Rattle.hk_core.specs.State.{State}
 use Rattle.hk_core.specs.Step.{reference_size}
 use Rattle.hk_core.specs.Collect as table
 use Rattle.hk_core.specs.Collect.{last_cycle, current_space, old_space, next_list, moved_from, moved_to, moved_number, spot_event, spot_took, event_at_line, took_at_line, is_old, is_in_space, next_collected}
-use Rattle.hk_core.specs.View.{Words, words_of, decoded, names_of, contents_of, flight_at, begun_at, size_at}
+use Rattle.hk_core.specs.View.{Words, words_of, decoded, names_of, contents_of, flight_at, begun_at}
 use Rattle.hk_core.specs.Flights as f
 use Rattle.hk_core.specs.Flights.{to_link}
 use Rattle.hk_core.specs.Lines as l
@@ -49,8 +49,8 @@ use Rattle.hk_core.proofs.kinds.SpotToSweep.{pass_to_sweep, pass_head_to_sweep}
 use Rattle.hk_core.proofs.kinds.SpotSweepLines.{kept_marked, kept_current}
 use Rattle.hk_core.proofs.kinds.SpotSweepRow.{sweep_reads_row, sweep_writes_row, sweep_marks_row, sweep_empties_row, clear_row, reset_row, words-flip, words-reset, words-write_entry, words-write_mark, words-empty_header}
 use Rattle.hk_core.proofs.kinds.SpotReset.{no_ranges}
-use Rattle.hk_collect.proofs.Fitting.{in_space, own_hand, register_hand, cell_hand, cell_names, item_names, item_range, marks_at, formed, in_step, link_there, here_frame_trade, here_cell, here_object_trade}
-use Rattle.hk_collect.proofs.Collected.{Collected, Spares, collected_row, collected_at, inside_kept, spares_all, spares_beside, spares_outside}
+use Rattle.hk_collect.proofs.Fitting.{in_space, own_hand, register_hand, cell_hand, cell_names, item_names, item_range, marks_at, formed, in_step, link_there, here_cell, here_object_trade}
+use Rattle.hk_collect.proofs.Collected.{Collected, collected_row, collected_at, inside_kept, spares_all, spares_beside, spares_outside}
 
 -- a write finds nothing
 found-write : (row : List ℕ) (word v : ℕ) → learnt row (Some (event.Write word v)) ≡ 0
@@ -387,15 +387,15 @@ module _ (c : State) (history : History) (h : Lawful c history) where
       elim (cases_eq (w.mark n) w.cycle) [
         | inl marked ↦ goes_on (inl marked)
         | inr differs ↦ elim (cases_lt (n + 1) (numbers g)) [
-            | inl more ↦ goes_on (inr more)
-            | inr last ↦
-                let knows : c.spot.cycle ≡ w.cycle = h.facts.spot_knows_cycle in
-                let other : nat_eq (w.mark n) c.spot.cycle ≡ false = ne_eqb (w.mark n) c.spot.cycle (λ e. differs (e ∙ knows)) in
-                let ends : nat_lt (n + 1) (numbers g) ≡ false = le-ltb (n + 1) (numbers g) last in
-                collected_at c history h (line.Pass n) at (event.Load (mark_at g n)) refl w (words-load g c.row (mark_at g n)) (w.mark n) (found-mark g c.row n within) h.range
-                (rw (other, ends) (pass_to_sweep g w (flight_at c) (begun_at c) c.spot (names_of g history) (contents_of g history) h.range n last h.facts at differs))
-                (spares_all c history h w refl refl)
-          ]
+          | inl more ↦ goes_on (inr more)
+          | inr last ↦
+              let knows : c.spot.cycle ≡ w.cycle = h.facts.spot_knows_cycle in
+              let other : nat_eq (w.mark n) c.spot.cycle ≡ false = ne_eqb (w.mark n) c.spot.cycle (λ e. differs (e ∙ knows)) in
+              let ends : nat_lt (n + 1) (numbers g) ≡ false = le-ltb (n + 1) (numbers g) last in
+              collected_at c history h (line.Pass n) at (event.Load (mark_at g n)) refl w (words-load g c.row (mark_at g n)) (w.mark n) (found-mark g c.row n within) h.range
+              (rw (other, ends) (pass_to_sweep g w (flight_at c) (begun_at c) c.spot (names_of g history) (contents_of g history) h.range n last h.facts at differs))
+              (spares_all c history h w refl refl)
+        ]
       ]
 
   pub pass_head_well : (n : ℕ) → c.spot.line ≡ line.PassHead n → Collected c history
@@ -411,17 +411,17 @@ module _ (c : State) (history : History) (h : Lawful c history) where
       elim (cases_Bool (is_old g c.spot word)) [
         | inl grey ↦ goes_on (inl grey)
         | inr moved ↦ elim (cases_lt (n + 1) (numbers g)) [
-            | inl more ↦ goes_on (inr more)
-            | inr last ↦
-                let knows : c.spot.cycle ≡ w.cycle = h.facts.spot_knows_cycle in
-                let place : w.place n ≡ layout.header_place word = ap layout.header_place (raw_header g c.row n within) in
-                let elsewhere : is_in_space g (old_space w.cycle) (w.place n) ≡ false =
-                ap (λ (p : ℕ). is_in_space g (old_space w.cycle) p) place ∙ ap (λ (k : ℕ). is_in_space g (old_space k) (layout.header_place word)) (sym knows) ∙ moved in
-                let ends : nat_lt (n + 1) (numbers g) ≡ false = le-ltb (n + 1) (numbers g) last in
-                collected_at c history h (line.PassHead n) at (event.Load (header_at g n)) refl w (words-load g c.row (header_at g n)) word (found-header g c.row n) h.range
-                (rw (moved, ends) (pass_head_to_sweep g w (flight_at c) (begun_at c) c.spot (names_of g history) (contents_of g history) h.range n last h.facts at elsewhere))
-                (spares_all c history h w refl refl)
-          ]
+          | inl more ↦ goes_on (inr more)
+          | inr last ↦
+              let knows : c.spot.cycle ≡ w.cycle = h.facts.spot_knows_cycle in
+              let place : w.place n ≡ layout.header_place word = ap layout.header_place (raw_header g c.row n within) in
+              let elsewhere : is_in_space g (old_space w.cycle) (w.place n) ≡ false =
+              ap (λ (p : ℕ). is_in_space g (old_space w.cycle) p) place ∙ ap (λ (k : ℕ). is_in_space g (old_space k) (layout.header_place word)) (sym knows) ∙ moved in
+              let ends : nat_lt (n + 1) (numbers g) ≡ false = le-ltb (n + 1) (numbers g) last in
+              collected_at c history h (line.PassHead n) at (event.Load (header_at g n)) refl w (words-load g c.row (header_at g n)) word (found-header g c.row n) h.range
+              (rw (moved, ends) (pass_head_to_sweep g w (flight_at c) (begun_at c) c.spot (names_of g history) (contents_of g history) h.range n last h.facts at elsewhere))
+              (spares_all c history h w refl refl)
+        ]
       ]
 
   -- THE SWEEP

@@ -1,16 +1,15 @@
 -- In a lawful state the collector's spot fits, and its event may be fired.
-use Rattle.std.proofs.Common.{◌≡◌, ◌≢◌, ℕ, zero, suc, ◌+◌, ◌-◌, ◌*◌, ◌%◌, ◌^◌, ◌<◌, ◌≤◌, Bool, true, false, List, inl, inr, refl, sym, ◌∙◌, ap, subst, arith, Option, Some, None}
+use Rattle.std.proofs.Common.{◌≡◌, ℕ, zero, suc, ◌+◌, ◌-◌, ◌*◌, ◌^◌, ◌<◌, ◌≤◌, Bool, true, false, inl, inr, refl, ◌∙◌, ap, subst, arith, Option, Some, None}
 use Rattle.std.specs.Prelude.{slice_get, unwrap_or, option_map, nat_eq, if◌then◌else◌}
 use Rattle.hk_words.specs.declared.geometry.Geometry.{Geometry}
 use Rattle.hk_words.specs.declared.shape.TheConstants.{MAX_FIELDS}
-use Rattle.hk_words.specs.Geometry.{tasks, numbers, list_length, space_words}
+use Rattle.hk_words.specs.Geometry.{tasks, list_length, space_words}
 use Rattle.hk_words.specs.Layout as layout
 use Rattle.hk_words.specs.Row.{w0_at, place_at}
 use Rattle.hk_model.specs.Heap as heap
 use Rattle.hk_model.specs.Heap.{Heap, Object, of_object}
 use Rattle.hk_model.specs.History.{History, after}
 use Rattle.hk_model.proofs.Updates.{upd_same}
-use Rattle.hk_core.specs.declared.event.Event.{Event}
 use Rattle.hk_core.specs.declared.event.Event.TheVariants as event
 use Rattle.hk_core.specs.declared.flight.Flight.{Flight}
 use Rattle.hk_core.specs.declared.spot.Spot.{Spot}
@@ -25,7 +24,7 @@ use Rattle.hk_core.specs.Collect as table
 use Rattle.hk_core.specs.Collect.{last_cycle, current_space, old_space, next_list, moved_from, moved_to, moved_number, spot_event, event_at_line, event_by_collector}
 use Rattle.hk_core.specs.Fits.{NamesNumber}
 use Rattle.hk_core.specs.Lines as l
-use Rattle.hk_core.specs.View.{Names, words_of, names_of, contents_of, flight_at, begun_at, size_at, refs_at, nums_at, reference_at}
+use Rattle.hk_core.specs.View.{words_of, names_of, contents_of, flight_at, begun_at, size_at, refs_at, nums_at}
 use Rattle.hk_core.specs.Colours.{spaces_of, Shades, shades_of, IsGood}
 use Rattle.hk_core.specs.Flights.{to_link}
 use Rattle.hk_core.specs.Lawful.{Lawful, hands_of}

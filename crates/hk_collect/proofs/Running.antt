@@ -1,6 +1,6 @@
 -- Runs are lawful, and what follows from it: how operations end, what becomes of an object that a call is inside, and that
 -- a New is given a fresh number.
-use Rattle.std.proofs.Common.{◌≡◌, ◌≢◌, ℕ, zero, suc, ◌+◌, ◌<◌, ◌≤◌, Bool, true, false, List, [], ◌∷◌, ◌++◌, length, inl, inr, refl, sym, ◌∙◌, ap, subst, arith, Option, Some, None}
+use Rattle.std.proofs.Common.{◌≡◌, ℕ, ◌+◌, ◌<◌, ◌≤◌, Bool, true, false, List, [], ◌∷◌, ◌++◌, length, refl, sym, ◌∙◌, ap, subst, arith, Option, Some, None}
 use Rattle.std.proofs.lemmas.Bool.{and_parts, ltb-true, eqb-true}
 use Rattle.std.proofs.lemmas.Bool.Decides.{nat_tests}
 use Rattle.std.proofs.lemmas.List.Sums.{fold-append}
@@ -15,14 +15,13 @@ use Rattle.hk_model.specs.History.{History, Legal, is_question}
 use Rattle.hk_core.specs.declared.flight.Flight.{Flight}
 use Rattle.hk_core.specs.declared.outcome.Fault.{Fault}
 use Rattle.hk_core.specs.State.{State, IsSized, opening, flight_of}
-use Rattle.hk_core.specs.Step.{places_of, next, answer_by, history_after}
+use Rattle.hk_core.specs.Step.{places_of, next, history_after}
 use Rattle.hk_core.specs.Begin.{refusal, first_flight, accepted, after_begin, begun_or}
 use Rattle.hk_core.specs.Collect.{next_collected}
 use Rattle.hk_core.specs.Run.{Action, Running, begin, step, collect, act, run, run_from_opening, may_begin, is_idle, is_busy, registers_fit}
-use Rattle.hk_core.specs.View.{Words, words_of, names_of, flight_at, size_at}
+use Rattle.hk_core.specs.View.{words_of, flight_at}
 use Rattle.hk_core.specs.Flights as f
 use Rattle.hk_core.specs.Colours.{Covers}
-use Rattle.hk_core.specs.Lawful.{Lawful}
 use Rattle.hk_core.specs.Turns.{steps_of, StandsLater}
 use Rattle.hk_core.specs.Inside.{cell_written, IsLeftAlone, size_in, StandsApart}
 use Rattle.hk_core.specs.Fresh.{IsFresh}
@@ -35,7 +34,6 @@ use Rattle.hk_core.proofs.Turns.{stands_later}
 use Rattle.hk_core.proofs.Unused.{number_is_fresh}
 use Rattle.hk_core.proofs.kinds.Enter.{object_of}
 use Rattle.hk_collect.specs.Runs.{StandsAt, entered_number, written_by, IsStepInside}
-use Rattle.hk_collect.proofs.Collected.{Collected}
 use Rattle.hk_collect.proofs.EachLine.{collects, lawful_collected}
 
 -- LAWFUL RUNS

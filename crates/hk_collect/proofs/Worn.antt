@@ -1,5 +1,5 @@
 -- In a lawful state the collector has an event on every line, but at rest in the last cycle.
-use Rattle.std.proofs.Common.{◌≡◌, ℕ, ◌+◌, Bool, true, false, refl, sym, ◌∙◌, ap, Option, Some, None}
+use Rattle.std.proofs.Common.{◌≡◌, ◌+◌, Bool, true, false, refl, Some, None}
 use Rattle.std.proofs.lemmas.Bool.{eqb-true}
 use Rattle.std.specs.Prelude.{◌↔◌, nat_eq, if◌then◌else◌}
 use Rattle.hk_words.specs.Layout.{pack_w0}
@@ -9,7 +9,6 @@ use Rattle.hk_core.specs.declared.event.Event.{Event}
 use Rattle.hk_core.specs.declared.event.Event.TheVariants as event
 use Rattle.hk_core.specs.declared.spot.Line.{Line}
 use Rattle.hk_core.specs.declared.spot.Line.TheVariants as line
-use Rattle.hk_core.specs.declared.spot.Stage.{Stage}
 use Rattle.hk_core.specs.declared.spot.Stage.TheVariants as stage
 use Rattle.hk_core.specs.State.{State}
 use Rattle.hk_core.specs.Collect as table

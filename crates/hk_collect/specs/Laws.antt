@@ -1,5 +1,5 @@
 -- Laws of runs: what holds after any list of begins, steps of seats and events of the collector, in any order.
-use Rattle.std.specs.Prelude.{◌≡◌, ◌↔◌, ℕ, ◌+◌, ◌<◌, true, false, Option, Some, None, List, ◌++◌, ◌∷◌}
+use Rattle.std.specs.Prelude.{◌≡◌, ◌↔◌, ℕ, ◌+◌, ◌<◌, true, false, Some, None, List, ◌++◌, ◌∷◌}
 use Rattle.hk_words.specs.declared.call.Call.{Call}
 use Rattle.hk_words.specs.declared.call.Call.TheVariants.{New}
 use Rattle.hk_words.specs.declared.geometry.Geometry.{Geometry}

@@ -6,9 +6,9 @@ mod collector;
 mod cycles;
 mod decide;
 mod follow;
-mod laws;
 #[cfg(test)]
 mod lawful;
+mod laws;
 #[cfg(test)]
 mod walk;
 
@@ -17,6 +17,6 @@ pub use decide::event;
 pub use follow::took;
 pub use hk_core::Work;
 pub use laws::{
-    collector_can_go_on, collector_keeps_history, events_are_counted, inside_stays, operations_end, runs_are_lawful,
-    runs_give_fresh_numbers,
+    collector_can_go_on, collector_keeps_history, events_are_counted, inside_stays, operations_end,
+    runs_are_lawful, runs_give_fresh_numbers,
 };

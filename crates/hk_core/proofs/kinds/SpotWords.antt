@@ -1,7 +1,7 @@
 -- What the words of a row say after the collector's exchanges, what its events find, and that they may be fired, where
 -- their slots are those of the row. Claims, reserves and writes of cells stand in ClaimWords and Words, the flip and what
 -- the sweep writes in SpotSweepRow.
-use Rattle.std.proofs.Common.{◌≡◌, ℕ, ◌+◌, ◌^◌, ◌<◌, List, length, refl, sym, ◌∙◌, ap, arith, Some}
+use Rattle.std.proofs.Common.{◌≡◌, ℕ, ◌^◌, ◌<◌, List, length, refl, sym, ◌∙◌, ap, arith, Some}
 use Rattle.std.proofs.lemmas.Bool.{eq-eqb}
 use Rattle.std.specs.Prelude.{nat_eq, if◌then◌else◌}
 use Rattle.hk_words.specs.declared.geometry.Geometry.{Geometry}

@@ -47,7 +47,7 @@ module _ (c : State) where
   work_at ln at = ap (work_at_line c.geometry c.spot (found_by_collector c)) at
 
   -- in the last cycle nothing changes
-  worn : c.spot.line ≡ line.Rest → c.spot.cycle ≡ last_cycle → IsWorn c
+  pub worn : c.spot.line ≡ line.Rest → c.spot.cycle ≡ last_cycle → IsWorn c
   unfolding event_at_line table.rest_event next_collected spot_took took_at_line table.rest_took fired_if
   worn at last =
       let none : event_by_collector c ≡ None = event_at line.Rest at ∙ rw (eq-eqb c.spot.cycle last_cycle last) refl in

@@ -21,3 +21,4 @@ pub mod UsedTables
 pub mod UsedTrace
 pub mod UsedReserves
 pub mod UsedLaws
+pub mod Worn

@@ -9,10 +9,11 @@ use Rattle.hk_model.specs.Heap.{opening_of}
 use Rattle.hk_model.specs.History.{History, Legal}
 use Rattle.hk_core.specs.declared.spot.Spot.{Spot}
 use Rattle.hk_core.specs.declared.spot.Line.TheVariants.{Pass, PassHead}
+use Rattle.hk_core.specs.Event.{CanFireIf}
 use Rattle.hk_core.specs.State.{State, flight_of}
 use Rattle.hk_core.specs.Step.{places_of, next}
 use Rattle.hk_core.specs.Begin.{refusal}
-use Rattle.hk_core.specs.Collect.{next_collected, spot_took}
+use Rattle.hk_core.specs.Collect.{event_by_collector, next_collected, spot_took}
 use Rattle.hk_core.specs.Run.{Action, Running, begin, collect, act, run_from_opening, may_begin}
 use Rattle.hk_core.specs.View.{words_of}
 use Rattle.hk_core.specs.Flights.{in_object}
@@ -22,6 +23,8 @@ use Rattle.hk_core.specs.Lawful.{Lawful}
 use Rattle.hk_core.specs.Turns.{steps_of}
 use Rattle.hk_core.specs.Inside.{IsLeftAlone, size_in, StandsApart}
 use Rattle.hk_core.specs.Fresh.{IsFresh}
+use Rattle.hk_collect.specs.SpotFits.{SpotFits}
+use Rattle.hk_collect.specs.Works.{IsWorn}
 use Rattle.hk_collect.specs.Runs.{StandsAt, entered_number, written_by, IsStepInside, in_attempt}
 
 -- LAWFUL STATES
@@ -48,6 +51,19 @@ CollectorKeepsHistory = (r : Running) → (act r collect).history ≡ r.history
 
 abbrev pub CollectorKeepsFlights : Type 0
 CollectorKeepsFlights = (r : Running) → (act r collect).core.flights ≡ r.core.flights
+
+-- THE COLLECTOR'S EVENT
+
+-- in a lawful state the collector's spot fits, and its event may be fired
+abbrev pub LawfulSpotFits : Type 0
+LawfulSpotFits = (c : State) (history : History) → Lawful c history → SpotFits c.geometry c.spot
+
+abbrev pub LawfulCanCollect : Type 0
+LawfulCanCollect = (c : State) (history : History) → Lawful c history → CanFireIf c.row (event_by_collector c)
+
+-- there is an event but where a flip is due in the last cycle
+abbrev pub EventUnlessWorn : Type 0
+EventUnlessWorn = (c : State) (history : History) → Lawful c history → (event_by_collector c ≡ None) ↔ IsWorn c
 
 -- OPERATIONS
 

@@ -1,93 +1,30 @@
 //! Cycles of the collector that were worked out by hand, with a task beside it, on a machine that is lawful all along.
-use crate::{Work, step};
-use hk_core::{Core, Fault, Memory, Outcome, Step};
+use crate::Work;
+use crate::lawful::Machine;
+use hk_core::{Outcome, Step};
 use hk_words::{Call, Geometry, Reply, Shape};
 use std::alloc::Global;
-use std::marker::Model;
 use std::process::Abort;
 use std::test::Fail;
 
-/// A lawful machine.
-#[derive(Drop)]
-struct Machine {
-    core: Core,
+/// So many events of the collector in a row are useful.
+fn useful(rt: &impl Abort, machine: &mut Machine, events: u32) {
+    for event in 0..events {
+        let work = machine.collect();
+        assert!(rt; work == Work::Useful, "event {event}: {work:?}");
+    }
 }
 
-impl Model for Machine {
-    ghost use Rattle.hk_core.specs.State.{State};
-    ghost use Rattle.hk_core.specs.Lawful.{IsLawful};
-
-    ghost Value = { State };
-
-    ghost view = { λ m. m.core };
-
-    ghost invariant = { λ m. IsLawful m.core };
-}
-
-impl Machine {
-    fn open(alloc: Global, g: Geometry) -> Result<Machine, Memory> {
-        let core = Core::open(alloc, g)?;
-        Ok(Machine { core })
-    }
-
-    /// The begin of a call.
-    fn begin(&mut self, rt: &impl Abort, seat: u8, call: Call) -> Result<(), Fault> {
-        assert!(rt; seat < self.core.geometry().tasks());
-        assert!(rt; self.core.flight(seat).place == 0);
-        assert!(rt; call.registers_fit(self.core.geometry().registers()));
-        match call {
-            Call::Same { .. } | Call::IsNull { .. } => panic!(rt; "a question"),
-            _ => self.core.begin(seat, call),
+/// The greatest number of reserved words that the collector shows until it flips the spaces.
+fn most_reserved(rt: &impl Abort, machine: &mut Machine) -> u64 {
+    let mut most = machine.reserved();
+    for _ in 0..1000 {
+        if machine.collect() == Work::Flipped {
+            return most;
         }
+        most = most.max(machine.reserved());
     }
-
-    /// One step of a seat.
-    fn step(&mut self, rt: &impl Abort, seat: u8) -> Step {
-        assert!(rt; seat < self.core.geometry().tasks());
-        assert!(rt; 1 <= self.core.flight(seat).place);
-        self.core.step(seat)
-    }
-
-    /// One event of the collector.
-    fn collect(&mut self) -> Work {
-        step(&mut self.core)
-    }
-
-    /// The rest of a call of a seat: how many steps it takes, and how it ends.
-    fn rest(&mut self, rt: &impl Abort, seat: u8) -> Option<(u32, Outcome)> {
-        for steps in 1..20 {
-            if let Step::Ended(outcome) = self.step(rt, seat) {
-                return Some((steps, outcome));
-            }
-        }
-        None
-    }
-
-    /// A call of a seat, begun and stepped to its end.
-    fn whole(&mut self, rt: &impl Abort, seat: u8, call: Call) -> Option<(u32, Outcome)> {
-        self.begin(rt, seat, call).ok()?;
-        self.rest(rt, seat)
-    }
-
-    /// So many events of the collector in a row are useful.
-    fn useful(&mut self, rt: &impl Abort, events: u32) {
-        for event in 0..events {
-            let work = self.collect();
-            assert!(rt; work == Work::Useful, "event {event}: {work:?}");
-        }
-    }
-
-    /// The greatest number of reserved words that the collector shows until it flips the spaces.
-    fn most_reserved(&mut self, rt: &impl Abort) -> u64 {
-        let mut most = self.core.reserved();
-        for _ in 0..1000 {
-            if self.collect() == Work::Flipped {
-                return most;
-            }
-            most = most.max(self.core.reserved());
-        }
-        panic!(rt; "no flip")
-    }
+    panic!(rt; "no flip")
 }
 
 const DONE: Outcome = Outcome::Done(Reply::Unit);
@@ -109,14 +46,14 @@ fn store_while_moved(rt: HostRuntime) -> Result<(), Fail> {
     assert_eq!(rt; machine.begin(&rt, 0, STORE), Ok(()));
     assert_eq!(rt; machine.step(&rt, 0), Step::Going);
     assert_eq!(rt; machine.collect(), Work::Flipped);
-    machine.useful(&rt, 15);
+    useful(&rt, &mut machine, 15);
     for _ in 0..100 {
         assert_eq!(rt; machine.collect(), Work::BusyObject(0));
     }
     assert_eq!(rt; machine.rest(&rt, 0), Some((6, DONE)));
-    machine.useful(&rt, 5);
+    useful(&rt, &mut machine, 5);
     // The copy stands at the first word of space 0, whose place is 1; its cell is the next word.
-    assert_eq!(rt; machine.core.word(g.space_at(2)), 1 + (1 << 20));
+    assert_eq!(rt; machine.word_at(&rt, 2), 1 + (1 << 20));
     Ok(())
 }
 
@@ -126,7 +63,7 @@ fn store_spoils_the_copy(rt: HostRuntime) -> Result<(), Fail> {
     let g = Geometry::new(8, 16, 0, 1, 0, 1, 0)?;
     let mut machine = Machine::open(rt.alloc(), g)?;
     assert_eq!(rt; machine.collect(), Work::Flipped);
-    machine.useful(&rt, 18);
+    useful(&rt, &mut machine, 18);
     assert_eq!(rt; machine.whole(&rt, 0, STORE), Some((7, DONE)));
     assert_eq!(rt; machine.collect(), Work::Lost(4));
     Ok(())
@@ -146,7 +83,7 @@ fn more_live_than_declared(rt: HostRuntime) -> Result<(), Fail> {
     let mut machine = Machine::open(rt.alloc(), g)?;
     assert_eq!(rt; machine.whole(&rt, 0, make(1)?), Some((7, DONE)));
     assert_eq!(rt; machine.collect(), Work::Flipped);
-    machine.useful(&rt, 15);
+    useful(&rt, &mut machine, 15);
     for _ in 0..10 {
         assert_eq!(rt; machine.collect(), Work::LiveOver(4));
     }
@@ -169,7 +106,7 @@ const CLEAR: Call = Call::Clear { dest: 1 };
 fn let_go_before_it_is_claimed(rt: HostRuntime) -> Result<(), Fail> {
     let mut machine = flipped(&rt, rt.alloc())?;
     assert_eq!(rt; machine.whole(&rt, 0, CLEAR), Some((1, DONE)));
-    assert_eq!(rt; machine.most_reserved(&rt), 2);
+    assert_eq!(rt; most_reserved(&rt, &mut machine), 2);
     Ok(())
 }
 
@@ -178,14 +115,14 @@ fn let_go_before_it_is_claimed(rt: HostRuntime) -> Result<(), Fail> {
 fn let_go_once_it_is_reserved(rt: HostRuntime) -> Result<(), Fail> {
     let mut machine = flipped(&rt, rt.alloc())?;
     for _ in 0..100 {
-        if machine.core.reserved() == 4 {
+        if machine.reserved() == 4 {
             break;
         }
         machine.collect();
     }
-    assert_eq!(rt; machine.core.reserved(), 4);
+    assert_eq!(rt; machine.reserved(), 4);
     assert_eq!(rt; machine.whole(&rt, 0, CLEAR), Some((1, DONE)));
-    assert_eq!(rt; machine.most_reserved(&rt), 4);
-    assert_eq!(rt; machine.most_reserved(&rt), 2);
+    assert_eq!(rt; most_reserved(&rt, &mut machine), 4);
+    assert_eq!(rt; most_reserved(&rt, &mut machine), 2);
     Ok(())
 }

@@ -1,5 +1,5 @@
 //! Laws of runs: what holds after any list of begins, steps of seats and events of the collector, in any order.
-ghost use Rattle.hk_collect.specs.Laws.{CollectorKeepsLawful, RunsAreLawful, RunsAreLegal, RunsKeepGeometry, CollectorKeepsHistory, CollectorKeepsFlights, OperationsEnd, InsideStays, WritesAreInside, InsideIsApart, RunsGiveFreshNumbers, AttemptsBegin, AttemptsGoOn, HeadersAfterMarks};
+ghost use Rattle.hk_collect.specs.Laws.{CollectorKeepsLawful, RunsAreLawful, RunsAreLegal, RunsKeepGeometry, LawfulSpotFits, LawfulCanCollect, EventUnlessWorn, CollectorKeepsHistory, CollectorKeepsFlights, OperationsEnd, InsideStays, WritesAreInside, InsideIsApart, RunsGiveFreshNumbers, AttemptsBegin, AttemptsGoOn, HeadersAfterMarks};
 
 /// Every run from the opening state is lawful for its history, so each reply in it is the one of the heap that never
 /// collects. No action changes the geometry.
@@ -8,6 +8,13 @@ pub fn runs_are_lawful()
     ensures runs { RunsAreLawful }
     ensures legal { RunsAreLegal }
     ensures geometry { RunsKeepGeometry }
+{}
+
+/// In a lawful state the collector can do its event, and has one but where a flip is due in the last cycle.
+pub fn collector_can_go_on()
+    ensures fits { LawfulSpotFits }
+    ensures can_fire { LawfulCanCollect }
+    ensures event { EventUnlessWorn }
 {}
 
 /// The collector leaves the history as it is, and the calls in flight.

@@ -1,13 +1,13 @@
 //! The collector of the heap, one event on one word at a time.
 #![tactic(auto)]
 
-#[cfg(test)]
-mod checks;
 mod collector;
 #[cfg(test)]
 mod cycles;
 mod decide;
 mod follow;
+#[cfg(test)]
+mod lawful;
 mod laws;
 mod measure;
 #[cfg(test)]
@@ -21,8 +21,8 @@ pub use decide::event;
 pub use follow::took;
 pub use hk_core::Work;
 pub use laws::{
-    collector_keeps_history, events_are_counted, inside_stays, operations_end, runs_are_lawful,
-    runs_give_fresh_numbers,
+    collector_can_go_on, collector_keeps_history, events_are_counted, inside_stays, operations_end,
+    runs_are_lawful, runs_give_fresh_numbers,
 };
 pub use measure::{measured_cycle, untouched_attempts};
 pub use used::reserved_was_used;

@@ -1,15 +1,14 @@
 //! Walks of the machine: rows worked out by hand, and a long random one beside the heap that never collects.
 ghost use Rattle.std.specs.Prelude.{◌≡◌, ℕ, ◌<◌, length, IfOk};
-ghost use Rattle.hk_words.specs.Geometry.{tasks};
 ghost use Rattle.hk_words.specs.Calls.{RegistersFit};
 ghost use Rattle.hk_words.specs.declared.geometry.TheConstants.{REGISTERS};
 ghost use Rattle.hk_model.specs.Heap.{register_count};
 
-use crate::checks::{can_collect, can_step, spot_fits};
-use crate::{Work, advance};
-use hk_core::{Core, Fault, Flight, Memory, Outcome, Step};
+use crate::Work;
+use crate::lawful::Machine;
+use hk_core::{Fault, Flight, Memory, Outcome, Step};
 use hk_model::Plain;
-use hk_words::{Call, Geometry, REGISTERS, Reply, Shape, w0_words};
+use hk_words::{Call, Geometry, REGISTERS, Reply, Shape};
 use std::alloc::Global;
 use std::process::Abort;
 use std::test::Fail;
@@ -36,65 +35,22 @@ impl Mirror {
     }
 }
 
-/// One event of the collector.
-fn collect(rt: &impl Abort, core: &mut Core) -> Work {
-    assert!(rt; spot_fits(&core.geometry(), &core.spot()));
-    assert!(rt; can_collect(core));
-    advance(core)
-}
-
-/// One step of a seat.
-fn step(rt: &impl Abort, core: &mut Core, seat: u8) -> Step {
-    assert!(rt; seat < core.geometry().tasks());
-    assert!(rt; can_step(core, seat));
-    core.advance(seat)
-}
-
-/// The begin of a call.
-fn begin(rt: &impl Abort, core: &mut Core, seat: u8, call: Call) -> Result<(), Fault> {
-    assert!(rt; seat < core.geometry().tasks());
-    assert!(rt; core.flight(seat).place == 0);
-    assert!(rt; call.registers_fit(core.geometry().registers()));
-    match call {
-        Call::Same { .. } | Call::IsNull { .. } => panic!(rt; "a question"),
-        _ => core.begin(seat, call),
-    }
-}
-
-/// A call of a seat, begun and stepped to its end; the number of steps and how it ended.
-fn whole(rt: &impl Abort, core: &mut Core, seat: u8, call: Call) -> (u32, Option<Outcome>) {
-    if begin(rt, core, seat, call).is_err() {
-        return (0, None);
-    }
-    rest(rt, core, seat)
-}
-
-/// The rest of a call of a seat.
-fn rest(rt: &impl Abort, core: &mut Core, seat: u8) -> (u32, Option<Outcome>) {
-    for steps in 1..20 {
-        if let Step::Ended(outcome) = step(rt, core, seat) {
-            return (steps, Some(outcome));
-        }
-    }
-    (20, None)
-}
-
 #[test]
 fn full(rt: HostRuntime) -> Result<(), Fail> {
     let g = Geometry::new(8, 16, 8, 1, 1, 1, 0)?;
-    let mut core = Core::open(rt.alloc(), g)?;
+    let mut machine = Machine::open(rt.alloc(), g)?;
     let shape = Shape::new(1, 0).ok_or("a shape")?;
     let make = Call::New { dest: 1, shape };
     for (seat, words) in [(1, 8), (0, 16)] {
         for _ in 0..4 {
             assert_eq!(rt;
-                whole(&rt, &mut core, seat, make),
-                (7, Some(Outcome::Done(Reply::Unit)))
+                machine.whole(&rt, seat, make),
+                Some((7, Outcome::Done(Reply::Unit)))
             );
         }
         assert_eq!(rt;
-            whole(&rt, &mut core, seat, make),
-            (7, Some(Outcome::Full { words }))
+            machine.whole(&rt, seat, make),
+            Some((7, Outcome::Full { words }))
         );
     }
     Ok(())
@@ -177,7 +133,7 @@ impl Draws {
 /// effect; and how often the spaces were flipped, a copy was lost, a call was done and a New found no room.
 #[derive(Drop)]
 struct Walk {
-    core: Core,
+    machine: Machine,
     mirror: Mirror,
     answered: [Option<Reply>; 3],
     flips: u32,
@@ -219,7 +175,7 @@ fn begin_some(
     seat: u8,
     call: Call,
 ) -> Result<(), Memory> {
-    let Err(fault) = begin(rt, &mut walk.core, seat, call) else {
+    let Err(fault) = walk.machine.begin(rt, seat, call) else {
         return Ok(());
     };
     let reply = mirrored(rt, alloc, walk, seat, call)?;
@@ -241,13 +197,12 @@ fn compare(rt: &impl Abort, alloc: Global, walk: &mut Walk, seat: u8) -> Result<
         let other = (reg + 1) % 4;
         let null = mirrored(rt, alloc, walk, seat, Call::IsNull { reg })? == Reply::Yes;
         let same = mirrored(rt, alloc, walk, seat, Call::Same { a: reg, b: other })? == Reply::Yes;
-        assert!(rt; seat < walk.core.geometry().tasks() && 4 < walk.core.geometry().registers());
         assert!(rt;
-            walk.core.is_null(seat, reg) == null,
+            walk.machine.is_null(rt, seat, reg) == null,
             "null otherwise than on the plain heap"
         );
         assert!(rt;
-            walk.core.same(seat, reg, other) == same,
+            walk.machine.same(rt, seat, reg, other) == same,
             "the same otherwise than on the plain heap"
         );
     }
@@ -268,7 +223,7 @@ fn step_some(
         walk.answered[seat as usize] = Some(mirrored(rt, alloc, walk, seat, flight.call)?);
     }
     let answered = walk.answered[seat as usize];
-    match step(rt, &mut walk.core, seat) {
+    match walk.machine.step(rt, seat) {
         Step::Going => {}
         Step::Ended(outcome) => {
             walk.answered[seat as usize] = None;
@@ -302,7 +257,7 @@ fn ended(rt: &impl Abort, walk: &mut Walk, outcome: Outcome, answered: Option<Re
 /// The walk before its first action.
 fn walk_of(alloc: Global, g: Geometry) -> Result<Walk, Memory> {
     Ok(Walk {
-        core: Core::open(alloc, g)?,
+        machine: Machine::open(alloc, g)?,
         mirror: Mirror::open(alloc, g.board())?,
         answered: [None; 3],
         flips: 0,
@@ -323,8 +278,7 @@ fn act(
 ) -> Result<(), Memory>
     requires { 0 < kinds }
 {
-    assert!(rt; seat < walk.core.geometry().tasks());
-    let flight = walk.core.flight(seat);
+    let flight = walk.machine.flight(rt, seat);
     if flight.place == 0 {
         let call = draws.call(kinds);
         begin_some(rt, alloc, walk, seat, call)
@@ -344,7 +298,7 @@ fn act_or_collect(
     if seat < 3 {
         return act(rt, alloc, walk, draws, seat, 7);
     }
-    match collect(rt, &mut walk.core) {
+    match walk.machine.collect() {
         Work::Flipped => walk.flips = walk.flips.wrapping_add(1),
         Work::Lost(_) => walk.lost = walk.lost.wrapping_add(1),
         _ => {}
@@ -385,5 +339,43 @@ fn replies_without_a_collector(rt: HostRuntime) -> Result<(), Fail> {
             "with {kinds} kinds of calls"
         );
     }
+    Ok(())
+}
+
+/// A call of a seat, with so many events of the collector among its steps: first one of these, then a step, and so on.
+fn call_among_events(
+    rt: &impl Abort,
+    alloc: Global,
+    walk: &mut Walk,
+    draws: &mut Draws,
+    seat: u8,
+    events: u32,
+) -> Result<(), Memory> {
+    let call = draws.call(7);
+    begin_some(rt, alloc, walk, seat, call)?;
+    for turn in 0..events.max(10) {
+        if turn < events && walk.machine.collect() == Work::Flipped {
+            walk.flips = walk.flips.wrapping_add(1);
+        }
+        let flight = walk.machine.flight(rt, seat);
+        if flight.place > 0 {
+            step_some(rt, alloc, walk, &flight)?;
+        }
+    }
+    Ok(())
+}
+
+/// Five hundred calls of two seats in turn, each among four events of the collector: two thousand events, and so two cycles
+/// at the least.
+#[test]
+fn calls_among_events(rt: HostRuntime) -> Result<(), Fail> {
+    let g = Geometry::new(64, 64, 16, 2, 1, 2, 1)?;
+    let mut walk = walk_of(rt.alloc(), g)?;
+    let mut draws = Draws { state: 11 };
+    for number in 0..500 {
+        let seat = (number % 2) as u8;
+        call_among_events(&rt, rt.alloc(), &mut walk, &mut draws, seat, 4)?;
+    }
+    assert!(rt; walk.flips >= 2 && walk.done > 300);
     Ok(())
 }

@@ -1,5 +1,5 @@
 use Rattle.hk_core.specs.Step.{history_after}
-use Rattle.hk_collect.proofs.cycles.Machine.step.Goals as goal
+use Rattle.hk_collect.proofs.lawful.Machine.step.Goals as goal
 
 pub invariant_of-self : goal.invariant_of-self
 invariant_of-self g c =

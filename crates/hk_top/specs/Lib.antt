@@ -1,7 +1,3 @@
-pub mod Schedule
-pub mod Jobs
+pub mod Session
+pub mod Local
 pub mod Progress
-pub mod Periodic
-pub mod Text
-pub mod Report
-pub mod Tool

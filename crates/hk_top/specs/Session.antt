@@ -26,12 +26,14 @@ at_start job = record { walk = started job; spent = 0 }
 abbrev pub is_over : List Statement → Standing → Bool
 is_over script at = nat_eq at.walk.place (length script)
 
+-- a job goes on behind the statement at which its walk is
+abbrev pub passed : List Statement → Standing → Standing
+passed script at = record { walk = walk_after script at.walk NoValue; spent = 0 }
+
 -- where a job stands after a tick of a statement that takes so many: the statement goes on, or is done
 abbrev pub ticked_in : List Statement → Standing → Option Need → Standing
 ticked_in script at None = at
-ticked_in script at (Some n) = if nat_lt (at.spent + 1) (need_ticks n)
-    then record at { spent = at.spent + 1 }
-    else record { walk = walk_after script at.walk NoValue; spent = 0 }
+ticked_in script at (Some n) = if nat_lt (at.spent + 1) (need_ticks n) then record at { spent = at.spent + 1 } else passed script at
 
 abbrev pub ticked : List Statement → Standing → Standing
 ticked script at = ticked_in script at (need_of script at.walk)

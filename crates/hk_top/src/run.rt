@@ -93,6 +93,7 @@ impl TaskRun {
     }
 
     /// Gives a tick to the task's job, which has arrived, and answers what it puts out.
+    #[tactic(auto, using(crate::proofs::Needs::needs))]
     fn tick(&mut self, task: &High, tick: u64) -> Option<u64>
         requires task { IsOnVariables task.now }
         requires kept { IsKept tick task.now self.old }
@@ -139,7 +140,7 @@ impl TaskRun {
         ensures kept { IsKept (tick + 1) task.now self.new }
     {
         if let Some(arrival) = self.arrival {
-            self.latest = self.latest.max(tick + 1 - arrival);
+            self.latest = self.latest.max((tick + 1).saturating_sub(arrival));
         }
         *self = TaskRun {
             job: self.job + 1,

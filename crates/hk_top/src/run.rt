@@ -84,7 +84,7 @@ impl TaskRun {
 
     /// Whether the task has a job that arrived by a tick and isn't ended.
     fn is_ready(&self, tick: u64) -> bool
-        ensures { IsTrue result ↔ (has_arrived self.now.arrival tick ≡ true) }
+        ensures { result ≡ has_arrived self.now.arrival tick }
     {
         match self.arrival {
             Some(arrival) => arrival <= tick,
@@ -158,8 +158,9 @@ impl Run {
         requires { AreOnVariables sheet.now.high }
         ensures { IfOk result (IsAt sheet.now 0) }
     {
+        let high = high_tasks(sheet);
         let mut tasks = Vec::new(alloc);
-        for task in &sheet.high.items {
+        for task in high {
             tasks.push(TaskRun::start(task))?;
         }
         Ok(Run { tasks, idle: 0 })
@@ -178,10 +179,18 @@ impl Run {
             self.idle += 1;
             return None;
         };
-        let task = &sheet.high.items[place];
+        let task = &high_tasks(sheet)[place];
         let value = self.tasks[place].tick(task, tick)?;
         Some(Output { place, value })
     }
+}
+
+/// The high tasks of a sheet.
+pub fn high_tasks(sheet: &Sheet) -> &[High]
+    ensures { result.now ≡ sheet.now.high }
+{
+    let tasks = &sheet.high;
+    tasks.items.as_slice()
 }
 
 /// The place of the first task that is ready at a tick.

@@ -8,7 +8,7 @@ use Rattle.hk_top.specs.declared.run.Output.{Output}
 use Rattle.hk_top.specs.declared.run.Run.{Run}
 use Rattle.hk_top.specs.declared.run.TaskRun.{TaskRun}
 use Rattle.hk_top.specs.Session.{Course, Session, no_course, first_ready, given_to, after_tick, turn, turn_at, state, opening, course_after, output_of}
-use Rattle.hk_top.specs.Progress.{no_task, course_of, session_of, IsKept, AreKept, IsAt, first_due, output_in, output_at}
+use Rattle.hk_top.specs.Progress.{no_task, course_of, session_of, IsKept, AreKept, IsAt, first_due, placed, output_in, output_at}
 use Rattle.hk_top.proofs.Places.{kept_length, kept_more, kept_set, kept_push, due_is_ready, due_within, given_is}
 
 get_or_same : (hs : List High) (place : ℕ) (d e : High) → place < length hs → get_or hs place d ≡ get_or hs place e
@@ -81,13 +81,13 @@ module _ (sheet : Sheet) (tick : ℕ) (run : Run) (at : IsAt sheet tick run) whe
 
   pub output-given : (place : ℕ) (value : Option ℕ) (r : TaskRun) (d : High) → Some place ≡ first_due run.tasks.items tick
       → value ≡ output_of (get_or sheet.high place d).script (course_of (get_or run.tasks.items place r)).at
-      → option_map (λ v. record { place = place; value = v }) value ≡ output_at sheet tick
+      → placed place value ≡ output_at sheet tick
   output-given place value r d due is =
       let within = due_within run.tasks.items tick place due in
       let length_is = kept_length tick sheet.high run.tasks.items at.kept in
       let task = get_or_same sheet.high place d no_task (omega (arith, within, length_is)) in
       let course = get_or_map run.tasks.items place r within in
-      ap (option_map (λ v. record { place = place; value = v }))
+      ap (placed place)
       (is ∙ ap (λ t. output_of t.script (course_of (get_or run.tasks.items place r)).at) task
       ∙ ap (λ c. output_of (get_or sheet.high place no_task).script c.at) (sym course))
       ∙ output_is (Some place) due

@@ -43,10 +43,14 @@ pub record IsAt (sheet : Sheet) (ticks : ℕ) (run : Run) : Type 0 where
   pub kept : AreKept ticks sheet.high run.tasks.items
   pub idle_few : run.idle ≤ ticks
 
+-- what the task at a place put out, if anything
+abbrev pub placed : (place : ℕ) → Option ℕ → Option Output
+placed place value = option_map (λ v. record { place = place; value = v }) value
+
 -- what the task at a place puts out, if anything
 abbrev pub output_by : List High → List Course → ℕ → Option Output
 output_by tasks courses place =
-    option_map (λ value. record { place = place; value = value }) (output_of (slice_index_or tasks place no_task).script (slice_index_or courses place no_course).at)
+    placed place (output_of (slice_index_or tasks place no_task).script (slice_index_or courses place no_course).at)
 
 -- what the tick puts out that goes to the task at a place, or to nobody
 abbrev pub output_in : List High → List Course → Option ℕ → Option Output

@@ -20,6 +20,20 @@ pub struct Output {
     pub value: u64,
 }
 
+impl Output {
+    ghost use Rattle.hk_top.specs.Progress.{placed};
+
+    /// What the task at a place put out, if anything.
+    fn of(place: usize, value: Option<u64>) -> Option<Output>
+        ensures { result ≡ placed place value }
+    {
+        match value {
+            Some(value) => Some(Output { place, value }),
+            None => None,
+        }
+    }
+}
+
 /// Where a high task stands between two ticks.
 #[derive(Clone, Copy, Debug)]
 pub struct TaskRun {
@@ -180,8 +194,8 @@ impl Run {
             return None;
         };
         let task = &high_tasks(sheet)[place];
-        let value = self.tasks[place].tick(task, tick)?;
-        Some(Output { place, value })
+        let value = self.tasks[place].tick(task, tick);
+        Output::of(place, value)
     }
 }
 

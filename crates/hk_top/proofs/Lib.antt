@@ -1,3 +1,4 @@
 pub mod Needs
 pub mod Places
 pub mod AtLemmas
+pub mod Written

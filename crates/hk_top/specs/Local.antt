@@ -1,5 +1,5 @@
 -- Scripts that work on variables alone.
-use Rattle.std.specs.Prelude.{◌≡◌, Bool, true, false, List}
+use Rattle.std.specs.Prelude.{◌≡◌, ◌≤◌, Bool, true, false, List, length}
 use Rattle.std.specs.List.{list_any, AllByRecursion}
 use Rattle.hk_script.specs.declared.statement.Statement.{Statement}
 use Rattle.hk_script.specs.declared.statement.Statement.TheVariants as statement
@@ -9,6 +9,9 @@ use Rattle.hk_script.specs.declared.walk.Need.{Need}
 use Rattle.hk_script.specs.declared.walk.Need.TheVariants as need
 use Rattle.hk_script.specs.Blocks.{IsScript}
 use Rattle.hk_sheet.specs.declared.sheet.High.{High}
+use Rattle.hk_sheet.specs.declared.sheet.Low.{Low}
+use Rattle.hk_sheet.specs.declared.sheet.Sheet.{Sheet}
+use Rattle.hk_sheet.specs.declared.sheet.TheConstants.{MAX_NAME, MAX_TICKS}
 
 -- a test asks the heap
 abbrev pub test_is_on_heap : Test → Bool
@@ -49,3 +52,16 @@ pub record IsOnVariables (task : High) : Type 0 where
 -- each task is such a one
 abbrev pub AreOnVariables : List High → Type 0
 AreOnVariables tasks = AllByRecursion IsOnVariables tasks
+
+-- the name of each task fits a line
+abbrev pub AreNamed : List High → Type 0
+AreNamed tasks = AllByRecursion (λ (task : High). length task.name ≤ MAX_NAME) tasks
+
+abbrev pub AreLowNamed : List Low → Type 0
+AreLowNamed tasks = AllByRecursion (λ (task : Low). length task.name ≤ MAX_NAME) tasks
+
+-- a sheet whose run is built
+pub record IsRunnable (sheet : Sheet) : Type 0 where
+  pub tasks : AreOnVariables sheet.high
+  pub names : AreNamed sheet.high
+  pub few : sheet.ticks ≤ MAX_TICKS

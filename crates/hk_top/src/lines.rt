@@ -1,0 +1,143 @@
+//! The lines of the report.
+ghost use Rattle.std.specs.Prelude.{◌≡◌, ◌+◌, ◌≤◌, length};
+ghost use Rattle.hk_io.specs.Line.{with_word, with_number, with_end};
+ghost use Rattle.hk_io.specs.declared.line.TheConstants.{LINE_ROOM};
+ghost use Rattle.hk_sheet.specs.declared.sheet.TheConstants.{MAX_NAME};
+ghost use Rattle.hk_top.specs.Text.{heap_line, high_line, low_line, out_line, done_line, cycles_line, end_line};
+
+use hk_io::Line;
+
+/// Adds a word to a line that has room for it and a space.
+fn add_word(line: &mut Line, bytes: &[u8])
+    requires { length line.old + 1 + length bytes.now ≤ LINE_ROOM }
+    ensures added { line.new ≡ with_word line.old bytes.now }
+    ensures room { length line.new ≤ length line.old + 1 + length bytes.now }
+{
+    line.word(bytes);
+}
+
+/// Adds a number to a line that has room for 20 digits and a space.
+fn add_number(line: &mut Line, value: u64)
+    requires { length line.old + 21 ≤ LINE_ROOM }
+    ensures added { line.new ≡ with_number line.old value }
+    ensures room { length line.new ≤ length line.old + 21 }
+{
+    line.number(value);
+}
+
+/// Ends a line that has room for the newline.
+fn end(line: &mut Line)
+    requires { length line.old + 1 ≤ LINE_ROOM }
+    ensures { line.new ≡ with_end line.old }
+{
+    line.end();
+}
+
+/// The analysis of the heap: the most events of a collector's cycle, the most of an attempt that a job can spoil, the
+/// length of the busy period in ticks, and the most events that the collector is behind.
+#[tactic(auto, unfolding(crate::specs::Text::heap_line))]
+pub fn heap_line(work: u64, attempt: u64, busy: u64, debt: u64) -> Line
+    ensures { result ≡ heap_line work attempt busy debt }
+{
+    let mut line = Line::new();
+    add_word(&mut line, b"heap work");
+    add_number(&mut line, work);
+    add_word(&mut line, b"attempt");
+    add_number(&mut line, attempt);
+    add_word(&mut line, b"busy");
+    add_number(&mut line, busy);
+    add_word(&mut line, b"debt");
+    add_number(&mut line, debt);
+    end(&mut line);
+    line
+}
+
+/// A high task's response time and deadline, in ticks.
+#[tactic(auto, unfolding(crate::specs::Text::high_line))]
+pub fn high_line(name: &[u8], response: u64, deadline: u64) -> Line
+    requires { length name.now ≤ MAX_NAME }
+    ensures { result ≡ high_line name.now response deadline }
+{
+    let mut line = Line::new();
+    add_word(&mut line, b"high");
+    add_word(&mut line, name);
+    add_word(&mut line, b"response");
+    add_number(&mut line, response);
+    add_word(&mut line, b"deadline");
+    add_number(&mut line, deadline);
+    end(&mut line);
+    line
+}
+
+/// A low task.
+#[tactic(auto, unfolding(crate::specs::Text::low_line))]
+pub fn low_line(name: &[u8]) -> Line
+    requires { length name.now ≤ MAX_NAME }
+    ensures { result ≡ low_line name.now }
+{
+    let mut line = Line::new();
+    add_word(&mut line, b"low");
+    add_word(&mut line, name);
+    end(&mut line);
+    line
+}
+
+/// What a task put out at a tick.
+#[tactic(auto, unfolding(crate::specs::Text::out_line))]
+pub fn out_line(tick: u64, name: &[u8], value: u64) -> Line
+    requires { length name.now ≤ MAX_NAME }
+    ensures { result ≡ out_line tick name.now value }
+{
+    let mut line = Line::new();
+    add_word(&mut line, b"out");
+    add_number(&mut line, tick);
+    add_word(&mut line, name);
+    add_number(&mut line, value);
+    end(&mut line);
+    line
+}
+
+/// How many of a task's jobs ended, and the most ticks that one of them took from its arrival.
+#[tactic(auto, unfolding(crate::specs::Text::done_line))]
+pub fn done_line(name: &[u8], jobs: u64, latest: u64) -> Line
+    requires { length name.now ≤ MAX_NAME }
+    ensures { result ≡ done_line name.now jobs latest }
+{
+    let mut line = Line::new();
+    add_word(&mut line, b"done");
+    add_word(&mut line, name);
+    add_word(&mut line, b"jobs");
+    add_number(&mut line, jobs);
+    add_word(&mut line, b"latest");
+    add_number(&mut line, latest);
+    end(&mut line);
+    line
+}
+
+/// The collector's cycles that began, the ticks that it had, and the ticks that went to nobody.
+#[tactic(auto, unfolding(crate::specs::Text::cycles_line))]
+pub fn cycles_line(cycles: u64, collector: u64, idle: u64) -> Line
+    ensures { result ≡ cycles_line cycles collector idle }
+{
+    let mut line = Line::new();
+    add_word(&mut line, b"cycles");
+    add_number(&mut line, cycles);
+    add_word(&mut line, b"collector");
+    add_number(&mut line, collector);
+    add_word(&mut line, b"idle");
+    add_number(&mut line, idle);
+    end(&mut line);
+    line
+}
+
+/// The ticks of the run.
+#[tactic(auto, unfolding(crate::specs::Text::end_line))]
+pub fn end_line(ticks: u64) -> Line
+    ensures { result ≡ end_line ticks }
+{
+    let mut line = Line::new();
+    add_word(&mut line, b"end");
+    add_number(&mut line, ticks);
+    end(&mut line);
+    line
+}

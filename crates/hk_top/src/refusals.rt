@@ -1,0 +1,182 @@
+//! The lines for what is refused. A key can be of any length, so that they are written word by word.
+ghost use Rattle.std.specs.Prelude.{◌≡◌, ◌≤◌, map, decimal, OnOk, OnErr};
+ghost use Rattle.std.specs.Io.KnownBytes.{Appends};
+ghost use Rattle.hk_io.specs.Bytes.{AppendsPrefix};
+ghost use Rattle.hk_io.specs.Faults.{HasCause};
+ghost use Rattle.hk_top.specs.Text.{line};
+ghost use Rattle.hk_top.specs.Refusals.{geometry_word, need_word, script_line, need_line, have_line, sheet_line, refused_line};
+ghost use Rattle.hk_top.specs.Words.{shown};
+
+use hk_admit::Refused;
+use hk_io::{Failed, Line, Sink, put_all};
+use hk_script::ScriptError;
+use hk_sheet::SheetError;
+use hk_words::GeoError;
+
+/// Writes a line of these words, parted by single spaces.
+pub fn put_line<K: Sink>(sink: &mut K, words: &[&[u8]]) -> Result<(), Failed>
+    ensures ok { OnOk result (Appends (K.taken sink.old) (K.taken sink.new) (line (shown words.now))) }
+    ensures prefix { OnErr result (AppendsPrefix (K.taken sink.old) (K.taken sink.new) (line (shown words.now))) }
+    ensures cause { HasCause (K.faults sink.old) (K.faults sink.new) result }
+{
+    let mut begun = false;
+    for word in words {
+        if begun {
+            put_all(sink, b" ")?;
+        }
+        put_all(sink, word)?;
+        begun = begun || !word.is_empty();
+    }
+    put_all(sink, b"\n")
+}
+
+/// The digits of a number.
+fn digits(value: u64) -> Line
+    ensures { result ≡ decimal value }
+{
+    let mut line = Line::new();
+    line.number(value);
+    line
+}
+
+/// What is wrong with a geometry.
+fn geometry_word(error: GeoError) -> &'static str
+    ensures { result.now ≡ geometry_word error }
+{
+    match error {
+        GeoError::Odd => "odd",
+        GeoError::Small => "small",
+        GeoError::Large => "large",
+        GeoError::Reserve => "reserve",
+        GeoError::Tasks => "tasks",
+        GeoError::Board => "board",
+    }
+}
+
+/// Writes why bytes are no sheet.
+pub fn put_sheet_error<K: Sink>(sink: &mut K, error: &SheetError) -> Result<(), Failed>
+    ensures ok { OnOk result (Appends (K.taken sink.old) (K.taken sink.new) (sheet_line error.now)) }
+    ensures prefix { OnErr result (AppendsPrefix (K.taken sink.old) (K.taken sink.new) (sheet_line error.now)) }
+    ensures cause { HasCause (K.faults sink.old) (K.faults sink.new) result }
+{
+    match error {
+        SheetError::Text => put_line(sink, &[b"sheet", b"text"]),
+        SheetError::Missing(key) => put_line(sink, &[b"sheet", b"missing", &key.items]),
+        SheetError::Unknown(key) => put_line(sink, &[b"sheet", b"unknown", &key.items]),
+        SheetError::Kind(key) => put_line(sink, &[b"sheet", b"kind", &key.items]),
+        SheetError::Range(key) => put_line(sink, &[b"sheet", b"range", &key.items]),
+        SheetError::Name(index) => {
+            put_line(sink, &[b"sheet", b"name", digits(*index).bytes()])
+        }
+        SheetError::Arrivals {
+            task,
+            place,
+            earlier,
+            later,
+        } => put_line(
+            sink,
+            &[
+                b"sheet",
+                b"arrivals",
+                &task.items,
+                digits(*place).bytes(),
+                digits(*earlier).bytes(),
+                digits(*later).bytes(),
+            ],
+        ),
+        SheetError::Script(task, error) => put_script_error(sink, &task.items, *error),
+        SheetError::Geometry(error) => {
+            put_line(sink, &[b"sheet", b"geometry", geometry_word(*error).as_bytes()])
+        }
+        SheetError::Memory => put_line(sink, &[b"sheet"]),
+    }
+}
+
+/// Writes why a task's script is none.
+fn put_script_error<K: Sink>(sink: &mut K, task: &[u8], error: ScriptError) -> Result<(), Failed>
+    ensures ok { OnOk result (Appends (K.taken sink.old) (K.taken sink.new) (script_line task.now error)) }
+    ensures prefix { OnErr result (AppendsPrefix (K.taken sink.old) (K.taken sink.new) (script_line task.now error)) }
+    ensures cause { HasCause (K.faults sink.old) (K.faults sink.new) result }
+{
+    let (what, line) = match error {
+        ScriptError::Word(line) => ("word", line),
+        ScriptError::Number(line) => ("number", line),
+        ScriptError::Register(line) => ("register", line),
+        ScriptError::Variable(line) => ("variable", line),
+        ScriptError::Shape(line) => ("shape", line),
+        ScriptError::Block(line) => ("block", line),
+        ScriptError::Deep(line) => ("deep", line),
+        ScriptError::Long => return put_line(sink, &[b"sheet", b"script", task, b"long"]),
+        ScriptError::Empty => return put_line(sink, &[b"sheet", b"script", task, b"empty"]),
+        ScriptError::Memory => return put_line(sink, &[b"sheet", b"script", task]),
+    };
+    let number = digits(u64::from(line));
+    put_line(sink, &[b"sheet", b"script", task, what.as_bytes(), number.bytes()])
+}
+
+/// Writes why a sheet isn't admitted.
+pub fn put_refused<K: Sink>(sink: &mut K, refused: &Refused) -> Result<(), Failed>
+    ensures ok { OnOk result (Appends (K.taken sink.old) (K.taken sink.new) (refused_line refused.now)) }
+    ensures prefix { OnErr result (AppendsPrefix (K.taken sink.old) (K.taken sink.new) (refused_line refused.now)) }
+    ensures cause { HasCause (K.faults sink.old) (K.faults sink.new) result }
+{
+    match refused {
+        Refused::Cost {
+            task,
+            need,
+            declared,
+        } => put_need(sink, b"cost", &task.items, *need, *declared),
+        Refused::Words {
+            task,
+            need,
+            declared,
+        } => put_need(sink, b"words", &task.items, *need, *declared),
+        Refused::Response(task) => put_line(sink, &[b"refused", b"response", &task.items]),
+        Refused::Busy => put_line(sink, &[b"refused", b"busy"]),
+        Refused::Rate { have, need } => put_have(sink, b"rate have", *have, *need),
+        Refused::Reserve { have, need } => put_have(sink, b"reserve have", *have, *need),
+        Refused::Memory => put_line(sink, &[b"refused"]),
+    }
+}
+
+/// Writes that a task needs more than it declares.
+fn put_need<K: Sink>(
+    sink: &mut K,
+    what: &[u8],
+    task: &[u8],
+    need: Option<u64>,
+    declared: u64,
+) -> Result<(), Failed>
+    ensures ok { OnOk result (Appends (K.taken sink.old) (K.taken sink.new) (need_line what.now task.now need declared)) }
+    ensures prefix { OnErr result (AppendsPrefix (K.taken sink.old) (K.taken sink.new) (need_line what.now task.now need declared)) }
+    ensures cause { HasCause (K.faults sink.old) (K.faults sink.new) result }
+{
+    let need = need_word(need);
+    let declared = digits(declared);
+    put_line(sink, &[b"refused", what, task, b"need", need.bytes(), b"declared", declared.bytes()])
+}
+
+/// A number that may be too large to be told.
+fn need_word(need: Option<u64>) -> Line
+    ensures { result ≡ need_word need }
+{
+    match need {
+        Some(need) => digits(need),
+        None => {
+            let mut line = Line::new();
+            line.word(b"over");
+            line
+        }
+    }
+}
+
+/// Writes that the heap has fewer of something than it needs.
+fn put_have<K: Sink>(sink: &mut K, what: &[u8], have: u64, need: u64) -> Result<(), Failed>
+    ensures ok { OnOk result (Appends (K.taken sink.old) (K.taken sink.new) (have_line what.now have need)) }
+    ensures prefix { OnErr result (AppendsPrefix (K.taken sink.old) (K.taken sink.new) (have_line what.now have need)) }
+    ensures cause { HasCause (K.faults sink.old) (K.faults sink.new) result }
+{
+    let have = digits(have);
+    let need = digits(need);
+    put_line(sink, &[b"refused", what, have.bytes(), b"need", need.bytes()])
+}

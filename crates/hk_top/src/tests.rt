@@ -432,7 +432,7 @@ const RUNS: &[(u64, u64, u64, u64, u64, u64, &str, &str)] = &[
         7,
         0,
         10,
-        "set v0 3\nrepeat 2\nadd v0 v0\nend\nout v0",
+        "set v0 3\\nrepeat 2\\nadd v0 v0\\nend\\nout v0",
         "busy 7 debt 0\nhigh a response 7 deadline 10\nout 6 a 12\nout 16 a 12\ndone a jobs 2 latest 7\ncycles 0 collector 0 idle 6\nend 20\n",
     ),
     (
@@ -442,7 +442,7 @@ const RUNS: &[(u64, u64, u64, u64, u64, u64, &str, &str)] = &[
         2,
         0,
         2,
-        "job v3\nout v3",
+        "job v3\\nout v3",
         "busy 2 debt 0\nhigh a response 2 deadline 2\nout 1 a 0\nout 3 a 1\nout 5 a 2\ndone a jobs 3 latest 2\ncycles 0 collector 0 idle 0\nend 6\n",
     ),
     // A job that takes the shorter way ends before its cost.
@@ -453,7 +453,7 @@ const RUNS: &[(u64, u64, u64, u64, u64, u64, &str, &str)] = &[
         6,
         0,
         10,
-        "job v0\nif v0 < v1\nwork 4\nelse\nwork 1\nend",
+        "job v0\\nif v0 < v1\\nwork 4\\nelse\\nwork 1\\nend",
         "busy 6 debt 0\nhigh a response 6 deadline 10\ndone a jobs 2 latest 3\ncycles 0 collector 0 idle 14\nend 20\n",
     ),
 ];

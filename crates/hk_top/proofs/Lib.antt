@@ -2,3 +2,5 @@ pub mod Needs
 pub mod Places
 pub mod AtLemmas
 pub mod Written
+pub mod Parts
+pub mod WordLemmas

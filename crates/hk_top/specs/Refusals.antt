@@ -44,6 +44,9 @@ script_words script.Long = codes "long" ∷ []
 script_words script.Empty = codes "empty" ∷ []
 script_words script.Memory = []
 
+abbrev pub fault_line : (task what : List ℕ) → (number : ℕ) → List ℕ
+fault_line task what number = line (codes "sheet" ∷ codes "script" ∷ task ∷ what ∷ decimal number ∷ [])
+
 abbrev pub script_line : (task : List ℕ) → ScriptError → List ℕ
 script_line task error = line (codes "sheet" ∷ codes "script" ∷ task ∷ script_words error)
 

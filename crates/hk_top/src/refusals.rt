@@ -4,14 +4,29 @@ ghost use Rattle.std.specs.Io.KnownBytes.{Appends};
 ghost use Rattle.hk_io.specs.Bytes.{AppendsPrefix};
 ghost use Rattle.hk_io.specs.Faults.{HasCause};
 ghost use Rattle.hk_top.specs.Text.{line};
-ghost use Rattle.hk_top.specs.Refusals.{geometry_word, need_word, script_line, need_line, have_line, sheet_line, refused_line};
-ghost use Rattle.hk_top.specs.Words.{shown};
+ghost use Rattle.hk_top.specs.Refusals.{geometry_word, need_word, fault_line, script_line, need_line, have_line, sheet_line, refused_line};
+ghost use Rattle.hk_top.specs.Words.{shown, added};
 
+use crate::lines::add_number;
 use hk_admit::Refused;
 use hk_io::{Failed, Line, Sink, put_all};
 use hk_script::ScriptError;
 use hk_sheet::SheetError;
 use hk_words::GeoError;
+
+/// Writes a word of a line, behind a space where the line has begun.
+fn put_word<K: Sink>(sink: &mut K, begun: bool, word: &[u8]) -> Result<(), Failed>
+    ensures ok { OnOk result (Appends (K.taken sink.old) (K.taken sink.new) (added begun word.now)) }
+    ensures prefix { OnErr result (AppendsPrefix (K.taken sink.old) (K.taken sink.new) (added begun word.now)) }
+    ensures cause { HasCause (K.faults sink.old) (K.faults sink.new) result }
+{
+    if begun {
+        put_all(sink, b" ")?;
+        put_all(sink, word)
+    } else {
+        put_all(sink, word)
+    }
+}
 
 /// Writes a line of these words, parted by single spaces.
 pub fn put_line<K: Sink>(sink: &mut K, words: &[&[u8]]) -> Result<(), Failed>
@@ -21,10 +36,7 @@ pub fn put_line<K: Sink>(sink: &mut K, words: &[&[u8]]) -> Result<(), Failed>
 {
     let mut begun = false;
     for word in words {
-        if begun {
-            put_all(sink, b" ")?;
-        }
-        put_all(sink, word)?;
+        put_word(sink, begun, word)?;
         begun = begun || !word.is_empty();
     }
     put_all(sink, b"\n")
@@ -35,7 +47,7 @@ fn digits(value: u64) -> Line
     ensures { result ≡ decimal value }
 {
     let mut line = Line::new();
-    line.number(value);
+    add_number(&mut line, value);
     line
 }
 
@@ -98,20 +110,28 @@ fn put_script_error<K: Sink>(sink: &mut K, task: &[u8], error: ScriptError) -> R
     ensures prefix { OnErr result (AppendsPrefix (K.taken sink.old) (K.taken sink.new) (script_line task.now error)) }
     ensures cause { HasCause (K.faults sink.old) (K.faults sink.new) result }
 {
-    let (what, line) = match error {
-        ScriptError::Word(line) => ("word", line),
-        ScriptError::Number(line) => ("number", line),
-        ScriptError::Register(line) => ("register", line),
-        ScriptError::Variable(line) => ("variable", line),
-        ScriptError::Shape(line) => ("shape", line),
-        ScriptError::Block(line) => ("block", line),
-        ScriptError::Deep(line) => ("deep", line),
-        ScriptError::Long => return put_line(sink, &[b"sheet", b"script", task, b"long"]),
-        ScriptError::Empty => return put_line(sink, &[b"sheet", b"script", task, b"empty"]),
-        ScriptError::Memory => return put_line(sink, &[b"sheet", b"script", task]),
-    };
+    match error {
+        ScriptError::Word(line) => put_fault(sink, task, b"word", line),
+        ScriptError::Number(line) => put_fault(sink, task, b"number", line),
+        ScriptError::Register(line) => put_fault(sink, task, b"register", line),
+        ScriptError::Variable(line) => put_fault(sink, task, b"variable", line),
+        ScriptError::Shape(line) => put_fault(sink, task, b"shape", line),
+        ScriptError::Block(line) => put_fault(sink, task, b"block", line),
+        ScriptError::Deep(line) => put_fault(sink, task, b"deep", line),
+        ScriptError::Long => put_line(sink, &[b"sheet", b"script", task, b"long"]),
+        ScriptError::Empty => put_line(sink, &[b"sheet", b"script", task, b"empty"]),
+        ScriptError::Memory => put_line(sink, &[b"sheet", b"script", task]),
+    }
+}
+
+/// Writes what is wrong with a line of a task's script.
+fn put_fault<K: Sink>(sink: &mut K, task: &[u8], what: &[u8], line: u32) -> Result<(), Failed>
+    ensures ok { OnOk result (Appends (K.taken sink.old) (K.taken sink.new) (fault_line task.now what.now line)) }
+    ensures prefix { OnErr result (AppendsPrefix (K.taken sink.old) (K.taken sink.new) (fault_line task.now what.now line)) }
+    ensures cause { HasCause (K.faults sink.old) (K.faults sink.new) result }
+{
     let number = digits(u64::from(line));
-    put_line(sink, &[b"sheet", b"script", task, what.as_bytes(), number.bytes()])
+    put_line(sink, &[b"sheet", b"script", task, what, number.bytes()])
 }
 
 /// Writes why a sheet isn't admitted.

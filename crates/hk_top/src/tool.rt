@@ -13,7 +13,7 @@ use crate::run::{Run, high_tasks};
 use hk_admit::{Admitted, Refused, admit};
 use hk_io::{Failed, Sink, Source, Status, TakeFault, take_all};
 use hk_script::{Script, Statement, Test};
-use hk_sheet::{Sheet, SheetError, read};
+use hk_sheet::{High, Sheet, SheetError, read};
 use std::alloc::{AllocError, Global};
 
 /// Whether the words are the one word `run`.
@@ -60,12 +60,22 @@ fn uses_heap(script: &Script) -> bool
     script.statements().iter().any(is_on_heap)
 }
 
+/// Whether a statement of a task's script is one on the heap.
+fn task_uses_heap(task: &High) -> bool
+    ensures { result ≡ uses_heap task.now.script }
+{
+    uses_heap(&task.script)
+}
+
 /// Whether the run of a sheet isn't built yet: it has a low task, or a statement on the heap.
 fn is_unbuilt(sheet: &Sheet) -> bool
     ensures { result ≡ is_unbuilt sheet.now }
 {
     let low = &sheet.low;
-    !low.items.is_empty() || high_tasks(sheet).iter().any(|task| uses_heap(&task.script))
+    if !low.items.is_empty() {
+        return true;
+    }
+    high_tasks(sheet).iter().any(task_uses_heap)
 }
 
 /// Runs an admitted sheet, and writes its report.

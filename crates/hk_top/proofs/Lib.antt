@@ -6,3 +6,6 @@ pub mod Parts
 pub mod WordLemmas
 pub mod ReportLemmas
 pub mod TickLemmas
+pub mod Three
+pub mod SheetLemmas
+pub mod ReportParts

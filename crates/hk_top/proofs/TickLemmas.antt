@@ -66,12 +66,12 @@ name_same (h ∷ hs) (suc place) d e within = name_same hs place d e (omega (ari
 
 -- the line that was made is the tick's text, and nothing is where nothing was put out
 pub tick_text_some : (sheet : Sheet) (tick : ℕ) (run : Run) (o : Output) (tasks : List High) (h : High) (name text : List ℕ) → IsAt sheet tick run
-    → tasks ≡ sheet.high → Some o ≡ output_at sheet tick → o.place < length sheet.high → h ≡ get_or tasks o.place h → name ≡ h.name → text ≡ out_line tick name o.value
+    → tasks ≡ sheet.high → Some o ≡ output_at sheet tick → o.place < length sheet.high → name ≡ (get_or tasks o.place h).name → text ≡ out_line tick name o.value
     → text ≡ tick_text sheet tick
 unfolding text_of
-tick_text_some sheet tick run o tasks h name text at same put within is_h is_name is =
+tick_text_some sheet tick run o tasks h name text at same put within is_name is =
     is
-    ∙ ap (λ n. out_line tick n o.value) (is_name ∙ ap (λ (t : High). t.name) (is_h ∙ ap (λ ts. get_or ts o.place h) same) ∙ name_same sheet.high o.place h no_task within)
+    ∙ ap (λ n. out_line tick n o.value) (is_name ∙ ap (λ ts. (get_or ts o.place h).name) same ∙ name_same sheet.high o.place h no_task within)
     ∙ ap (text_of sheet.high tick) put
     ∙ sym (tick_text_is sheet tick run at)
 

@@ -14,7 +14,7 @@ returns-in_err-push-clause-prefix g c =
     let tick = c.loop-tick.tick in
     let text = c.bytes.result.now in
     let is = tick_text_some sheet tick c.loop-tick.run c.in-Some.output c.high_tasks-tasks.result.now c.index-tasks-output.result c.bytes_of-name.result.now text
-    c.loop-tick.invariant.at c.high_tasks-tasks.ensures c.in-Some.ensures.output c.in-Some.ensures.within c.index-tasks-output.is c.bytes_of-name.ensures
+    c.loop-tick.invariant.at c.high_tasks-tasks.ensures c.in-Some.ensures.output c.in-Some.ensures.within c.bytes_of-name.ensures
     (c.bytes.ensures.value ∙ c.out_line.ensures) in
     let p = err_from_is_err_and c.from_residual.result c.from_residual.ensures.1 in
     rw p.1 (more_prefix (tick_text sheet) (range_with_len 0 sheet.ticks) _ _ _ c.args.gather.now c.loop-tick.gather text tick 0
@@ -34,7 +34,7 @@ loop-tick-preserved g c =
         | in-Some+in_ok-push w ↦
             let text = w.bytes.result.now in
             let is = tick_text_some sheet tick c.loop-tick.run w.in-Some.output c.high_tasks-tasks.result.now w.index-tasks-output.result w.bytes_of-name.result.now text
-            inv.at c.high_tasks-tasks.ensures w.in-Some.ensures.output w.in-Some.ensures.within w.index-tasks-output.is w.bytes_of-name.ensures
+            inv.at c.high_tasks-tasks.ensures w.in-Some.ensures.output w.in-Some.ensures.within w.bytes_of-name.ensures
             (w.bytes.ensures.value ∙ w.out_line.ensures) in
             rw (w.gather-is, w.sink-is)
             (more_front (tick_text sheet) (range_with_len 0 sheet.ticks) _ _ _ c.args.gather.now c.loop-tick.gather text tick 0

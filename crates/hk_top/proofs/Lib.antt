@@ -9,3 +9,4 @@ pub mod TickLemmas
 pub mod Three
 pub mod SheetLemmas
 pub mod ReportParts
+pub mod ToolLemmas

@@ -1,15 +1,16 @@
 -- Words of a line that are written one behind another.
-use Rattle.std.proofs.Common.{◌≡◌, ℕ, zero, suc, ◌+◌, ◌<◌, ◌≤◌, Bool, true, false, ◌||◌, List, [], ◌∷◌, ◌++◌, length, take, drop, get_or, map, fold, Option, refl, sym, ap, ◌∙◌, subst, arith, append_assoc, append-nil, take-append-drop}
+use Rattle.std.proofs.Common.{◌≡◌, ℕ, zero, suc, ◌+◌, ◌<◌, ◌≤◌, Bool, true, false, ◌||◌, List, [], ◌∷◌, ◌++◌, length, take, drop, get_or, map, fold, Option, Result, OnOk, OnErr, refl, sym, ap, ◌∙◌, subst, arith, append_assoc, append-nil, take-append-drop}
 use Rattle.std.proofs.Math.Seq.{take-suc}
 use Rattle.std.proofs.lemmas.List.{take_all, drop_more, map-append}
 use Rattle.std.proofs.KnownBytes.{Appends-nil, Appends-trans}
 use Rattle.std.specs.Io.KnownBytes.{Appends}
 use denote.Ref.{Bor}
 use Rattle.hk_io.specs.Bytes.{AppendsPrefix, AppendsFront}
+use Rattle.hk_io.specs.Faults.{HasCause}
 use Rattle.hk_io.specs.Line.{with_word, with_end}
 use Rattle.hk_io.proofs.BytesLemmas.{AppendsFront-behind, AppendsPrefix-behind, AppendsPrefix-append}
 use Rattle.hk_top.specs.Text.{line}
-use Rattle.hk_top.specs.Words.{shown, added}
+use Rattle.hk_top.specs.Words.{shown, added, Puts}
 
 -- first bytes were taken, and then some of more
 pub prefix_after : (a b c : Option (List ℕ)) (first second : List ℕ) → Appends a b first → AppendsPrefix b c second → AppendsPrefix a c (first ++ second)
@@ -104,3 +105,11 @@ line_last words n all = ap (λ ws. fold with_word [] (shown ws) ++ 10 ∷ []) (t
 pub last_prefix : (a b c : Option (List ℕ)) (words : List (Bor (List ℕ))) (n : ℕ) → length words ≤ n → Appends a b (first_words words n) → AppendsPrefix b c (10 ∷ [])
     → AppendsPrefix a c (line (shown words))
 last_prefix a b c words n all whole part = subst (AppendsPrefix a c) (line_last words n all) (prefix_after a b c (first_words words n) (10 ∷ []) whole part)
+
+-- the same, of an equal text
+module _ {T E : Type 0} (a b : Option (List ℕ)) (f g : ℕ) (r : Result T E) (t u : List ℕ) (same : t ≡ u) where
+  pub puts_as : Puts a b f g t r → Puts a b f g u r
+  puts_as p = subst (λ x. Puts a b f g x r) same p
+
+  pub put_as : OnOk r (Appends a b t) → OnErr r (AppendsPrefix a b t) → HasCause f g r → Puts a b f g u r
+  put_as ok prefix cause = subst (λ x. Puts a b f g x r) same (record { ok = ok; prefix = prefix; cause = cause })

@@ -5,7 +5,7 @@ ghost use Rattle.hk_io.specs.Bytes.{AppendsPrefix};
 ghost use Rattle.hk_io.specs.Faults.{HasCause};
 ghost use Rattle.hk_top.specs.Text.{line};
 ghost use Rattle.hk_top.specs.Refusals.{geometry_word, need_word, fault_line, script_line, need_line, have_line, sheet_line, refused_line};
-ghost use Rattle.hk_top.specs.Words.{shown, added};
+ghost use Rattle.hk_top.specs.Words.{shown, added, Puts};
 
 use crate::lines::add_number;
 use hk_admit::Refused;
@@ -67,9 +67,7 @@ fn geometry_word(error: GeoError) -> &'static str
 
 /// Writes why bytes are no sheet.
 pub fn put_sheet_error<K: Sink>(sink: &mut K, error: &SheetError) -> Result<(), Failed>
-    ensures ok { OnOk result (Appends (K.taken sink.old) (K.taken sink.new) (sheet_line error.now)) }
-    ensures prefix { OnErr result (AppendsPrefix (K.taken sink.old) (K.taken sink.new) (sheet_line error.now)) }
-    ensures cause { HasCause (K.faults sink.old) (K.faults sink.new) result }
+    ensures { Puts (K.taken sink.old) (K.taken sink.new) (K.faults sink.old) (K.faults sink.new) (sheet_line error.now) result }
 {
     match error {
         SheetError::Text => put_line(sink, &[b"sheet", b"text"]),
@@ -106,9 +104,7 @@ pub fn put_sheet_error<K: Sink>(sink: &mut K, error: &SheetError) -> Result<(), 
 
 /// Writes why a task's script is none.
 fn put_script_error<K: Sink>(sink: &mut K, task: &[u8], error: ScriptError) -> Result<(), Failed>
-    ensures ok { OnOk result (Appends (K.taken sink.old) (K.taken sink.new) (script_line task.now error)) }
-    ensures prefix { OnErr result (AppendsPrefix (K.taken sink.old) (K.taken sink.new) (script_line task.now error)) }
-    ensures cause { HasCause (K.faults sink.old) (K.faults sink.new) result }
+    ensures { Puts (K.taken sink.old) (K.taken sink.new) (K.faults sink.old) (K.faults sink.new) (script_line task.now error) result }
 {
     match error {
         ScriptError::Word(line) => put_fault(sink, task, b"word", line),
@@ -126,9 +122,7 @@ fn put_script_error<K: Sink>(sink: &mut K, task: &[u8], error: ScriptError) -> R
 
 /// Writes what is wrong with a line of a task's script.
 fn put_fault<K: Sink>(sink: &mut K, task: &[u8], what: &[u8], line: u32) -> Result<(), Failed>
-    ensures ok { OnOk result (Appends (K.taken sink.old) (K.taken sink.new) (fault_line task.now what.now line)) }
-    ensures prefix { OnErr result (AppendsPrefix (K.taken sink.old) (K.taken sink.new) (fault_line task.now what.now line)) }
-    ensures cause { HasCause (K.faults sink.old) (K.faults sink.new) result }
+    ensures { Puts (K.taken sink.old) (K.taken sink.new) (K.faults sink.old) (K.faults sink.new) (fault_line task.now what.now line) result }
 {
     let number = digits(u64::from(line));
     put_line(sink, &[b"sheet", b"script", task, what, number.bytes()])
@@ -136,9 +130,7 @@ fn put_fault<K: Sink>(sink: &mut K, task: &[u8], what: &[u8], line: u32) -> Resu
 
 /// Writes why a sheet isn't admitted.
 pub fn put_refused<K: Sink>(sink: &mut K, refused: &Refused) -> Result<(), Failed>
-    ensures ok { OnOk result (Appends (K.taken sink.old) (K.taken sink.new) (refused_line refused.now)) }
-    ensures prefix { OnErr result (AppendsPrefix (K.taken sink.old) (K.taken sink.new) (refused_line refused.now)) }
-    ensures cause { HasCause (K.faults sink.old) (K.faults sink.new) result }
+    ensures { Puts (K.taken sink.old) (K.taken sink.new) (K.faults sink.old) (K.faults sink.new) (refused_line refused.now) result }
 {
     match refused {
         Refused::Cost {
@@ -167,9 +159,7 @@ fn put_need<K: Sink>(
     need: Option<u64>,
     declared: u64,
 ) -> Result<(), Failed>
-    ensures ok { OnOk result (Appends (K.taken sink.old) (K.taken sink.new) (need_line what.now task.now need declared)) }
-    ensures prefix { OnErr result (AppendsPrefix (K.taken sink.old) (K.taken sink.new) (need_line what.now task.now need declared)) }
-    ensures cause { HasCause (K.faults sink.old) (K.faults sink.new) result }
+    ensures { Puts (K.taken sink.old) (K.taken sink.new) (K.faults sink.old) (K.faults sink.new) (need_line what.now task.now need declared) result }
 {
     let need = need_word(need);
     let declared = digits(declared);
@@ -192,9 +182,7 @@ fn need_word(need: Option<u64>) -> Line
 
 /// Writes that the heap has fewer of something than it needs.
 fn put_have<K: Sink>(sink: &mut K, what: &[u8], have: u64, need: u64) -> Result<(), Failed>
-    ensures ok { OnOk result (Appends (K.taken sink.old) (K.taken sink.new) (have_line what.now have need)) }
-    ensures prefix { OnErr result (AppendsPrefix (K.taken sink.old) (K.taken sink.new) (have_line what.now have need)) }
-    ensures cause { HasCause (K.faults sink.old) (K.faults sink.new) result }
+    ensures { Puts (K.taken sink.old) (K.taken sink.new) (K.faults sink.old) (K.faults sink.new) (have_line what.now have need) result }
 {
     let have = digits(have);
     let need = digits(need);

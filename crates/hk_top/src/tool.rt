@@ -4,6 +4,8 @@ ghost use Rattle.std.specs.Io.KnownBytes.{Appends, IsAtEnd};
 ghost use Rattle.hk_io.specs.Bytes.{AppendsPrefix};
 ghost use Rattle.hk_io.specs.Faults.{Rose};
 ghost use Rattle.hk_io.specs.declared.whole.TheConstants.{MAX_INPUT};
+ghost use Rattle.std.specs.List.{list_any};
+ghost use Rattle.hk_sheet.specs.declared.sheet.High.{High};
 ghost use Rattle.hk_top.specs.Local.{is_on_heap, uses_heap};
 ghost use Rattle.hk_top.specs.Tool.{IsRun, is_unbuilt, HasText, CallsFor, BytesCallFor, AdmittedCallsFor, Writes, WritesPrefix, EndsBy};
 
@@ -67,15 +69,19 @@ fn task_uses_heap(task: &High) -> bool
     uses_heap(&task.script)
 }
 
+/// Whether a statement of some task's script is one on the heap.
+fn some_uses_heap(tasks: &[High]) -> bool
+    ensures { result ≡ list_any (λ (task : High). uses_heap task.script) tasks.now }
+{
+    tasks.iter().any(task_uses_heap)
+}
+
 /// Whether the run of a sheet isn't built yet: it has a low task, or a statement on the heap.
 fn is_unbuilt(sheet: &Sheet) -> bool
     ensures { result ≡ is_unbuilt sheet.now }
 {
     let low = &sheet.low;
-    if !low.items.is_empty() {
-        return true;
-    }
-    high_tasks(sheet).iter().any(task_uses_heap)
+    !low.items.is_empty() || some_uses_heap(high_tasks(sheet))
 }
 
 /// Runs an admitted sheet, and writes its report.

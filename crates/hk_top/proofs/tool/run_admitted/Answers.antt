@@ -1,0 +1,3 @@
+-- What the parts answer is what is answered.
+use Rattle.hk_top.proofs.ToolLemmas.{ends_written}
+use Rattle.hk_top.proofs.tool.run_admitted.Goals as goal

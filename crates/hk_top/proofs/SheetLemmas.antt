@@ -21,7 +21,7 @@ and_last false b e = absurd (both_ways false refl e)
 short_name : (name : List ℕ) → is_name name ≡ true → length name ≤ MAX_NAME
 short_name [] is = omega arith
 short_name (first ∷ rest) is =
-    let last = and_last _ (nat_le (length (first ∷ rest)) MAX_NAME) (and_last _ _ is) in
+    let last : nat_le (length (first ∷ rest)) MAX_NAME ≡ true = and_last _ (nat_le (length (first ∷ rest)) MAX_NAME) (and_last _ _ is) in
     grind (arith, last)
 
 named : (ticks : ℕ) (tasks : List High) → AllByRecursion (IsHigh ticks) tasks → AreNamed tasks

@@ -33,6 +33,10 @@ abbrev IsWriteFault : Status → Type 0
 IsWriteFault status.WriteFault = Unit {0}
 IsWriteFault other = ⊥
 
+abbrev HasMemory : Status → Type 0
+HasMemory status.Memory = Unit {0}
+HasMemory other = ⊥
+
 module _ (Calls : Status → List ℕ → Type 0) (before after : Option (List ℕ)) (faults faults_after : ℕ) where
   -- a text that is called for was written, or a first part of it
   pub ends_written : (owed : Status) (text : List ℕ) (written : Result (Unit {0}) Failed) (result : Status) → HasText owed → Calls owed text
@@ -62,17 +66,13 @@ module _ (Calls : Status → List ℕ → Type 0) (before after : Option (List �
     no_read = λ r. subst HasMemory r tt;
     later = later;
   }
-    where
-      abbrev HasMemory : Status → Type 0
-      HasMemory status.Memory = Unit {0}
-      HasMemory other = ⊥
 
   -- what this calls for, that calls for too
   pub ends_as : (Others : Status → List ℕ → Type 0) (result : Status) → ((s : Status) (t : List ℕ) → Calls s t → Others s t)
       → EndsBy Calls before after faults faults_after result → EndsBy Others before after faults faults_after result
-  ends_as Others result as ends = record {
-    whole = λ h. let w = ends.whole h in (w.0, as result w.0 w.1, w.2);
-    prefix = λ e. let p = ends.prefix e in (p.0, p.1, as p.0 p.1 p.2, p.3);
+  ends_as Others result turns ends = record {
+    whole = λ h. let w = ends.whole h in (w.0, turns result w.0 w.1, w.2);
+    prefix = λ e. let p = ends.prefix e in (p.0, p.1, turns p.0 p.1 p.2, p.3);
     cause = ends.cause;
     no_read = ends.no_read;
     later = ends.later;
@@ -221,14 +221,6 @@ module _ (words : List (String Global)) (input before after : Option (List ℕ))
 
   pub writes_prefix : ended ≡ status.WriteFault → WritesPrefix words input before after
   writes_prefix e = let p = ends.prefix e in record { bytes = bytes; told = told; ended = p.0; text = p.1; called = p.2; written = p.3 }
-
-told_is : (input : Option (List ℕ)) (bytes left : List ℕ) → input ≡ Some left → IfSome input (λ l. bytes ≡ l) → bytes ≡ left
-told_is None bytes left e told = absurd (subst IsNone e tt)
-  where
-    abbrev IsNone : Option (List ℕ) → Type 0
-    IsNone None = Unit {0}
-    IsNone (Some x) = ⊥
-told_is (Some x) bytes left e told = told ∙ ap (λ o. unwrap_or o x) e
 
 -- where nothing fails, the end is the one that is called for
 pub complete : (words : List (String Global)) (input before after : Option (List ℕ)) (ended : Status) → (HasText ended → Writes words input before after ended)

@@ -19,6 +19,7 @@ use Rattle.hk_sheet.specs.Answers.{IsDocument, IsRead, Answers}
 use Rattle.hk_sheet.specs.Faults.{sheet_of}
 use Rattle.hk_admit.specs.declared.checked.Admitted.{Admitted}
 use Rattle.hk_admit.specs.declared.refused.Refused.{Refused}
+use Rattle.hk_admit.specs.declared.refused.Refused.TheVariants as refused
 use Rattle.hk_admit.specs.Refusals.{IsRefusal}
 use Rattle.hk_admit.proofs.Excluded.{admitted_excludes}
 use Rattle.hk_top.specs.Refusals.{usage_line, long_line, not_built_line, sheet_line, refused_line}
@@ -254,3 +255,22 @@ long_input (Some left) (Some rest) front =
 pub any_input : (input : Option (List ℕ)) → (bytes : List ℕ) × IfSome input (λ left. bytes ≡ left)
 any_input None = ([], tt)
 any_input (Some left) = (left, refl)
+
+-- why bytes are no sheet
+pub sheet_refused : (before after : Option (List ℕ)) (faults faults_after : ℕ) (bytes : List ℕ) (error : SheetError) (written : Result (Unit {0}) Failed) (result : Status)
+    → length bytes ≤ MAX_INPUT → Answers bytes (Err error) → error ≢ unread.Memory → Puts before after faults faults_after (sheet_line error) written
+    → MatchResult written (λ _. result ≡ status.Sheet) (λ _. result ≡ status.WriteFault) → EndsBy (BytesCallFor bytes) before after faults faults_after result
+sheet_refused before after faults faults_after bytes error written result short answers told puts is =
+    ends_written (BytesCallFor bytes) before after faults faults_after status.Sheet (sheet_line error) written result tt
+    (no_sheet error (record { short = short; told = told; answers = answers }) refl) puts is
+
+-- why a sheet isn't admitted
+pub admission_refused : (before after : Option (List ℕ)) (faults faults_after : ℕ) (bytes : List ℕ) (sheet : Sheet) (why : Refused) (written : Result (Unit {0}) Failed) (result : Status)
+    → IsSheetOf bytes sheet → IsRefusal sheet why → why ≢ refused.Memory → Puts before after faults faults_after (refused_line why) written
+    → MatchResult written (λ _. result ≡ status.NotAdmitted) (λ _. result ≡ status.WriteFault) → EndsBy (BytesCallFor bytes) before after faults faults_after result
+admission_refused before after faults faults_after bytes sheet why written result is refusal told puts ended =
+    ends_written (BytesCallFor bytes) before after faults faults_after status.NotAdmitted (refused_line why) written result tt
+    (record { sheet = sheet; is = is; why = why; told = told; refusal = refusal; text_is = refl }) puts ended
+
+pub read_sheet : (bytes : List ℕ) (sheet : Sheet) → length bytes ≤ MAX_INPUT → Answers bytes (Ok sheet) → IsSheetOf bytes sheet
+read_sheet bytes sheet short answers = record { short = short; read = answers }

@@ -1,13 +1,16 @@
 //! What the program does for its words.
-ghost use Rattle.std.specs.Prelude.{◌≡◌, ◌≢◌, ◌⊎◌, ◌↔◌, ℕ, ◌≤◌, List, length, IsTrue, IfSome, MatchResult};
+ghost use Rattle.std.specs.Prelude.{◌≡◌, ◌≢◌, ◌⊎◌, ◌↔◌, ℕ, ◌≤◌, List, length, Err, IsTrue, IfSome, MatchResult};
 ghost use Rattle.std.specs.Io.KnownBytes.{Appends, IsAtEnd};
 ghost use Rattle.hk_io.specs.Bytes.{AppendsPrefix};
 ghost use Rattle.hk_io.specs.Faults.{Rose};
 ghost use Rattle.hk_io.specs.declared.whole.TheConstants.{MAX_INPUT};
 ghost use Rattle.std.specs.List.{list_any};
+ghost use Rattle.hk_admit.specs.Refusals.{IsRefusal};
+ghost use Rattle.hk_sheet.specs.Answers.{Answers};
 ghost use Rattle.hk_sheet.specs.declared.sheet.High.{High};
+ghost use Rattle.hk_sheet.specs.declared.sheet.Sheet.{Sheet};
 ghost use Rattle.hk_top.specs.Local.{is_on_heap, uses_heap};
-ghost use Rattle.hk_top.specs.Tool.{IsRun, is_unbuilt, HasText, CallsFor, BytesCallFor, AdmittedCallsFor, Writes, WritesPrefix, EndsBy};
+ghost use Rattle.hk_top.specs.Tool.{IsRun, is_unbuilt, IsSheetOf, HasText, CallsFor, BytesCallFor, AdmittedCallsFor, Writes, WritesPrefix, EndsBy};
 
 use crate::refusals::{put_line, put_refused, put_sheet_error};
 use crate::report::write_report;
@@ -99,6 +102,30 @@ fn run_admitted<K: Sink>(alloc: Global, admitted: &Admitted, sink: &mut K) -> St
     }
 }
 
+/// Ends the program for bytes that are no sheet.
+fn refuse_sheet<K: Sink>(error: &SheetError, sink: &mut K) -> Status
+    ensures ends { (bytes : List ℕ) → length bytes ≤ MAX_INPUT → Answers bytes (Err error.now)
+        → EndsBy (BytesCallFor bytes) (K.taken sink.old) (K.taken sink.new) (K.faults sink.old) (K.faults sink.new) result }
+    ensures memory { result ≡ Status.Memory → sink.new ≡ sink.old }
+{
+    match error {
+        SheetError::Memory => Status::Memory,
+        _ => ended(Status::Sheet, put_sheet_error(sink, error)),
+    }
+}
+
+/// Ends the program for a sheet that isn't admitted.
+fn refuse_admission<K: Sink>(refused: &Refused, sink: &mut K) -> Status
+    ensures ends { (bytes : List ℕ) (sheet : Sheet) → IsSheetOf bytes sheet → IsRefusal sheet refused.now
+        → EndsBy (BytesCallFor bytes) (K.taken sink.old) (K.taken sink.new) (K.faults sink.old) (K.faults sink.new) result }
+    ensures memory { result ≡ Status.Memory → sink.new ≡ sink.old }
+{
+    match refused {
+        Refused::Memory => Status::Memory,
+        _ => ended(Status::NotAdmitted, put_refused(sink, refused)),
+    }
+}
+
 /// Runs the sheet that an input is, and writes its report.
 fn run_bytes<K: Sink>(alloc: Global, bytes: &[u8], sink: &mut K) -> Status
     requires { length bytes.now ≤ MAX_INPUT }
@@ -107,13 +134,11 @@ fn run_bytes<K: Sink>(alloc: Global, bytes: &[u8], sink: &mut K) -> Status
 {
     let sheet = match read(alloc, bytes) {
         Ok(sheet) => sheet,
-        Err(SheetError::Memory) => return Status::Memory,
-        Err(error) => return ended(Status::Sheet, put_sheet_error(sink, &error)),
+        Err(error) => return refuse_sheet(&error, sink),
     };
     match admit(alloc, sheet) {
         Ok(admitted) => run_admitted(alloc, &admitted, sink),
-        Err(Refused::Memory) => Status::Memory,
-        Err(refused) => ended(Status::NotAdmitted, put_refused(sink, &refused)),
+        Err(refused) => refuse_admission(&refused, sink),
     }
 }
 

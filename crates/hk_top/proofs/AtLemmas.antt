@@ -1,13 +1,12 @@
 -- Where a run stands after one tick more.
-use Rattle.std.proofs.Common.{◌≡◌, ℕ, zero, suc, ◌+◌, ◌<◌, ◌≤◌, List, [], ◌∷◌, ◌++◌, length, map, take, get_or, set, Option, Some, None, option_map, refl, sym, subst, ap, ◌∙◌, arith}
+use Rattle.std.proofs.Common.{◌≡◌, ℕ, zero, suc, ◌+◌, ◌<◌, ◌≤◌, List, [], ◌∷◌, ◌++◌, length, map, take, get_or, set, Option, Some, None, refl, sym, subst, ap, ◌∙◌, arith}
 use Rattle.std.proofs.Math.Seq.{take-suc}
 use Rattle.std.proofs.lemmas.List.{map-append, take_all}
 use Rattle.hk_sheet.specs.declared.sheet.High.{High}
 use Rattle.hk_sheet.specs.declared.sheet.Sheet.{Sheet}
-use Rattle.hk_top.specs.declared.run.Output.{Output}
 use Rattle.hk_top.specs.declared.run.Run.{Run}
 use Rattle.hk_top.specs.declared.run.TaskRun.{TaskRun}
-use Rattle.hk_top.specs.Session.{Course, Session, no_course, first_ready, given_to, after_tick, turn, turn_at, state, opening, course_after, output_of}
+use Rattle.hk_top.specs.Session.{Course, Session, no_course, first_ready, after_tick, turn, turn_at, state, opening, course_after, output_of}
 use Rattle.hk_top.specs.Progress.{no_task, course_of, session_of, IsKept, AreKept, IsAt, first_due, placed, output_in, output_at}
 use Rattle.hk_top.proofs.Places.{kept_length, kept_more, kept_set, kept_push, due_is_ready, due_within, given_is}
 

@@ -10,3 +10,4 @@ pub mod Three
 pub mod SheetLemmas
 pub mod ReportParts
 pub mod ToolLemmas
+pub mod KeepsSchedule

@@ -1,11 +1,10 @@
 -- The tasks of a run by their places.
-use Rattle.std.proofs.Common.{◌≡◌, ℕ, zero, suc, ◌+◌, ◌<◌, ◌≤◌, Bool, true, false, List, [], ◌∷◌, ◌++◌, length, map, take, drop, get_or, set, Option, Some, None, IfSome, option_map, refl, sym, subst, ap, ◌∙◌, arith, cond}
-use Rattle.std.proofs.lemmas.Bool.{both_ways, cond-true, cond-false}
+use Rattle.std.proofs.Common.{◌≡◌, ℕ, zero, suc, ◌+◌, ◌<◌, ◌≤◌, true, false, List, [], ◌∷◌, ◌++◌, length, map, drop, get_or, set, Option, Some, None, IfSome, option_map, refl, sym, subst, ap, ◌∙◌, arith, cond}
+use Rattle.std.proofs.lemmas.Bool.{cond-true, cond-false}
 use Rattle.std.proofs.lemmas.List.{drop_more, drop_all}
-use Rattle.std.specs.Prelude.{slice_index_or}
 use Rattle.hk_sheet.specs.declared.sheet.High.{High}
 use Rattle.hk_top.specs.declared.run.TaskRun.{TaskRun}
-use Rattle.hk_top.specs.Session.{Course, no_course, has_arrived, next_arrival, is_ready, first_ready, given_to, course_after}
+use Rattle.hk_top.specs.Session.{has_arrived, next_arrival, first_ready, given_to, course_after}
 use Rattle.hk_top.specs.Local.{IsOnVariables, AreOnVariables}
 use Rattle.hk_top.specs.Progress.{course_of, IsKept, AreKept, first_due}
 
@@ -121,12 +120,14 @@ due_within es tick place e = below es (first_due es tick) refl place e
     inner : (es : List TaskRun) (o : Option ℕ) → IfSome o (λ k. k < length es) → (e : TaskRun) → IfSome (option_map suc o) (λ k. k < length (e ∷ es))
     inner es None h e = tt
     inner es (Some k) h e = omega (arith, h)
+
     all : (es : List TaskRun) → IfSome (first_due es tick) (λ k. k < length es)
     all [] = tt
     all (e ∷ es) = elim (has_arrived e.arrival tick) as (λ b. IfSome (cond b (Some 0) (option_map suc (first_due es tick))) (λ k. k < length (e ∷ es))) [
       | true ↦ (let z : 0 < suc (length es) = omega arith in z)
       | false ↦ inner es (first_due es tick) (all es) e
     ]
+
     below : (es : List TaskRun) (o : Option ℕ) → o ≡ first_due es tick → (place : ℕ) → Some place ≡ o → place < length es
     below es o is place e = subst (λ o. IfSome o (λ k. k < length es)) (sym (e ∙ is)) (all es)
 

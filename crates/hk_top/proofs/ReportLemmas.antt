@@ -1,5 +1,5 @@
 -- The texts of the elements that the loops of the report go over.
-use Rattle.std.proofs.Common.{◌≡◌, ℕ, zero, suc, ◌+◌, ◌<◌, ◌≤◌, List, [], ◌∷◌, ◌++◌, length, map, zip, get_or, min, Option, Some, None, refl, sym, ap, ◌∙◌, subst, arith}
+use Rattle.std.proofs.Common.{◌≡◌, ℕ, zero, suc, ◌<◌, ◌≤◌, List, [], ◌∷◌, length, map, zip, get_or, refl, sym, ap, ◌∙◌, arith}
 use Rattle.std.proofs.lemmas.Slice.Zip.{get_or-zip, length-zip}
 use Rattle.hk_sheet.specs.declared.sheet.High.{High}
 use Rattle.hk_sheet.specs.declared.sheet.Low.{Low}
@@ -8,7 +8,6 @@ use Rattle.hk_top.specs.declared.run.TaskRun.{TaskRun}
 use Rattle.hk_top.specs.Local.{AreNamed, AreLowNamed}
 use Rattle.hk_top.specs.Progress.{course_of}
 use Rattle.hk_top.specs.Report.{line_of_response, line_of_low, line_of_course}
-use Rattle.hk_top.specs.Session.{Course}
 use Rattle.hk_top.specs.Text.{high_line, low_line, done_line}
 
 -- two lists of the same length side by side

@@ -1,5 +1,5 @@
 -- The report by its parts.
-use Rattle.std.proofs.Common.{◌≡◌, ℕ, List, [], ◌++◌, map, zip, flat_map, refl, sym, ap, ◌∙◌}
+use Rattle.std.proofs.Common.{◌≡◌, ℕ, List, ◌++◌, map, zip, flat_map, refl, ap, ◌∙◌}
 use Rattle.hk_admit.specs.declared.checked.Admitted.{Admitted}
 use Rattle.hk_sheet.specs.declared.sheet.High.{High}
 use Rattle.hk_sheet.specs.declared.sheet.Low.{Low}
@@ -8,7 +8,7 @@ use Rattle.hk_top.specs.declared.run.Run.{Run}
 use Rattle.hk_top.specs.declared.run.TaskRun.{TaskRun}
 use Rattle.hk_top.specs.Progress.{course_of, session_of, IsAt}
 use Rattle.hk_top.specs.Report.{line_of_course, high_lines, low_lines, analysis, ticks_text, closing, report}
-use Rattle.hk_top.specs.Session.{Session, state}
+use Rattle.hk_top.specs.Session.{state}
 use Rattle.hk_top.specs.Text.{heap_line, cycles_line, end_line}
 
 pub analysis_parts : (a : Admitted) (heap : List ℕ) (hs : List High) (rs : List ℕ) (ls : List Low)

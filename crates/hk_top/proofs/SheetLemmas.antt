@@ -1,5 +1,5 @@
 -- What the report needs of a sheet that can be read.
-use Rattle.std.proofs.Common.{◌≡◌, ℕ, ◌<◌, ◌≤◌, Bool, true, false, ◌&&◌, ◌||◌, List, [], ◌∷◌, length, refl, sym, ap, ◌∙◌, subst, arith}
+use Rattle.std.proofs.Common.{◌≡◌, ℕ, ◌≤◌, Bool, true, false, ◌&&◌, List, [], ◌∷◌, length, refl, sym, subst, arith}
 use Rattle.std.proofs.lemmas.Bool.{both_ways}
 use Rattle.std.specs.Prelude.{nat_lt, nat_le}
 use Rattle.std.specs.List.{list_any, AllByRecursion}
@@ -9,7 +9,7 @@ use Rattle.hk_sheet.specs.declared.sheet.Sheet.{Sheet}
 use Rattle.hk_sheet.specs.declared.sheet.TheConstants.{MAX_NAME}
 use Rattle.hk_sheet.specs.Faults.{is_name}
 use Rattle.hk_sheet.specs.Valid.{IsHigh, IsLow, IsSheet}
-use Rattle.hk_top.specs.Local.{uses_heap, IsOnVariables, AreOnVariables, AreNamed, AreLowNamed, IsRunnable}
+use Rattle.hk_top.specs.Local.{uses_heap, AreOnVariables, AreNamed, AreLowNamed, IsRunnable}
 use Rattle.hk_top.specs.Tool.{is_unbuilt}
 use Rattle.hk_top.proofs.Needs.{or_left, or_right}
 

@@ -1,5 +1,5 @@
 -- Three texts that are handed to a sink one behind another.
-use Rattle.std.proofs.Common.{◌≡◌, ℕ, List, [], ◌++◌, Option, refl, sym, ◌∙◌, append_assoc}
+use Rattle.std.proofs.Common.{◌≡◌, ℕ, List, ◌++◌, Option, refl, sym, ◌∙◌, append_assoc}
 use Rattle.hk_io.specs.Bytes.{AppendsPrefix, AppendsFront}
 use Rattle.hk_top.proofs.Written.{prefix_first, front_two, prefix_two}
 

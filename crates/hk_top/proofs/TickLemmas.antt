@@ -1,5 +1,5 @@
 -- What a tick puts out, as its text.
-use Rattle.std.proofs.Common.{◌≡◌, ℕ, zero, suc, ◌+◌, ◌<◌, ◌≤◌, List, [], ◌∷◌, ◌++◌, length, map, get_or, Option, Some, None, refl, sym, ap, ◌∙◌, subst, arith}
+use Rattle.std.proofs.Common.{◌≡◌, ℕ, zero, suc, ◌<◌, ◌≤◌, List, [], ◌∷◌, length, get_or, Option, Some, None, refl, sym, ap, ◌∙◌, arith}
 use Rattle.std.proofs.lemmas.List.FromFn.{get_or-range_with_len, length-range_with_len}
 use Rattle.std.specs.Prelude.{slice_index_or}
 use Rattle.std.specs.List.{range_with_len}
@@ -8,8 +8,7 @@ use Rattle.hk_sheet.specs.declared.sheet.High.{High}
 use Rattle.hk_sheet.specs.declared.sheet.Sheet.{Sheet}
 use Rattle.hk_top.specs.declared.run.Output.{Output}
 use Rattle.hk_top.specs.declared.run.Run.{Run}
-use Rattle.hk_top.specs.declared.run.TaskRun.{TaskRun}
-use Rattle.hk_top.specs.Progress.{no_task, course_of, IsAt, placed, output_by, output_in, output_at}
+use Rattle.hk_top.specs.Progress.{no_task, IsAt, placed, output_by, output_in, output_at}
 use Rattle.hk_top.specs.Report.{out_text, text_of_turn, tick_text}
 use Rattle.hk_top.specs.Session.{Course, Standing, no_course, output_of, state, turn_at}
 use Rattle.hk_top.specs.Text.{out_line}

@@ -1,17 +1,14 @@
 -- From what the parts of the program answer to what its top call answers.
-use Rattle.std.proofs.Common.{◌≡◌, ◌≢◌, ℕ, ◌+◌, ◌<◌, ◌≤◌, ◌⊎◌, inl, inr, Bool, true, false, List, [], length, Option, None, Some, Result, Ok, Err, refl, sym, ap, ◌∙◌, subst, arith, String, Global}
+use Rattle.std.proofs.Common.{◌≡◌, ◌≢◌, ℕ, ◌+◌, ◌<◌, ◌≤◌, ◌⊎◌, inl, inr, true, List, [], length, Option, None, Some, Result, Ok, Err, refl, sym, ap, ◌∙◌, subst, arith, String, Global}
 use Rattle.std.proofs.lemmas.Bool.{both_ways}
 use Rattle.std.proofs.lemmas.List.{length-append}
 use Rattle.std.specs.Prelude.{IfSome, MatchResult, unwrap_or}
-use Rattle.std.specs.Io.KnownBytes.{Appends}
 use Rattle.toml.specs.Data.{Members}
-use Rattle.toml.specs.Parse.{parse_document}
 use Rattle.hk_io.specs.declared.Status.{Status}
 use Rattle.hk_io.specs.declared.Status.TheVariants as status
 use Rattle.hk_io.specs.declared.faults.Failed.{Failed}
 use Rattle.hk_io.specs.declared.whole.TheConstants.{MAX_INPUT}
-use Rattle.hk_io.specs.Bytes.{AppendsPrefix, ConsumesFront}
-use Rattle.hk_io.specs.Faults.{Rose}
+use Rattle.hk_io.specs.Bytes.{ConsumesFront}
 use Rattle.hk_sheet.specs.declared.error.SheetError.{SheetError}
 use Rattle.hk_sheet.specs.declared.error.SheetError.TheVariants as unread
 use Rattle.hk_sheet.specs.declared.sheet.Sheet.{Sheet}
@@ -22,9 +19,8 @@ use Rattle.hk_admit.specs.declared.refused.Refused.{Refused}
 use Rattle.hk_admit.specs.declared.refused.Refused.TheVariants as refused
 use Rattle.hk_admit.specs.Refusals.{IsRefusal}
 use Rattle.hk_admit.proofs.Excluded.{admitted_excludes}
-use Rattle.hk_top.specs.Refusals.{usage_line, long_line, not_built_line, sheet_line, refused_line}
-use Rattle.hk_top.specs.Report.{report}
-use Rattle.hk_top.specs.Tool.{IsRun, is_unbuilt, IsSheetOf, IsNoSheet, IsUnread, too_long, no_sheet, IsNotAdmitted, IsNotBuilt, IsReport, BytesCallFor, CallsFor, HasText, Writes, WritesPrefix, AdmittedCallsFor, EndsBy}
+use Rattle.hk_top.specs.Refusals.{sheet_line, refused_line}
+use Rattle.hk_top.specs.Tool.{IsRun, is_unbuilt, IsSheetOf, IsUnread, too_long, no_sheet, IsNotAdmitted, IsNotBuilt, IsReport, BytesCallFor, CallsFor, HasText, Writes, WritesPrefix, AdmittedCallsFor, EndsBy}
 use Rattle.hk_top.specs.Words.{Puts}
 
 -- ENDS
@@ -232,6 +228,7 @@ complete words (Some left) before after ended whole not_read not_write = λ s t 
   where
     writing : Writes words (Some left) before after ended → (s : Status) (t : List ℕ) → CallsFor words left s t → ended ≡ s
     writing w s t called = one_call words left ended s w.text t (subst (λ b. CallsFor words b ended w.text) w.told w.called) called
+
     by_end : (answer : Status) → ended ≡ answer → (s : Status) (t : List ℕ) → CallsFor words left s t → (ended ≡ s) ⊎ (ended ≡ status.Memory)
     by_end status.Done e s t called = inl (writing (whole (subst HasText (sym e) tt)) s t called)
     by_end status.Memory e s t called = inr e

@@ -1,13 +1,12 @@
 -- Words of a line that are written one behind another.
-use Rattle.std.proofs.Common.{◌≡◌, ℕ, zero, suc, ◌+◌, ◌<◌, ◌≤◌, Bool, true, false, ◌||◌, List, [], ◌∷◌, ◌++◌, length, take, drop, get_or, map, fold, Option, Result, OnOk, OnErr, refl, sym, ap, ◌∙◌, subst, arith, append_assoc, append-nil, take-append-drop}
+use Rattle.std.proofs.Common.{◌≡◌, ℕ, suc, ◌+◌, ◌<◌, ◌≤◌, Bool, true, false, ◌||◌, List, [], ◌∷◌, ◌++◌, length, take, drop, get_or, fold, Option, Result, OnOk, OnErr, refl, sym, ap, ◌∙◌, subst, arith, append_assoc, append-nil, take-append-drop}
 use Rattle.std.proofs.Math.Seq.{take-suc}
-use Rattle.std.proofs.lemmas.List.{take_all, drop_more, map-append}
-use Rattle.std.proofs.KnownBytes.{Appends-nil, Appends-trans}
+use Rattle.std.proofs.lemmas.List.{take_all, map-append}
 use Rattle.std.specs.Io.KnownBytes.{Appends}
 use denote.Ref.{Bor}
-use Rattle.hk_io.specs.Bytes.{AppendsPrefix, AppendsFront}
+use Rattle.hk_io.specs.Bytes.{AppendsPrefix}
 use Rattle.hk_io.specs.Faults.{HasCause}
-use Rattle.hk_io.specs.Line.{with_word, with_end}
+use Rattle.hk_io.specs.Line.{with_word}
 use Rattle.hk_io.proofs.BytesLemmas.{AppendsFront-behind, AppendsPrefix-behind, AppendsPrefix-append}
 use Rattle.hk_top.specs.Text.{line}
 use Rattle.hk_top.specs.Words.{shown, added, Puts}

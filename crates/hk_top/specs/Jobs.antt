@@ -1,7 +1,6 @@
 -- The jobs of a sheet's high tasks, as rows of the schedule of the high jobs alone, and what it means that a run keeps to it.
 use Rattle.std.specs.Prelude.{◌≡◌, ℕ, zero, suc, ◌+◌, ◌-◌, ◌*◌, ◌<◌, ◌≤◌, ◌↔◌, nat_lt, List, [], ◌∷◌, ◌++◌, map, filter, find, length, take, unwrap_or, slice_index_or}
 use Rattle.std.specs.List.{range_with_len}
-use Rattle.hk_rta.specs.declared.Timing.{Timing}
 use Rattle.hk_rta.specs.Demand.{starts_in}
 use Rattle.hk_plan.specs.declared.Row.{Row}
 use Rattle.hk_plan.specs.Alone.{arrival_of, EndsAt}

@@ -6,7 +6,7 @@ use Rattle.hk_admit.specs.declared.checked.Admitted.{Admitted}
 use Rattle.hk_sheet.specs.declared.sheet.High.{High}
 use Rattle.hk_sheet.specs.declared.sheet.Low.{Low}
 use Rattle.hk_sheet.specs.declared.sheet.Sheet.{Sheet}
-use Rattle.hk_top.specs.Session.{Course, Session, output_of, no_course, state, turn_at}
+use Rattle.hk_top.specs.Session.{Course, Session, output_of, state, turn_at}
 use Rattle.hk_top.specs.Text.{heap_line, high_line, low_line, out_line, done_line, cycles_line, end_line}
 
 -- the response time and the deadline of each high task

@@ -1,6 +1,6 @@
 -- The run of a sheet whose tasks are all high ones and whose scripts work on variables alone, tick by tick. Ticks count
 -- from 0, and tick t lies between the moments t and t + 1.
-use Rattle.std.specs.Prelude.{ℕ, zero, suc, ◌+◌, ◌-◌, max, Bool, false, nat_lt, nat_le, nat_eq, List, [], ◌∷◌, map, length, Option, Some, None, option_map, if◌then◌else◌}
+use Rattle.std.specs.Prelude.{ℕ, zero, suc, ◌+◌, ◌-◌, max, Bool, false, nat_lt, nat_le, nat_eq, List, ◌∷◌, map, length, Option, Some, None, option_map, if◌then◌else◌}
 use Rattle.hk_words.specs.declared.call.Reply.TheVariants.{Unit as NoValue}
 use Rattle.hk_script.specs.declared.statement.Statement.{Statement}
 use Rattle.hk_script.specs.declared.walk.Need.{Need}
@@ -8,7 +8,6 @@ use Rattle.hk_script.specs.declared.walk.Need.TheVariants as need
 use Rattle.hk_script.specs.declared.walk.Walk.{Walk}
 use Rattle.hk_script.specs.Walks.{started, need_of, walk_after}
 use Rattle.hk_script.specs.Runs.{need_ticks}
-use Rattle.hk_sheet.specs.declared.arrivals.Arrivals.{Arrivals}
 use Rattle.hk_sheet.specs.declared.sheet.High.{High}
 use Rattle.hk_sheet.specs.declared.sheet.Sheet.{Sheet}
 use Rattle.hk_sheet.specs.Arrivals.{arrival_of}

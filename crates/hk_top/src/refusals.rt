@@ -75,9 +75,7 @@ pub fn put_sheet_error<K: Sink>(sink: &mut K, error: &SheetError) -> Result<(), 
         SheetError::Unknown(key) => put_line(sink, &[b"sheet", b"unknown", &key.items]),
         SheetError::Kind(key) => put_line(sink, &[b"sheet", b"kind", &key.items]),
         SheetError::Range(key) => put_line(sink, &[b"sheet", b"range", &key.items]),
-        SheetError::Name(index) => {
-            put_line(sink, &[b"sheet", b"name", digits(*index).bytes()])
-        }
+        SheetError::Name(index) => { put_line(sink, &[b"sheet", b"name", digits(*index).bytes()]) }
         SheetError::Arrivals {
             task,
             place,
@@ -96,7 +94,10 @@ pub fn put_sheet_error<K: Sink>(sink: &mut K, error: &SheetError) -> Result<(), 
         ),
         SheetError::Script(task, error) => put_script_error(sink, &task.items, *error),
         SheetError::Geometry(error) => {
-            put_line(sink, &[b"sheet", b"geometry", geometry_word(*error).as_bytes()])
+            put_line(
+                sink,
+                &[b"sheet", b"geometry", geometry_word(*error).as_bytes()],
+            )
         }
         SheetError::Memory => put_line(sink, &[b"sheet"]),
     }
@@ -163,7 +164,18 @@ fn put_need<K: Sink>(
 {
     let need = need_word(need);
     let declared = digits(declared);
-    put_line(sink, &[b"refused", what, task, b"need", need.bytes(), b"declared", declared.bytes()])
+    put_line(
+        sink,
+        &[
+            b"refused",
+            what,
+            task,
+            b"need",
+            need.bytes(),
+            b"declared",
+            declared.bytes(),
+        ],
+    )
 }
 
 /// A number that may be too large to be told.
@@ -186,5 +198,8 @@ fn put_have<K: Sink>(sink: &mut K, what: &[u8], have: u64, need: u64) -> Result<
 {
     let have = digits(have);
     let need = digits(need);
-    put_line(sink, &[b"refused", what, have.bytes(), b"need", need.bytes()])
+    put_line(
+        sink,
+        &[b"refused", what, have.bytes(), b"need", need.bytes()],
+    )
 }

@@ -60,11 +60,7 @@ fn write_high_tasks<K: Sink>(
 }
 
 /// Writes the low tasks behind what waits.
-fn write_low_tasks<K: Sink>(
-    tasks: &[Low],
-    gather: &mut Gather,
-    sink: &mut K,
-) -> Result<(), Failed>
+fn write_low_tasks<K: Sink>(tasks: &[Low], gather: &mut Gather, sink: &mut K) -> Result<(), Failed>
     requires { AreLowNamed tasks.now }
     ensures ok { OnOk result (AppendsFront (K.taken sink.old) (K.taken sink.new) (gather.old ++ low_lines tasks.now) gather.new) }
     ensures prefix { OnErr result (AppendsPrefix (K.taken sink.old) (K.taken sink.new) (gather.old ++ low_lines tasks.now)) }
@@ -160,11 +156,7 @@ fn write_closing<K: Sink>(
 }
 
 /// Runs an admitted sheet, whose run is at its start, and writes its report.
-pub fn write_report<K: Sink>(
-    admitted: &Admitted,
-    run: &mut Run,
-    sink: &mut K,
-) -> Result<(), Failed>
+pub fn write_report<K: Sink>(admitted: &Admitted, run: &mut Run, sink: &mut K) -> Result<(), Failed>
     requires sheet { IsRunnable admitted.now.checked.sheet }
     requires start { IsAt admitted.now.checked.sheet 0 run.old }
     ensures ok { OnOk result (Appends (K.taken sink.old) (K.taken sink.new) (report admitted.now)) }

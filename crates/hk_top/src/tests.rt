@@ -476,7 +476,12 @@ const EDITS: &[(&str, &str, Status, &str)] = &[
     ),
     // Other ways to write the same.
     ("ticks = 10", "ticks = 10\nlow = []", Status::Done, REPORT),
-    ("first = 0\nevery = 10", "arrivals = [0]", Status::Done, REPORT),
+    (
+        "first = 0\nevery = 10",
+        "arrivals = [0]",
+        Status::Done,
+        REPORT,
+    ),
     ("work 1\n", "work 1\r\n", Status::Done, REPORT),
     ("work 1\n", "work\t1\n", Status::Done, REPORT),
     ("work 1\n", "work 1 # one\n", Status::Done, REPORT),
@@ -488,12 +493,7 @@ const EDITS: &[(&str, &str, Status, &str)] = &[
         Status::Done,
         "heap work 4179 attempt 0 busy 2 debt 0\nhigh a response 2 deadline 10\ndone a jobs 1 latest 2\ncycles 0 collector 0 idle 8\nend 10\n",
     ),
-    (
-        "work 1\n",
-        "sub v0 v1\n",
-        Status::Done,
-        REPORT,
-    ),
+    ("work 1\n", "sub v0 v1\n", Status::Done, REPORT),
     (
         "work 1\nout v0",
         "set v7 18446744073709551615\nout v7",
@@ -508,21 +508,61 @@ const EDITS: &[(&str, &str, Status, &str)] = &[
         "heap work 4179 attempt 0 busy 2 debt 0\nhigh a response 2 deadline 10\ndone a jobs 0 latest 0\ncycles 0 collector 0 idle 10\nend 10\n",
     ),
     // No TOML, a missing key, an unknown one, another kind, and out of range.
-    ("script = \"\"\"", "script = \"", Status::Sheet, "sheet text\n"),
-    ("version = 1\n", "", Status::Sheet, "sheet missing version\n"),
+    (
+        "script = \"\"\"",
+        "script = \"",
+        Status::Sheet,
+        "sheet text\n",
+    ),
+    (
+        "version = 1\n",
+        "",
+        Status::Sheet,
+        "sheet missing version\n",
+    ),
     ("ticks = 10\n", "", Status::Sheet, "sheet missing ticks\n"),
-    ("every = 10\n", "", Status::Sheet, "sheet missing high[0].every\n"),
-    ("ticks = 10", "ticks = 10\nx = 1", Status::Sheet, "sheet unknown x\n"),
+    (
+        "every = 10\n",
+        "",
+        Status::Sheet,
+        "sheet missing high[0].every\n",
+    ),
+    (
+        "ticks = 10",
+        "ticks = 10\nx = 1",
+        Status::Sheet,
+        "sheet unknown x\n",
+    ),
     (
         "ticks = 10",
         "ticks = 10\n\"a b\" = 1",
         Status::Sheet,
         "sheet unknown a?b\n",
     ),
-    ("ticks = 10", "ticks = 10.0", Status::Sheet, "sheet kind ticks\n"),
-    ("ticks = 10", "ticks = 0", Status::Sheet, "sheet range ticks\n"),
-    ("ticks = 10", "ticks = 16777217", Status::Sheet, "sheet range ticks\n"),
-    ("live = 62", "live = 1000001", Status::Sheet, "sheet range heap.live\n"),
+    (
+        "ticks = 10",
+        "ticks = 10.0",
+        Status::Sheet,
+        "sheet kind ticks\n",
+    ),
+    (
+        "ticks = 10",
+        "ticks = 0",
+        Status::Sheet,
+        "sheet range ticks\n",
+    ),
+    (
+        "ticks = 10",
+        "ticks = 16777217",
+        Status::Sheet,
+        "sheet range ticks\n",
+    ),
+    (
+        "live = 62",
+        "live = 1000001",
+        Status::Sheet,
+        "sheet range heap.live\n",
+    ),
     (
         "deadline = 10",
         "deadline = 11",
@@ -530,33 +570,93 @@ const EDITS: &[(&str, &str, Status, &str)] = &[
         "sheet range high[0].deadline\n",
     ),
     // Names and arrivals.
-    ("name = \"a\"", "name = \"\"", Status::Sheet, "sheet name 0\n"),
+    (
+        "name = \"a\"",
+        "name = \"\"",
+        Status::Sheet,
+        "sheet name 0\n",
+    ),
     (
         "name = \"a\"",
         "name = \"abcdefghij_123456\"",
         Status::Sheet,
         "sheet name 0\n",
     ),
-    ("every = 10", "every = 9", Status::Sheet, "sheet arrivals a 1 0 9\n"),
+    (
+        "every = 10",
+        "every = 9",
+        Status::Sheet,
+        "sheet arrivals a 1 0 9\n",
+    ),
     // Scripts, by the line.
     ("out v0", "wait 1", Status::Sheet, "sheet script a word 2\n"),
-    ("work 1\n", "work 0\n", Status::Sheet, "sheet script a number 1\n"),
-    ("out v0", "clear r0", Status::Sheet, "sheet script a register 2\n"),
-    ("out v0", "out v8", Status::Sheet, "sheet script a variable 2\n"),
-    ("out v0", "new r1 0 0", Status::Sheet, "sheet script a shape 2\n"),
-    ("out v0", "repeat 2", Status::Sheet, "sheet script a block 2\n"),
+    (
+        "work 1\n",
+        "work 0\n",
+        Status::Sheet,
+        "sheet script a number 1\n",
+    ),
+    (
+        "out v0",
+        "clear r0",
+        Status::Sheet,
+        "sheet script a register 2\n",
+    ),
+    (
+        "out v0",
+        "out v8",
+        Status::Sheet,
+        "sheet script a variable 2\n",
+    ),
+    (
+        "out v0",
+        "new r1 0 0",
+        Status::Sheet,
+        "sheet script a shape 2\n",
+    ),
+    (
+        "out v0",
+        "repeat 2",
+        Status::Sheet,
+        "sheet script a block 2\n",
+    ),
     (
         "out v0",
         "repeat 1\nrepeat 1\nrepeat 1\nrepeat 1\nrepeat 1\nrepeat 1\nrepeat 1\nrepeat 1\nrepeat 1\nrepeat 1\nrepeat 1\nrepeat 1\nrepeat 1\nrepeat 1\nrepeat 1\nrepeat 1\nrepeat 1",
         Status::Sheet,
         "sheet script a deep 18\n",
     ),
-    ("work 1\nout v0", "# nothing", Status::Sheet, "sheet script a empty\n"),
+    (
+        "work 1\nout v0",
+        "# nothing",
+        Status::Sheet,
+        "sheet script a empty\n",
+    ),
     // The geometry: odd, small, large, a reserve above what there is, and a board without fields.
-    ("live = 62", "live = 63", Status::Sheet, "sheet geometry odd\n"),
-    ("live = 62", "live = 4", Status::Sheet, "sheet geometry small\n"),
-    ("live = 62", "live = 65538", Status::Sheet, "sheet geometry large\n"),
-    ("reserve = 129", "reserve = 513", Status::Sheet, "sheet geometry reserve\n"),
+    (
+        "live = 62",
+        "live = 63",
+        Status::Sheet,
+        "sheet geometry odd\n",
+    ),
+    (
+        "live = 62",
+        "live = 4",
+        Status::Sheet,
+        "sheet geometry small\n",
+    ),
+    (
+        "live = 62",
+        "live = 65538",
+        Status::Sheet,
+        "sheet geometry large\n",
+    ),
+    (
+        "reserve = 129",
+        "reserve = 513",
+        Status::Sheet,
+        "sheet geometry reserve\n",
+    ),
     ("[2, 2]", "[0, 0]", Status::Sheet, "sheet geometry board\n"),
     // What isn't admitted. The collector does 11 * (512 - reserve) events before the words outside the reserve are taken.
     (
@@ -577,7 +677,12 @@ const EDITS: &[(&str, &str, Status, &str)] = &[
         Status::NotAdmitted,
         "refused response a\n",
     ),
-    ("words = 0", "words = 1", Status::NotAdmitted, "refused busy\n"),
+    (
+        "words = 0",
+        "words = 1",
+        Status::NotAdmitted,
+        "refused busy\n",
+    ),
     ("reserve = 129", "reserve = 132", Status::Done, REPORT),
     (
         "reserve = 129",
@@ -594,8 +699,18 @@ const EDITS: &[(&str, &str, Status, &str)] = &[
     ),
     // A statement on the heap.
     ("out v0", "clear r1", Status::NotBuilt, "not built\n"),
-    ("work 1\n", "if null r1\nend\n", Status::NotBuilt, "not built\n"),
-    ("work 1\n", "if same r1 r2\nend\n", Status::NotBuilt, "not built\n"),
+    (
+        "work 1\n",
+        "if null r1\nend\n",
+        Status::NotBuilt,
+        "not built\n",
+    ),
+    (
+        "work 1\n",
+        "if same r1 r2\nend\n",
+        Status::NotBuilt,
+        "not built\n",
+    ),
 ];
 
 #[test]
@@ -626,18 +741,42 @@ fn runs_sheets(rt: HostRuntime) -> Result<(), Fail> {
 fn runs_tasks_in_their_order(rt: HostRuntime) -> Result<(), Fail> {
     let alloc = rt.alloc();
     // In the first 12 ticks a has 0, 4 and 8, b has 1, 2, 6 and 7, and c has 3, 5 and 9.
-    let input = edited(&rt, alloc, THREE, "\"work 3\"", "\"out v0\\njob v0\\nout v0\"")?;
+    let input = edited(
+        &rt,
+        alloc,
+        THREE,
+        "\"work 3\"",
+        "\"out v0\\njob v0\\nout v0\"",
+    )?;
     let Some((before, after)) = REPORT_OF_THREE.split_once("done a") else {
         panic!(rt; "no line of a task");
     };
     let text = format!(in alloc; "{before}out 3 c 0\nout 9 c 0\ndone a{after}")?;
     expect_run(&rt, alloc, input.as_str(), Status::Done, text.as_str())?;
-    let input = edited(&rt, alloc, THREE, "period = 12\ndeadline = 12", "period = 12\ndeadline = 9")?;
-    expect_run(&rt, alloc, input.as_str(), Status::NotAdmitted, "refused response c\n")?;
+    let input = edited(
+        &rt,
+        alloc,
+        THREE,
+        "period = 12\ndeadline = 12",
+        "period = 12\ndeadline = 9",
+    )?;
+    expect_run(
+        &rt,
+        alloc,
+        input.as_str(),
+        Status::NotAdmitted,
+        "refused response c\n",
+    )?;
     let input = edited(&rt, alloc, THREE, "name = \"c\"", "name = \"b\"")?;
     expect_run(&rt, alloc, input.as_str(), Status::Sheet, "sheet name 2\n")?;
     // Lists of arrivals: the second job of a waits for nobody, and b is put off by it.
-    let input = edited(&rt, alloc, THREE, "first = 0\nevery = 4", "arrivals = [1, 7]")?;
+    let input = edited(
+        &rt,
+        alloc,
+        THREE,
+        "first = 0\nevery = 4",
+        "arrivals = [1, 7]",
+    )?;
     let text = "heap work 4247 attempt 0 busy 10 debt 0
 high a response 1 deadline 4
 high b response 3 deadline 6
@@ -656,7 +795,13 @@ end 12
 fn looks_at_lists_of_arrivals(rt: HostRuntime) -> Result<(), Fail> {
     let alloc = rt.alloc();
     let longer = edited(&rt, alloc, SMALLEST, "ticks = 10", "ticks = 20")?;
-    let input = edited(&rt, alloc, longer.as_str(), "first = 0\nevery = 10", "arrivals = [0, 10]")?;
+    let input = edited(
+        &rt,
+        alloc,
+        longer.as_str(),
+        "first = 0\nevery = 10",
+        "arrivals = [0, 10]",
+    )?;
     let text = "heap work 4179 attempt 0 busy 2 debt 0
 high a response 2 deadline 10
 out 1 a 0
@@ -666,8 +811,20 @@ cycles 0 collector 0 idle 16
 end 20
 ";
     expect_run(&rt, alloc, input.as_str(), Status::Done, text)?;
-    let input = edited(&rt, alloc, longer.as_str(), "first = 0\nevery = 10", "arrivals = [0, 9]")?;
-    expect_run(&rt, alloc, input.as_str(), Status::Sheet, "sheet arrivals a 1 0 9\n")?;
+    let input = edited(
+        &rt,
+        alloc,
+        longer.as_str(),
+        "first = 0\nevery = 10",
+        "arrivals = [0, 9]",
+    )?;
+    expect_run(
+        &rt,
+        alloc,
+        input.as_str(),
+        Status::Sheet,
+        "sheet arrivals a 1 0 9\n",
+    )?;
     Ok(())
 }
 
@@ -688,13 +845,27 @@ fn refuses_in_order(rt: HostRuntime) -> Result<(), Fail> {
     let input = format!(in alloc; "{SMALLEST}{LOW}")?;
     expect_run(&rt, alloc, input.as_str(), Status::NotBuilt, "not built\n")?;
     let input = edited(&rt, alloc, input.as_str(), "rate = 11", "rate = 10")?;
-    expect_run(&rt, alloc, input.as_str(), Status::NotAdmitted, "refused rate have 3830 need 4213\n")?;
+    expect_run(
+        &rt,
+        alloc,
+        input.as_str(),
+        Status::NotAdmitted,
+        "refused rate have 3830 need 4213\n",
+    )?;
     // A job that makes an object of 3 words can make the collector owe 11 * 3 events and an attempt of 34.
-    let old = "period = 10\ndeadline = 10\ncost = 2\nwords = 0\nfirst = 0\nevery = 10\nscript = \"\"\"\nwork 1\nout v0";
-    let new = "period = 100\ndeadline = 100\ncost = 8\nwords = 3\nfirst = 0\nevery = 100\nscript = \"\"\"\nwork 1\nnew r1 1 1";
+    let old =
+        "period = 10\ndeadline = 10\ncost = 2\nwords = 0\nfirst = 0\nevery = 10\nscript = \"\"\"\nwork 1\nout v0";
+    let new =
+        "period = 100\ndeadline = 100\ncost = 8\nwords = 3\nfirst = 0\nevery = 100\nscript = \"\"\"\nwork 1\nnew r1 1 1";
     let makes = edited(&rt, alloc, SMALLEST, old, new)?;
     let input = edited(&rt, alloc, makes.as_str(), "reserve = 129", "reserve = 6")?;
-    expect_run(&rt, alloc, input.as_str(), Status::NotAdmitted, "refused reserve have 66 need 67\n")?;
+    expect_run(
+        &rt,
+        alloc,
+        input.as_str(),
+        Status::NotAdmitted,
+        "refused reserve have 66 need 67\n",
+    )?;
     let input = edited(&rt, alloc, makes.as_str(), "reserve = 129", "reserve = 7")?;
     expect_run(&rt, alloc, input.as_str(), Status::NotBuilt, "not built\n")?;
     // The most statements, and one more.
@@ -707,9 +878,27 @@ fn refuses_in_order(rt: HostRuntime) -> Result<(), Fail> {
     let full = edited(&rt, alloc, SMALLEST, "work 1\nout v0", whole.as_str())?;
     let more = format!(in alloc; "{whole}set v0 1\n")?;
     let over = edited(&rt, alloc, SMALLEST, "work 1\nout v0", more.as_str())?;
-    expect_run(&rt, alloc, long.as_str(), Status::NotAdmitted, "refused cost a need 1023 declared 2\n")?;
-    expect_run(&rt, alloc, full.as_str(), Status::NotAdmitted, "refused cost a need 1024 declared 2\n")?;
-    expect_run(&rt, alloc, over.as_str(), Status::Sheet, "sheet script a long\n")?;
+    expect_run(
+        &rt,
+        alloc,
+        long.as_str(),
+        Status::NotAdmitted,
+        "refused cost a need 1023 declared 2\n",
+    )?;
+    expect_run(
+        &rt,
+        alloc,
+        full.as_str(),
+        Status::NotAdmitted,
+        "refused cost a need 1024 declared 2\n",
+    )?;
+    expect_run(
+        &rt,
+        alloc,
+        over.as_str(),
+        Status::Sheet,
+        "sheet script a long\n",
+    )?;
     Ok(())
 }
 
@@ -804,6 +993,12 @@ fn takes_inputs_up_to_their_longest(rt: HostRuntime) -> Result<(), Fail> {
     }
     expect_run(&rt, rt.alloc(), input.as_str(), Status::Done, REPORT)?;
     input.push('x')?;
-    expect_run(&rt, rt.alloc(), input.as_str(), Status::Sheet, "sheet long\n")?;
+    expect_run(
+        &rt,
+        rt.alloc(),
+        input.as_str(),
+        Status::Sheet,
+        "sheet long\n",
+    )?;
     Ok(())
 }

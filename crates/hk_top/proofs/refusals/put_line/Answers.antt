@@ -1,8 +1,5 @@
 -- The words one behind another, and the newline.
-use Rattle.std.proofs.Common.{refl, sym, ap, subst, ◌∙◌}
 use Rattle.std.proofs.lemmas.Result.{err_from_is_err_and, on_err_weaker}
-use Rattle.hk_io.specs.Bytes.{AppendsPrefix}
-use Rattle.hk_top.specs.Words.{added}
 use Rattle.hk_top.proofs.WordLemmas.{word_prefix, last_prefix}
 use Rattle.hk_top.proofs.refusals.put_line.Goals as goal
 

@@ -1,8 +1,5 @@
 -- A space and then the word.
-use Rattle.std.proofs.Common.{[], ◌∷◌, sym, subst}
 use Rattle.std.proofs.lemmas.Result.{on_err_weaker}
-use Rattle.hk_io.specs.Bytes.{AppendsPrefix}
-use Rattle.hk_top.specs.Words.{added}
 use Rattle.hk_top.proofs.WordLemmas.{space_prefix}
 use Rattle.hk_top.proofs.refusals.put_word.Goals as goal
 

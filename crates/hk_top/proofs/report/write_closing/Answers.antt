@@ -1,5 +1,5 @@
 -- The last lines, one behind another.
-use Rattle.std.proofs.Common.{◌∙◌, refl, sym, ap, length, map, zip, flat_map}
+use Rattle.std.proofs.Common.{◌∙◌, sym, ap, length, map, zip, flat_map}
 use Rattle.std.proofs.lemmas.Result.{err_from_is_err_and, on_ok_weaker, on_err_weaker}
 use Rattle.hk_top.specs.Progress.{course_of}
 use Rattle.hk_top.specs.Report.{line_of_course, closing}

@@ -1,5 +1,5 @@
 -- What the parts answer is what the program answers.
-use Rattle.std.proofs.Common.{◌≡◌, ◌≤◌, ℕ, List, Option, Err, refl, sym, ap, subst}
+use Rattle.std.proofs.Common.{◌≡◌, ℕ, List, Option, Err, refl, sym, ap, subst}
 use Rattle.std.proofs.lemmas.Bool.{both_ways}
 use Rattle.std.specs.Prelude.{IfSome, false}
 use Rattle.hk_io.specs.declared.Status.TheVariants as status

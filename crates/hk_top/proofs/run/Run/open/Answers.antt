@@ -1,7 +1,5 @@
 -- Each task is at its start.
-use Rattle.std.proofs.Common.{◌≡◌, List, length, refl, sym, ap, ◌∙◌, subst}
-use Rattle.hk_sheet.specs.declared.sheet.High.{High}
-use Rattle.hk_top.specs.declared.run.TaskRun.{TaskRun}
+use Rattle.std.proofs.Common.{refl, sym, subst}
 use Rattle.hk_top.specs.Local.{IsOnVariables, AreOnVariables}
 use Rattle.hk_top.specs.Progress.{IsKept}
 use Rattle.hk_top.proofs.Places.{variables_at}

@@ -1,9 +1,9 @@
 -- What a tick comes to, by who gets it.
-use Rattle.std.proofs.Common.{◌≡◌, ℕ, ◌+◌, ◌*◌, ◌<◌, List, length, get_or, Option, Some, None, IfSome, refl, sym, ap, ◌∙◌, subst, arith, option_map}
+use Rattle.std.proofs.Common.{◌≡◌, ℕ, ◌+◌, ◌<◌, List, length, get_or, Option, Some, None, IfSome, refl, sym, ap, ◌∙◌, subst, arith}
 use Rattle.hk_sheet.specs.declared.sheet.High.{High}
 use Rattle.hk_top.specs.declared.run.Output.{Output}
 use Rattle.hk_top.specs.declared.run.TaskRun.{TaskRun}
-use Rattle.hk_top.specs.Local.{IsOnVariables, AreOnVariables}
+use Rattle.hk_top.specs.Local.{IsOnVariables}
 use Rattle.hk_top.specs.Session.{output_of, course_after}
 use Rattle.hk_top.specs.Progress.{IsKept, AreKept, first_due, course_of}
 use Rattle.hk_top.proofs.Places.{due_within, variables_at, kept_length, kept_at}
@@ -86,7 +86,7 @@ returns-clause-output c =
     c.of.ensures.value
     ∙ output-given c.args.sheet.now c.args.tick c.args.self.now c.requires.at place c.tick-value.result r h found
     (c.tick-value.ensures.output ∙ ap (λ t. output_of t.script (course_of r).at) task
-        ∙ ap (λ e. output_of (get_or c.args.sheet.now.high place h).script (course_of e).at) c.index_mut.ensures.value)
+    ∙ ap (λ e. output_of (get_or c.args.sheet.now.high place h).script (course_of e).at) c.index_mut.ensures.value)
 
 pub returns-clause-at : goal.returns-clause-at
 returns-clause-at c =
@@ -99,7 +99,7 @@ returns-clause-at c =
     let task = c.index-high_tasks-place.is ∙ ap (λ t. get_or t place h) c.high_tasks.ensures in
     IsAt-given c.args.sheet.now tick c.args.self.now c.requires.at _ place x r h found refl refl
     (c.tick-value.ensures.course ∙ ap (λ t. course_after t (course_of r) tick) task
-        ∙ ap (λ e. course_after (get_or c.args.sheet.now.high place h) (course_of e) tick) c.index_mut.ensures.value)
+    ∙ ap (λ e. course_after (get_or c.args.sheet.now.high place h) (course_of e) tick) c.index_mut.ensures.value)
     (subst (λ t. IsKept (tick + 1) t x) task c.tick-value.ensures.kept)
 
 pub returns-clause-within : goal.returns-clause-within

@@ -1,5 +1,5 @@
 -- What reading bytes answers.
-use Rattle.std.specs.Prelude.{◌≡◌, ℕ, List, Some, Result, Ok, Err, IsUtf8}
+use Rattle.std.specs.Prelude.{◌≡◌, ℕ, List, Some, Result, Err, IsUtf8}
 use Rattle.toml.specs.Data.{Members}
 use Rattle.toml.specs.Parse.{parse_document}
 use Rattle.hk_sheet.specs.declared.error.SheetError.{SheetError}

@@ -20,7 +20,7 @@ use Rattle.hk_sheet.specs.declared.sheet.HeapKeys.{HeapKeys}
 use Rattle.hk_sheet.specs.declared.sheet.Sheet.{Sheet}
 use Rattle.hk_sheet.specs.declared.sheet.TheConstants.{MAX_NAME, MAX_KEY, MAX_COUNTED}
 use Rattle.hk_sheet.specs.Rules.{Rule, Wrong, no_such_kind, out_of_range, wrong_in, number_at, top_rules, heap_rules, high_rules, low_rules}
-use Rattle.hk_sheet.specs.Reading.{text_at, table_at, highs_of, lows_of, arrivals_in, heap_in, sheet_in}
+use Rattle.hk_sheet.specs.Reading.{text_at, table_at, highs_of, lows_of, arrivals_in, sheet_in}
 
 -- the first fault of some, in their order
 abbrev pub first_of : List (Option SheetError) → Option SheetError

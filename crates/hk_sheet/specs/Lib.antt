@@ -4,3 +4,4 @@ pub mod Reading
 pub mod Faults
 pub mod Valid
 pub mod Answers
+pub mod Code

@@ -1,6 +1,6 @@
 -- The sheet that a document declares, where it has no fault. Where it has one, these words say something without a meaning.
 use Rattle.std.specs.Prelude.{ℕ, List, [], ◌∷◌, map, filter_map, codes, unwrap_or, Option, Some, None, Result, Ok, Err, if◌then◌else◌}
-use Rattle.toml.specs.Data.{Data, string, array, table, Items, no_items, Members, no_members, get_member, as_table, as_str}
+use Rattle.toml.specs.Data.{Data, array, no_items, Members, no_members, get_member, as_table, as_str}
 use Rattle.hk_rta.specs.declared.Timing.{Timing}
 use Rattle.hk_script.specs.declared.statement.Statement.{Statement}
 use Rattle.hk_script.specs.declared.error.ScriptError.{ScriptError}

@@ -1,7 +1,7 @@
 -- The tables of a sheet and their keys: what each key may hold, and whether it is needed.
 use Rattle.std.specs.Prelude.{ℕ, ◌-◌, nat_le, nat_eq, Bool, true, false, not, ◌&&◌, pos, List, [], ◌∷◌, ◌++◌, length, codes, is_some, Option, Some, None, if◌then◌else◌}
 use Rattle.std.specs.List.{list_all}
-use Rattle.toml.specs.Data.{Data, integer, string, array, table, Items, no_items, item, Members, get_member, as_integer, as_str, as_array, as_table}
+use Rattle.toml.specs.Data.{Data, integer, array, Items, no_items, item, Members, get_member, as_integer, as_str, as_array, as_table}
 use Rattle.hk_sheet.specs.declared.sheet.TheConstants.{MAX_TICKS, MAX_SIZE, MAX_RATE, MAX_BOARD, MAX_ARRIVALS}
 
 -- what a key may hold: an integer of a range, an array of two integers of a range from 0, an array of ticks of a run, a

@@ -1,5 +1,5 @@
 -- The sheets that can be read. What this says of a sheet is what a caller may rely on.
-use Rattle.std.specs.Prelude.{◌≡◌, ℕ, ◌+◌, ◌<◌, ◌≤◌, Bool, true, List, [], ◌∷◌, ◌++◌, length, map, None}
+use Rattle.std.specs.Prelude.{◌≡◌, ℕ, ◌+◌, ◌<◌, ◌≤◌, true, List, [], ◌∷◌, ◌++◌, length, map, None}
 use Rattle.std.specs.List.{AllByRecursion}
 use Rattle.hk_words.specs.Geometry.{first_error}
 use Rattle.hk_rta.specs.declared.Timing.{Timing}

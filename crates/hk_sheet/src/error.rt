@@ -1,8 +1,12 @@
 //! Why bytes are no task sheet.
 
+ghost use Rattle.std.specs.Prelude.{◌≡◌};
+ghost use Rattle.hk_sheet.specs.declared.error.SheetError.TheVariants.{Memory};
+
 use crate::Name;
 use hk_script::ScriptError;
 use hk_words::GeoError;
+use std::alloc::{AllocError, AllocFailed};
 use std::marker::Model;
 
 /// The path of a key, as an error shows it: `ticks`, `heap.live`, `high[0].cost`. A contract sees the list of the
@@ -52,4 +56,20 @@ pub enum SheetError {
     Geometry(GeoError),
     /// There was no memory.
     Memory,
+}
+
+impl From<AllocError> for SheetError {
+    ghost from_gives = { λ _ e. e ≡ Memory };
+
+    fn from(_error: AllocError) -> SheetError {
+        SheetError::Memory
+    }
+}
+
+impl<T: Drop> From<AllocFailed<T>> for SheetError {
+    ghost from_gives = { λ _ e. e ≡ Memory };
+
+    fn from(_error: AllocFailed<T>) -> SheetError {
+        SheetError::Memory
+    }
 }

@@ -3,11 +3,21 @@
 
 mod arrivals;
 mod error;
+mod keys;
+mod paths;
+mod reader;
+mod rules;
 mod sheet;
+mod tables;
+mod tasks;
 
 pub use arrivals::{Arrivals, Ticks};
 pub use error::{Key, SheetError};
+pub use reader::read;
 pub use sheet::{
     HeapKeys, High, Highs, Low, Lows, MAX_ARRIVALS, MAX_BOARD, MAX_COUNTED, MAX_KEY, MAX_NAME,
     MAX_RATE, MAX_SIZE, MAX_TICKS, Name, Sheet,
 };
+
+#[cfg(test)]
+mod tests;

@@ -1,6 +1,9 @@
+ghost use Rattle.std.specs.Prelude.{◌≡◌, min, MatchResult};
+
 use crate::Arrivals;
 use hk_rta::Timing;
 use hk_script::Script;
+use hk_words::{GeoError, Geometry};
 use std::marker::Model;
 
 /// The most ticks of a run, and the greatest period, deadline, cost, first arrival and step.
@@ -111,4 +114,46 @@ pub struct Sheet {
     pub heap: HeapKeys,
     pub high: Highs,
     pub low: Lows,
+}
+
+/// How many tasks of a kind count in the geometry.
+fn counted(tasks: usize) -> u8
+    ensures { result ≡ min tasks MAX_COUNTED }
+{
+    (tasks as u64).min(MAX_COUNTED) as u8
+}
+
+impl Sheet {
+    ghost use Rattle.hk_words.specs.Geometry.{first_error, HasSizes};
+    ghost use Rattle.hk_sheet.specs.Faults.{sizes_of};
+    ghost use Rattle.hk_sheet.specs.Valid.{IsSheet};
+
+    /// The geometry of the sizes of the heap and of the tasks that use it, or the first reason why there is none.
+    pub(crate) fn try_geometry(&self) -> Result<Geometry, GeoError>
+        ensures { MatchResult result (λ g. (first_error (sizes_of self.now) ≡ None) × HasSizes g (sizes_of self.now)) (λ e. first_error (sizes_of self.now) ≡ Some e) }
+    {
+        let heap = self.heap;
+        let high = counted(self.high.items.len());
+        let low = counted(self.low.items.len());
+        Geometry::new(
+            heap.live,
+            heap.alloc,
+            heap.reserve,
+            high,
+            low,
+            heap.refs,
+            heap.nums,
+        )
+    }
+
+    /// The geometry of the sizes of the heap and of the tasks that use it.
+    pub fn geometry(&self) -> Geometry
+        requires { IsSheet self.now }
+        ensures { HasSizes result (sizes_of self.now) }
+    {
+        match self.try_geometry() {
+            Ok(geometry) => geometry,
+            Err(_) => unreachable!(),
+        }
+    }
 }

@@ -1,0 +1,9 @@
+mod Values
+mod KeyOrder
+mod Spacing
+mod FaultOrder
+mod Ranges
+mod NameOrder
+mod Validity
+mod Answering
+mod Stages

@@ -4,3 +4,4 @@ pub mod AtLemmas
 pub mod Written
 pub mod Parts
 pub mod WordLemmas
+pub mod ScheduleLengths

@@ -5,3 +5,4 @@ pub mod Written
 pub mod Parts
 pub mod WordLemmas
 pub mod ScheduleLengths
+pub mod ScheduleArrivals

@@ -6,3 +6,4 @@ pub mod Parts
 pub mod WordLemmas
 pub mod ScheduleLengths
 pub mod ScheduleArrivals
+pub mod ScheduleRows

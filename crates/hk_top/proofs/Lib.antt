@@ -7,3 +7,4 @@ pub mod WordLemmas
 pub mod ScheduleLengths
 pub mod ScheduleArrivals
 pub mod ScheduleRows
+pub mod ScheduleTurns

@@ -8,3 +8,4 @@ pub mod ScheduleLengths
 pub mod ScheduleArrivals
 pub mod ScheduleRows
 pub mod ScheduleTurns
+pub mod ScheduleKept

@@ -151,3 +151,7 @@ job_at sheet k lt =
 pub place_later : (sheet : Sheet) (i j m : ℕ) → place_of sheet i (j + m) ≡ place_of sheet i j + m
 unfolding place_of
 place_later sheet i j m = omega arith
+
+pub place_from : (sheet : Sheet) (i j : ℕ) → place_of sheet i j ≡ place_of sheet i 0 + j
+unfolding place_of
+place_from sheet i j = omega arith

@@ -100,7 +100,7 @@ module _ (sheet : Sheet) where
   course_first i lt = get_or-map (λ (task : High). no_course) sheet.high i (high_at sheet.high i) no_course lt
 
   -- no task is ready at a tick
-  pub NoTurn : (tick : ℕ) → Type 0
+  abbrev pub NoTurn : (tick : ℕ) → Type 0
   NoTurn tick = (i : ℕ) → i < length sheet.high → is_ready (high_at sheet.high i) (course_of sheet tick i) tick ≡ false
 
   -- the task at a place gets a tick
@@ -110,7 +110,7 @@ module _ (sheet : Sheet) where
     pub earlier : (j : ℕ) → j < i → is_ready (high_at sheet.high j) (course_of sheet tick j) tick ≡ false
 
   pub turn_is : (tick : ℕ) → MatchOption (turn_at sheet tick) (NoTurn tick) (GetsTurn tick)
-  unfolding NoTurn
+
   turn_is tick = by_turn (turn_at sheet tick) (due sheet.high (state sheet tick).courses tick (courses_length tick))
     where
       by_turn : (o : Option ℕ) → MatchOption o (NoneDue sheet.high (state sheet tick).courses tick) (FirstDue sheet.high (state sheet tick).courses tick) → MatchOption o (NoTurn tick) (GetsTurn tick)

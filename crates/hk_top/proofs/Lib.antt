@@ -9,3 +9,4 @@ pub mod ScheduleArrivals
 pub mod ScheduleRows
 pub mod ScheduleTurns
 pub mod ScheduleKept
+pub mod Schedule

@@ -10,3 +10,4 @@ pub mod ScheduleRows
 pub mod ScheduleTurns
 pub mod ScheduleKept
 pub mod Schedule
+pub mod ScheduleAdmitted

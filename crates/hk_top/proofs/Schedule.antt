@@ -1,23 +1,23 @@
 -- A run keeps to the schedule of the high jobs alone, and to the response times.
-use Rattle.std.proofs.Common.{◌≡◌, ℕ, zero, suc, ◌+◌, ◌-◌, ◌<◌, ◌≤◌, ◌↔◌, List, length, map, get_or, Option, Some, None, refl, sym, subst, ap, ◌∙◌, arith, inl, inr}
-use Rattle.std.proofs.lemmas.Bool.{cases_eq, cases_lt, cases_order}
+use Rattle.std.proofs.Common.{◌≡◌, ℕ, zero, suc, ◌+◌, ◌-◌, ◌<◌, ◌≤◌, ◌↔◌, List, length, map, Some, sym, subst, ap, ◌∙◌, arith, inl, inr}
+use Rattle.std.proofs.lemmas.Bool.{cases_lt, cases_order}
 use Rattle.std.proofs.lemmas.List.{length-map, get_or-map}
 use Rattle.std.specs.Prelude.{slice_index}
 use Rattle.std.specs.List.{AllByRecursion}
 use Rattle.hk_rta.specs.declared.Timing.{Timing}
-use Rattle.hk_rta.specs.Demand.{no_timing, timing_at, period_at, deadline_at}
+use Rattle.hk_rta.specs.Demand.{no_timing, timing_at, deadline_at}
 use Rattle.hk_rta.specs.Response.{Response}
 use Rattle.hk_plan.specs.Alone.{task_of, arrival_of, ticks_of, had_after, row_at, EndsAt}
 use Rattle.hk_plan.specs.Bounds.{KeepsTiming, EndsWithin}
 use Rattle.hk_plan.proofs.Bound.{response_bounds}
-use Rattle.hk_plan.proofs.Had.{had_more, had-le-had, had-le-ticks, gets_first, tick_for_cases, tick_for_other}
+use Rattle.hk_plan.proofs.Had.{had_more, tick_for_cases, tick_for_other}
 use Rattle.hk_sheet.specs.declared.sheet.High.{High}
 use Rattle.hk_sheet.specs.declared.sheet.Sheet.{Sheet}
 use Rattle.hk_sheet.specs.Valid.{IsSheet}
 use Rattle.hk_top.specs.Jobs.{rows, place_of, jobs_of, course_of, JobEndsAt, KeepsSchedule}
 use Rattle.hk_top.specs.Local.{AreOnVariables}
 use Rattle.hk_top.proofs.ScheduleKept.{IsInCost, Stands, stands, gets_is_under_way, high_is, row_task, row_length, row_apart}
-use Rattle.hk_top.proofs.ScheduleRows.{no_high, high_at, IsRow, row_is, JobAt, job_at, place_from}
+use Rattle.hk_top.proofs.ScheduleRows.{no_high, high_at, row_is, job_at, place_from}
 
 -- the times of high tasks, in their order
 abbrev pub times_of : List High → List Timing
@@ -96,8 +96,7 @@ module _ (sheet : Sheet) (valid : IsSheet sheet) (tasks : AreOnVariables sheet.h
   ends : (i j moment : ℕ) → i < count → j < jobs_of sheet i → moment ≤ sheet.ticks → JobEndsAt sheet i j moment ↔ EndsAt (rows sheet) (place_of sheet i j) moment
   ends i j zero lt listed le = (λ e. let some = e.some in absurd (omega (arith, some)), λ e. let later = e.later in absurd (omega (arith, later)))
   ends i j (suc t) lt listed le =
-      let back : suc t - 1 ≡ t = omega arith in
-      (
+      let back : suc t - 1 ≡ t = omega arith in (
         λ e. end_is_last t i j (omega (arith, le)) lt listed (ap (λ u. (course_of sheet u i).job) (sym back) ∙ e.before) e.after,
         λ e.
             let both = last_is_end t i j (omega (arith, le)) lt listed (ap (row_at (rows sheet)) (sym back) ∙ e.last) e.whole in

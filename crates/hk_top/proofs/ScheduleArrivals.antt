@@ -1,11 +1,11 @@
 -- The jobs of a task that arrive in a run: how many they are, when they arrive, and that they are a gap apart.
-use Rattle.std.proofs.Common.{◌≡◌, ℕ, zero, suc, ◌+◌, ◌-◌, ◌*◌, ◌^◌, ◌<◌, ◌≤◌, Bool, true, false, cond, List, [], ◌∷◌, length, map, get_or, Option, Some, None, refl, sym, subst, ap, ◌∙◌, arith, inl, inr}
-use Rattle.std.proofs.lemmas.Bool.{both_ways, cases_Bool, cases_lt, cond-true, cond-false, eqb-true, leb-true, le-leb, lt-ltb, ltb-false, true≢false}
+use Rattle.std.proofs.Common.{◌≡◌, ℕ, zero, suc, ◌+◌, ◌-◌, ◌*◌, ◌^◌, ◌<◌, ◌≤◌, Bool, true, false, List, [], ◌∷◌, length, get_or, Some, None, refl, sym, subst, ap, ◌∙◌, arith}
+use Rattle.std.proofs.lemmas.Bool.{cond-true, cond-false, leb-true, le-leb, lt-ltb, true≢false}
 use Rattle.std.proofs.lemmas.Grind.{div_ceil_times}
 use Rattle.std.proofs.lemmas.List.FromFn.{get_or-map-range_with_len, length-map-range_with_len}
 use Rattle.std.proofs.Math.Nat.{mul-le-mul_right}
-use Rattle.std.specs.Prelude.{nat_le, nat_lt, slice_get, filter}
-use Rattle.std.specs.List.{range_with_len, AllByRecursion}
+use Rattle.std.specs.Prelude.{nat_lt, slice_get, filter}
+use Rattle.std.specs.List.{AllByRecursion}
 use Rattle.hk_rta.specs.Demand.{starts_in}
 use Rattle.hk_plan.proofs.Arrivals.{starts_above}
 use Rattle.hk_sheet.specs.declared.arrivals.Arrivals.{Arrivals}
@@ -61,7 +61,7 @@ every_has horizon t first step job some lt few is =
     let before = is.come in
     let come : first + job * step ≤ t = omega (arith, before, every_at horizon first step job listed) in
     let there : arrival_of (Every first step) job ≡ Some (first + job * step) =
-        cond-true (nat_lt (first + job * step) (2 ^ 64)) (Some (first + job * step)) None (every_small horizon t first step job lt few come) in
+    cond-true (nat_lt (first + job * step) (2 ^ 64)) (Some (first + job * step)) None (every_small horizon t first step job lt few come) in
     ap (λ o. has_arrived o t) there ∙ le-leb (first + job * step) t come
 
 every_apart : (horizon first step gap i j : ℕ) → gap ≤ step → i < j → j < length (arrivals_before horizon (Every first step))

@@ -1,20 +1,20 @@
 -- How a run keeps to the schedule of the high jobs alone: the ticks of each row are those that its job has had.
-use Rattle.std.proofs.Common.{◌≡◌, ℕ, zero, suc, ◌+◌, ◌-◌, ◌<◌, ◌≤◌, Bool, true, false, cond, List, [], ◌∷◌, length, get_or, Option, Some, None, MatchOption, refl, sym, subst, ap, ◌∙◌, arith, inl, inr}
-use Rattle.std.proofs.lemmas.Bool.{both_ways, cases_Bool, cases_eq, cases_lt, cases_order, cond-true, cond-false}
+use Rattle.std.proofs.Common.{◌≡◌, ℕ, zero, suc, ◌+◌, ◌<◌, ◌≤◌, Bool, true, false, List, [], ◌∷◌, length, get_or, Option, Some, None, MatchOption, refl, sym, subst, ap, ◌∙◌, arith, inl, inr}
+use Rattle.std.proofs.lemmas.Bool.{both_ways, cases_eq, cases_lt, cases_order, cond-true, cond-false}
 use Rattle.std.specs.List.{AllByRecursion}
 use Rattle.hk_plan.specs.declared.Row.{Row}
-use Rattle.hk_plan.specs.Alone.{task_of, arrival_of, ticks_of, tick_for, had_after, row_at, IsReady, IsIdle, ComesFirst, GoesFirst}
+use Rattle.hk_plan.specs.Alone.{task_of, arrival_of, ticks_of, had_after, row_at, IsReady, ComesFirst, GoesFirst}
 use Rattle.hk_plan.proofs.Had.{each_tick_follows_order, had_more, had_none, tick_for_same, tick_for_other, tick_for_nobody}
 use Rattle.hk_script.specs.Cost.{greatest_ticks}
 use Rattle.hk_sheet.specs.declared.sheet.High.{High}
 use Rattle.hk_sheet.specs.declared.sheet.Sheet.{Sheet}
 use Rattle.hk_sheet.specs.Valid.{IsHigh, IsSheet}
-use Rattle.hk_top.specs.Session.{Standing, Course, no_course, at_start, is_over, ticked, is_ready, next_job, gone_on, course_after, turn_at}
+use Rattle.hk_top.specs.Session.{Standing, Course, at_start, is_over, ticked, is_ready, next_job, course_after, turn_at}
 use Rattle.hk_top.specs.Jobs.{standing_after, length_of, rows, place_of, jobs_of, course_of}
 use Rattle.hk_top.specs.Local.{IsOnVariables, AreOnVariables}
-use Rattle.hk_top.proofs.ScheduleArrivals.{HasCome, come_from, come-true, arrivals_apart}
-use Rattle.hk_top.proofs.ScheduleLengths.{IsLength, length_is}
-use Rattle.hk_top.proofs.ScheduleRows.{no_high, high_at, arrivals_at, count_is, IsRow, row_is, JobAt, job_at, place_from}
+use Rattle.hk_top.proofs.ScheduleArrivals.{come_from, come-true, arrivals_apart}
+use Rattle.hk_top.proofs.ScheduleLengths.{length_is}
+use Rattle.hk_top.proofs.ScheduleRows.{no_high, high_at, arrivals_at, count_is, row_is, JobAt, job_at, place_from}
 use Rattle.hk_top.proofs.ScheduleTurns.{course_first, NoTurn, GetsTurn, turn_is, course_idle, course_given, course_other}
 
 -- what holds of each element holds of the one at a place
@@ -284,12 +284,12 @@ module _ (sheet : Sheet) (valid : IsSheet sheet) (tasks : AreOnVariables sheet.h
                 (stands_own t i c turn.within its.listed (all i turn.within)
                 (omega (arith, had_more all_rows t (spot i c.job), tick_for_same (row_at all_rows t) (spot i c.job) goes))
                 (λ j listed other.
-                    let apart : spot i c.job ≡ spot i j → ⊥ = λ eq. other (omega (arith, eq, place_from sheet i c.job, place_from sheet i j)) in
-                    omega (arith, had_more all_rows t (spot i j), tick_for_other (row_at all_rows t) (spot i c.job) (spot i j) goes apart))))
+                let apart : spot i c.job ≡ spot i j → ⊥ = λ eq. other (omega (arith, eq, place_from sheet i c.job, place_from sheet i j)) in
+                omega (arith, had_more all_rows t (spot i j), tick_for_other (row_at all_rows t) (spot i c.job) (spot i j) goes apart))))
             | inr other ↦ subst (Stands (suc t) m) (sym (course_other sheet t i m e other))
                 (stands_same t m (course_of sheet t m) (all m lt) (λ j listed.
-                    let apart : spot i c.job ≡ spot m j → ⊥ = λ eq. other (let k = ap (λ k. task_of all_rows k) eq in omega (arith, k, own, row_task m j lt listed)) in
-                    omega (arith, had_more all_rows t (spot m j), tick_for_other (row_at all_rows t) (spot i c.job) (spot m j) goes apart)))
+                let apart : spot i c.job ≡ spot m j → ⊥ = λ eq. other (let k = ap (λ k. task_of all_rows k) eq in omega (arith, k, own, row_task m j lt listed)) in
+                omega (arith, had_more all_rows t (spot m j), tick_for_other (row_at all_rows t) (spot i c.job) (spot m j) goes apart)))
           ]
 
   stands_first : AllStand 0

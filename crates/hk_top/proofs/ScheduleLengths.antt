@@ -1,17 +1,15 @@
 -- How many ticks a job takes whose script works on variables alone: the fewest after which it is over. They are at most the
 -- script's cost.
-use Rattle.std.proofs.Common.{◌≡◌, ℕ, zero, suc, ◌+◌, ◌<◌, ◌≤◌, Bool, true, false, cond, List, [], ◌∷◌, ◌++◌, length, Option, Some, None, IfSome, IsSomeAnd, MatchOption, refl, sym, subst, ap, ◌∙◌, arith, inl, inr}
-use Rattle.std.proofs.lemmas.Bool.{both_ways, cases_Bool, cases_eq, cond-true, cond-false, eqb-true, eqb-false, ltb-true, ltb-false, true≢false}
+use Rattle.std.proofs.Common.{◌≡◌, ℕ, zero, suc, ◌+◌, ◌<◌, ◌≤◌, Bool, true, false, List, [], ◌∷◌, ◌++◌, length, Option, Some, None, IfSome, IsSomeAnd, MatchOption, refl, sym, subst, ap, ◌∙◌, arith, inl, inr}
+use Rattle.std.proofs.lemmas.Bool.{cases_Bool, cases_eq, cond-true, cond-false, eqb-true, eqb-false, ltb-true, ltb-false, true≢false}
 use Rattle.std.specs.Prelude.{nat_lt, slice_get, unwrap_or, is_some}
 use Rattle.std.specs.List.{find, range_with_len, AllByRecursion}
-use Rattle.hk_words.specs.declared.call.Call.TheVariants as call
 use Rattle.hk_words.specs.declared.call.Reply.{Reply}
 use Rattle.hk_words.specs.declared.call.Reply.TheVariants.{Unit as NoValue}
 use Rattle.hk_script.specs.declared.statement.Statement.{Statement}
 use Rattle.hk_script.specs.declared.statement.Statement.TheVariants as statement
 use Rattle.hk_script.specs.declared.statement.Test.TheVariants as test
 use Rattle.hk_script.specs.declared.walk.Need.{Need}
-use Rattle.hk_script.specs.declared.walk.Need.TheVariants as need
 use Rattle.hk_script.specs.declared.walk.Walk.{Walk}
 use Rattle.hk_script.specs.Blocks.{IsScript}
 use Rattle.hk_script.specs.Cost.{greatest_ticks}
@@ -21,7 +19,7 @@ use Rattle.hk_script.specs.Walks.{started, need_in, need_at, need_of, walk_after
 use Rattle.hk_script.proofs.Potential.{ticks_within}
 use Rattle.hk_script.proofs.Stops.{keeps_fitting, started_fits, wants_until_end}
 use Rattle.hk_sheet.specs.declared.sheet.High.{High}
-use Rattle.hk_top.specs.Session.{Standing, at_start, is_over, passed, ticked_in, ticked}
+use Rattle.hk_top.specs.Session.{Standing, is_over, passed, ticked_in, ticked}
 use Rattle.hk_top.specs.Jobs.{standing_after, length_of}
 use Rattle.hk_top.specs.Local.{IsLocal, IsOnVariables}
 use Rattle.hk_top.proofs.Needs.{need_local, answered}

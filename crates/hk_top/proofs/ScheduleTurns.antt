@@ -1,10 +1,10 @@
 -- Who gets a tick of a run, and what the courses are after it.
-use Rattle.std.proofs.Common.{◌≡◌, ℕ, zero, suc, ◌+◌, ◌<◌, ◌≤◌, Bool, true, false, List, [], ◌∷◌, length, map, get_or, Option, Some, None, MatchOption, option_map, refl, sym, subst, ap, ◌∙◌, arith, inl, inr}
-use Rattle.std.proofs.lemmas.Bool.{cases_Bool, cases_eq, cond-true, cond-false}
+use Rattle.std.proofs.Common.{◌≡◌, ℕ, zero, suc, ◌<◌, true, false, List, [], ◌∷◌, length, get_or, Option, Some, None, MatchOption, option_map, refl, sym, subst, ap, ◌∙◌, arith, inl, inr}
+use Rattle.std.proofs.lemmas.Bool.{cases_Bool, cond-true, cond-false}
 use Rattle.std.proofs.lemmas.List.{length-map, get_or-map}
 use Rattle.hk_sheet.specs.declared.sheet.High.{High}
 use Rattle.hk_sheet.specs.declared.sheet.Sheet.{Sheet}
-use Rattle.hk_top.specs.Session.{Course, no_course, is_ready, course_after, Session, first_ready, given_to, after_tick, turn, turn_at, state}
+use Rattle.hk_top.specs.Session.{Course, no_course, is_ready, course_after, Session, first_ready, given_to, after_tick, turn_at, state}
 use Rattle.hk_top.specs.Jobs.{course_of}
 use Rattle.hk_top.proofs.ScheduleRows.{high_at}
 
@@ -110,7 +110,6 @@ module _ (sheet : Sheet) where
     pub earlier : (j : ℕ) → j < i → is_ready (high_at sheet.high j) (course_of sheet tick j) tick ≡ false
 
   pub turn_is : (tick : ℕ) → MatchOption (turn_at sheet tick) (NoTurn tick) (GetsTurn tick)
-
   turn_is tick = by_turn (turn_at sheet tick) (due sheet.high (state sheet tick).courses tick (courses_length tick))
     where
       by_turn : (o : Option ℕ) → MatchOption o (NoneDue sheet.high (state sheet tick).courses tick) (FirstDue sheet.high (state sheet tick).courses tick) → MatchOption o (NoTurn tick) (GetsTurn tick)

@@ -11,3 +11,8 @@ pub mod ScheduleTurns
 pub mod ScheduleKept
 pub mod Schedule
 pub mod ScheduleAdmitted
+pub mod ReportLemmas
+pub mod TickLemmas
+pub mod Three
+pub mod SheetLemmas
+pub mod ReportParts

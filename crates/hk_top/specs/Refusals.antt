@@ -63,7 +63,7 @@ sheet_words (sheet.Script task error) = codes "script" ∷ task ∷ script_words
 sheet_words (sheet.Geometry error) = codes "geometry" ∷ geometry_word error ∷ []
 sheet_words sheet.Memory = []
 
-unfoldable pub sheet_line : SheetError → List ℕ
+abbrev pub sheet_line : SheetError → List ℕ
 sheet_line error = line (codes "sheet" ∷ sheet_words error)
 
 -- a number that may be too large to be told
@@ -94,5 +94,5 @@ refused_words (refused.Rate have need) = have_words (codes "rate have") have nee
 refused_words (refused.Reserve have need) = have_words (codes "reserve have") have need
 refused_words refused.Memory = []
 
-unfoldable pub refused_line : Refused → List ℕ
+abbrev pub refused_line : Refused → List ℕ
 refused_line why = line (codes "refused" ∷ refused_words why)

@@ -52,8 +52,8 @@ fn write_high_tasks<K: Sink>(
     ensures prefix { OnErr result (AppendsPrefix (K.taken sink.old) (K.taken sink.new) (gather.old ++ high_lines tasks.now responses.now)) }
     ensures cause { HasCause (K.faults sink.old) (K.faults sink.new) result }
 {
-    for (task, response) in tasks.iter().zip(responses) {
-        let line = high_line(bytes_of(&task.name), *response, task.timing.deadline);
+    for (place, task) in tasks.iter().enumerate() {
+        let line = high_line(bytes_of(&task.name), responses[place], task.timing.deadline);
         gather.push(sink, line.bytes())?;
     }
     Ok(())
@@ -131,7 +131,8 @@ fn write_done<K: Sink>(
     ensures prefix { OnErr result (AppendsPrefix (K.taken sink.old) (K.taken sink.new) (gather.old ++ flat_map line_of_course (zip tasks.now (map course_of ended.now)))) }
     ensures cause { HasCause (K.faults sink.old) (K.faults sink.new) result }
 {
-    for (task, at) in tasks.iter().zip(ended) {
+    for (place, task) in tasks.iter().enumerate() {
+        let at = ended[place];
         let line = done_line(bytes_of(&task.name), at.job, at.latest);
         gather.push(sink, line.bytes())?;
     }

@@ -1,5 +1,5 @@
 //! The run of the high tasks of a sheet, tick by tick. Their scripts work on variables alone.
-ghost use Rattle.std.specs.Prelude.{◌≡◌, ◌↔◌, ℕ, ◌+◌, ◌<◌, ◌≤◌, true, Some, IsTrue, IfOk, IsSomeAnd};
+ghost use Rattle.std.specs.Prelude.{◌≡◌, ◌+◌, ◌<◌, ◌≤◌, true, Some, length, IfOk, IfSome, IsSomeAnd};
 ghost use Rattle.hk_script.specs.Runs.{need_ticks};
 ghost use Rattle.hk_script.specs.Walks.{need_of};
 ghost use Rattle.hk_sheet.specs.Arrivals.{arrival_of};
@@ -25,7 +25,8 @@ impl Output {
 
     /// What the task at a place put out, if anything.
     fn of(place: usize, value: Option<u64>) -> Option<Output>
-        ensures { result ≡ placed place value }
+        ensures value { result ≡ placed place value }
+        ensures place { IfSome result (λ output. output.place ≡ place) }
     {
         match value {
             Some(value) => Some(Output { place, value }),
@@ -187,6 +188,7 @@ impl Run {
         requires few { sheet.now.ticks ≤ MAX_TICKS }
         requires at { IsAt sheet.now tick self.old }
         ensures output { result ≡ output_at sheet.now tick }
+        ensures within { IfSome result (λ output. output.place < length sheet.now.high) }
         ensures at { IsAt sheet.now (tick + 1) self.new }
     {
         let Some(place) = first_ready(&self.tasks, tick) else {

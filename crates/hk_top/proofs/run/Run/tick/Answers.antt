@@ -1,6 +1,7 @@
 -- What a tick comes to, by who gets it.
-use Rattle.std.proofs.Common.{◌≡◌, ℕ, ◌+◌, ◌*◌, ◌<◌, List, length, get_or, Option, Some, None, refl, sym, ap, ◌∙◌, subst, arith, option_map}
+use Rattle.std.proofs.Common.{◌≡◌, ℕ, ◌+◌, ◌*◌, ◌<◌, List, length, get_or, Option, Some, None, IfSome, refl, sym, ap, ◌∙◌, subst, arith, option_map}
 use Rattle.hk_sheet.specs.declared.sheet.High.{High}
+use Rattle.hk_top.specs.declared.run.Output.{Output}
 use Rattle.hk_top.specs.declared.run.TaskRun.{TaskRun}
 use Rattle.hk_top.specs.Local.{IsOnVariables, AreOnVariables}
 use Rattle.hk_top.specs.Session.{output_of, course_after}
@@ -20,6 +21,10 @@ within_high tick place hs high es tasks kept same tasks_are found =
     let l = kept_length tick hs es kept in
     let e = ap length same in
     omega (arith, w, l, e)
+
+within_all : (o : Option Output) (place n : ℕ) → place < n → IfSome o (λ output. output.place ≡ place) → IfSome o (λ output. output.place < n)
+within_all None place n within is = tt
+within_all (Some output) place n within is = omega (arith, within, is)
 
 pub returns-in_default-clause-output : goal.returns-in_default-clause-output
 returns-in_default-clause-output c =
@@ -78,7 +83,7 @@ returns-clause-output c =
     let place = c.in-Some.place in
     let found = c.in-Some.ensures ∙ ap (λ t. first_due t c.args.tick) c.deref.ensures.value in
     let task = c.index-high_tasks-place.is ∙ ap (λ t. get_or t place h) c.high_tasks.ensures in
-    c.of.ensures
+    c.of.ensures.value
     ∙ output-given c.args.sheet.now c.args.tick c.args.self.now c.requires.at place c.tick-value.result r h found
     (c.tick-value.ensures.output ∙ ap (λ t. output_of t.script (course_of r).at) task
         ∙ ap (λ e. output_of (get_or c.args.sheet.now.high place h).script (course_of e).at) c.index_mut.ensures.value)
@@ -96,3 +101,10 @@ returns-clause-at c =
     (c.tick-value.ensures.course ∙ ap (λ t. course_after t (course_of r) tick) task
         ∙ ap (λ e. course_after (get_or c.args.sheet.now.high place h) (course_of e) tick) c.index_mut.ensures.value)
     (subst (λ t. IsKept (tick + 1) t x) task c.tick-value.ensures.kept)
+
+pub returns-clause-within : goal.returns-clause-within
+returns-clause-within c =
+    let inside = within_high c.args.tick c.in-Some.place c.args.sheet.now.high c.high_tasks.result.now c.args.self.now.tasks.items c.deref.result.now
+    c.requires.at.kept c.high_tasks.ensures c.deref.ensures.value c.in-Some.ensures in
+    let same = ap length c.high_tasks.ensures in
+    within_all c.of.result c.in-Some.place (length c.args.sheet.now.high) (omega (arith, inside, same)) c.of.ensures.place

@@ -4,6 +4,13 @@ pub mod AtLemmas
 pub mod Written
 pub mod Parts
 pub mod WordLemmas
+pub mod ScheduleLengths
+pub mod ScheduleArrivals
+pub mod ScheduleRows
+pub mod ScheduleTurns
+pub mod ScheduleKept
+pub mod Schedule
+pub mod ScheduleAdmitted
 pub mod ReportLemmas
 pub mod TickLemmas
 pub mod Three

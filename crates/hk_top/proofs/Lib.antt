@@ -17,4 +17,3 @@ pub mod Three
 pub mod SheetLemmas
 pub mod ReportParts
 pub mod ToolLemmas
-pub mod KeepsSchedule

@@ -22,6 +22,7 @@ use Rattle.hk_admit.proofs.Excluded.{admitted_excludes}
 use Rattle.hk_top.specs.Refusals.{sheet_line, refused_line}
 use Rattle.hk_top.specs.Tool.{IsRun, is_unbuilt, IsSheetOf, IsUnread, too_long, no_sheet, IsNotAdmitted, IsNotBuilt, IsReport, BytesCallFor, CallsFor, HasText, Writes, WritesPrefix, AdmittedCallsFor, EndsBy}
 use Rattle.hk_top.specs.Words.{Puts}
+use Rattle.hk_top.proofs.ScheduleAdmitted.{admitted_keeps_schedule}
 
 -- ENDS
 
@@ -77,7 +78,7 @@ module _ (Calls : Status → List ℕ → Type 0) (before after : Option (List �
 
 -- an admitted sheet of these bytes
 pub admitted_calls : (bytes : List ℕ) (a : Admitted) → IsSheetOf bytes a.checked.sheet → (s : Status) (t : List ℕ) → AdmittedCallsFor a s t → BytesCallFor bytes s t
-admitted_calls bytes a is status.Done t called = record { admitted = a; is = is; built = called.0; text_is = called.1 }
+admitted_calls bytes a is status.Done t called = record { admitted = a; is = is; built = called.0; keeps = admitted_keeps_schedule a called.0; text_is = called.1 }
 admitted_calls bytes a is status.Memory t called = absurd called
 admitted_calls bytes a is status.Usage t called = absurd called
 admitted_calls bytes a is status.ReadFault t called = absurd called

@@ -18,6 +18,7 @@ use Rattle.hk_admit.specs.declared.checked.Admitted.{Admitted}
 use Rattle.hk_admit.specs.declared.refused.Refused.{Refused}
 use Rattle.hk_admit.specs.declared.refused.Refused.TheVariants as refused
 use Rattle.hk_admit.specs.Refusals.{IsRefusal}
+use Rattle.hk_top.specs.Jobs.{KeepsSchedule}
 use Rattle.hk_top.specs.Local.{uses_heap}
 use Rattle.hk_top.specs.Refusals.{usage_line, long_line, not_built_line, sheet_line, refused_line}
 use Rattle.hk_top.specs.Report.{report}
@@ -64,11 +65,15 @@ pub record IsNotBuilt (bytes : List ℕ) (text : List ℕ) : Type 0 where
   pub unbuilt : is_unbuilt admitted.checked.sheet ≡ true
   pub text_is : text ≡ not_built_line
 
--- the report of bytes that are an admitted sheet whose run is built
+-- the report of bytes that are an admitted sheet whose run is built. The run that it tells of keeps to the analysis that it
+-- prints: each job ends exactly when a schedule of the high jobs alone ends it, and within the printed response of its
+-- task. By what `Admitted` keeps, that response is the least solution of the response-time equation and at most the
+-- deadline, and the printed busy period is the least
 pub record IsReport (bytes : List ℕ) (text : List ℕ) : Type 0 where
   pub admitted : Admitted
   pub is : IsSheetOf bytes admitted.checked.sheet
   pub built : is_unbuilt admitted.checked.sheet ≡ false
+  pub keeps : KeepsSchedule admitted.checked.sheet admitted.responses
   pub text_is : text ≡ report admitted
 
 -- how the program ends on these bytes, where nothing fails, and what it writes; the first that holds in the order of the

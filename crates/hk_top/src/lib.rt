@@ -1,6 +1,7 @@
 //! The top call of the program: from its words and its input to what it writes and how it ends.
 #![tactic(auto)]
 
+mod laws;
 mod lines;
 mod refusals;
 mod report;
@@ -9,4 +10,5 @@ mod run;
 mod tests;
 mod tool;
 
+pub use laws::each_run_keeps_its_schedule;
 pub use tool::run_tool;

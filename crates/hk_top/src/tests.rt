@@ -156,7 +156,26 @@ fn edited(
 
 /// The ticks of a run; period, deadline, cost, first and every of its task; the script; and the report behind the
 /// line on the heap's work.
-const RUNS: &[(u64, u64, u64, u64, u64, u64, &str, &str)] = &[
+type RunCase = (u64, u64, u64, u64, u64, u64, &'static str, &'static str);
+
+/// Runs sheets of one task, and compares their reports with the wanted ones.
+fn expect_runs(rt: &impl Abort, alloc: Global, cases: &[RunCase]) -> Result<(), AllocError> {
+    for (ticks, period, deadline, cost, first, every, script, report) in cases {
+        let head = format!(in alloc;
+            "version = 1\nticks = {ticks}\n[heap]\nlive = 62\nalloc = 512\nreserve = 129\nrate = 11\nboard = [2, 2]\n[[high]]\nname = \"a\"\n"
+        )?;
+        let times = format!(in alloc;
+            "period = {period}\ndeadline = {deadline}\ncost = {cost}\nwords = 0\nfirst = {first}\nevery = {every}\n"
+        )?;
+        let input = format!(in alloc; "{head}{times}script = \"{script}\"\n")?;
+        let text = format!(in alloc; "heap work 4179 attempt 0 {report}")?;
+        expect_run(rt, alloc, input.as_str(), Status::Done, text.as_str())?;
+    }
+    Ok(())
+}
+
+/// Runs of one script, up to several horizons.
+const HORIZONS: &[RunCase] = &[
     (
         10,
         10,
@@ -239,6 +258,16 @@ const RUNS: &[(u64, u64, u64, u64, u64, u64, &str, &str)] = &[
         "work 1\\nout v0",
         "busy 2 debt 0\nhigh a response 2 deadline 10\nout 1 a 0\nout 11 a 0\nout 21 a 0\ndone a jobs 3 latest 2\ncycles 0 collector 0 idle 19\nend 25\n",
     ),
+];
+
+#[test]
+fn runs_up_to_the_horizon(rt: HostRuntime) -> Result<(), Fail> {
+    expect_runs(&rt, rt.alloc(), HORIZONS)?;
+    Ok(())
+}
+
+/// Runs of one script, by other arrivals, costs and deadlines.
+const TIMES: &[RunCase] = &[
     // The first job comes later, at the last tick, at the horizon, and far beyond it.
     (
         10,
@@ -332,6 +361,16 @@ const RUNS: &[(u64, u64, u64, u64, u64, u64, &str, &str)] = &[
         "work 1\\nout v0",
         "busy 2 debt 0\nhigh a response 2 deadline 2\nout 1 a 0\ndone a jobs 1 latest 2\ncycles 0 collector 0 idle 8\nend 10\n",
     ),
+];
+
+#[test]
+fn runs_jobs_as_they_arrive(rt: HostRuntime) -> Result<(), Fail> {
+    expect_runs(&rt, rt.alloc(), TIMES)?;
+    Ok(())
+}
+
+/// Runs of jobs that leave few ticks to nobody.
+const JOBS: &[RunCase] = &[
     // Each tick is a job; jobs one behind the other; a job cut behind two that ended.
     (
         4,
@@ -373,6 +412,16 @@ const RUNS: &[(u64, u64, u64, u64, u64, u64, &str, &str)] = &[
         "work 1\\nout v0",
         "busy 2 debt 0\nhigh a response 2 deadline 4\nout 2 a 0\nout 6 a 0\ndone a jobs 2 latest 2\ncycles 0 collector 0 idle 5\nend 10\n",
     ),
+];
+
+#[test]
+fn runs_jobs_one_behind_the_other(rt: HostRuntime) -> Result<(), Fail> {
+    expect_runs(&rt, rt.alloc(), JOBS)?;
+    Ok(())
+}
+
+/// Runs of other scripts.
+const SCRIPTS: &[RunCase] = &[
     // Longer scripts.
     (
         10,
@@ -458,8 +507,26 @@ const RUNS: &[(u64, u64, u64, u64, u64, u64, &str, &str)] = &[
     ),
 ];
 
+#[test]
+fn runs_other_scripts(rt: HostRuntime) -> Result<(), Fail> {
+    expect_runs(&rt, rt.alloc(), SCRIPTS)?;
+    Ok(())
+}
+
 /// A part of the smallest sheet, what stands in its place, how the run ends, and what is written.
-const EDITS: &[(&str, &str, Status, &str)] = &[
+type Edit = (&'static str, &'static str, Status, &'static str);
+
+/// Runs the smallest sheet with a part changed, and compares how it ends and what it writes.
+fn expect_edits(rt: &impl Abort, alloc: Global, edits: &[Edit]) -> Result<(), AllocError> {
+    for (old, new, status, text) in edits {
+        let input = edited(rt, alloc, SMALLEST, old, new)?;
+        expect_run(rt, alloc, input.as_str(), *status, text)?;
+    }
+    Ok(())
+}
+
+/// Sheets that are run.
+const ANSWERED: &[Edit] = &[
     // The work of a collector's cycle is 37 + 9 * live + 7 * alloc.
     (
         "live = 62",
@@ -507,6 +574,16 @@ const EDITS: &[(&str, &str, Status, &str)] = &[
         Status::Done,
         "heap work 4179 attempt 0 busy 2 debt 0\nhigh a response 2 deadline 10\ndone a jobs 0 latest 0\ncycles 0 collector 0 idle 10\nend 10\n",
     ),
+];
+
+#[test]
+fn runs_edited_sheets(rt: HostRuntime) -> Result<(), Fail> {
+    expect_edits(&rt, rt.alloc(), ANSWERED)?;
+    Ok(())
+}
+
+/// Keys and values that are refused.
+const KEYS: &[Edit] = &[
     // No TOML, a missing key, an unknown one, another kind, and out of range.
     (
         "script = \"\"\"",
@@ -569,6 +646,16 @@ const EDITS: &[(&str, &str, Status, &str)] = &[
         Status::Sheet,
         "sheet range high[0].deadline\n",
     ),
+];
+
+#[test]
+fn refuses_keys_and_values(rt: HostRuntime) -> Result<(), Fail> {
+    expect_edits(&rt, rt.alloc(), KEYS)?;
+    Ok(())
+}
+
+/// Names, arrivals and scripts that are refused.
+const NAMES_AND_SCRIPTS: &[Edit] = &[
     // Names and arrivals.
     (
         "name = \"a\"",
@@ -632,6 +719,16 @@ const EDITS: &[(&str, &str, Status, &str)] = &[
         Status::Sheet,
         "sheet script a empty\n",
     ),
+];
+
+#[test]
+fn refuses_names_and_scripts(rt: HostRuntime) -> Result<(), Fail> {
+    expect_edits(&rt, rt.alloc(), NAMES_AND_SCRIPTS)?;
+    Ok(())
+}
+
+/// Heaps that are none.
+const GEOMETRIES: &[Edit] = &[
     // The geometry: odd, small, large, a reserve above what there is, and a board without fields.
     (
         "live = 62",
@@ -658,6 +755,16 @@ const EDITS: &[(&str, &str, Status, &str)] = &[
         "sheet geometry reserve\n",
     ),
     ("[2, 2]", "[0, 0]", Status::Sheet, "sheet geometry board\n"),
+];
+
+#[test]
+fn refuses_geometries(rt: HostRuntime) -> Result<(), Fail> {
+    expect_edits(&rt, rt.alloc(), GEOMETRIES)?;
+    Ok(())
+}
+
+/// Sheets that aren't admitted, and the neighbour of one that is.
+const ADMISSIONS: &[Edit] = &[
     // What isn't admitted. The collector does 11 * (512 - reserve) events before the words outside the reserve are taken.
     (
         "cost = 2",
@@ -697,6 +804,16 @@ const EDITS: &[(&str, &str, Status, &str)] = &[
         Status::NotAdmitted,
         "refused words a need 3 declared 2\n",
     ),
+];
+
+#[test]
+fn refuses_what_is_not_admitted(rt: HostRuntime) -> Result<(), Fail> {
+    expect_edits(&rt, rt.alloc(), ADMISSIONS)?;
+    Ok(())
+}
+
+/// Sheets whose run isn't built.
+const ON_THE_HEAP: &[Edit] = &[
     // A statement on the heap.
     ("out v0", "clear r1", Status::NotBuilt, "not built\n"),
     (
@@ -714,26 +831,17 @@ const EDITS: &[(&str, &str, Status, &str)] = &[
 ];
 
 #[test]
+fn refuses_statements_on_the_heap(rt: HostRuntime) -> Result<(), Fail> {
+    expect_edits(&rt, rt.alloc(), ON_THE_HEAP)?;
+    Ok(())
+}
+
+#[test]
 fn runs_sheets(rt: HostRuntime) -> Result<(), Fail> {
     let alloc = rt.alloc();
     expect_run(&rt, alloc, SMALLEST, Status::Done, REPORT)?;
     expect_run(&rt, alloc, THREE, Status::Done, REPORT_OF_THREE)?;
     expect_run(&rt, alloc, "", Status::Sheet, "sheet missing version\n")?;
-    for (ticks, period, deadline, cost, first, every, script, report) in RUNS {
-        let head = format!(in alloc;
-            "version = 1\nticks = {ticks}\n[heap]\nlive = 62\nalloc = 512\nreserve = 129\nrate = 11\nboard = [2, 2]\n[[high]]\nname = \"a\"\n"
-        )?;
-        let times = format!(in alloc;
-            "period = {period}\ndeadline = {deadline}\ncost = {cost}\nwords = 0\nfirst = {first}\nevery = {every}\n"
-        )?;
-        let input = format!(in alloc; "{head}{times}script = \"{script}\"\n")?;
-        let text = format!(in alloc; "heap work 4179 attempt 0 {report}")?;
-        expect_run(&rt, alloc, input.as_str(), Status::Done, text.as_str())?;
-    }
-    for (old, new, status, text) in EDITS {
-        let input = edited(&rt, alloc, SMALLEST, old, new)?;
-        expect_run(&rt, alloc, input.as_str(), *status, text)?;
-    }
     Ok(())
 }
 
@@ -769,6 +877,12 @@ fn runs_tasks_in_their_order(rt: HostRuntime) -> Result<(), Fail> {
     )?;
     let input = edited(&rt, alloc, THREE, "name = \"c\"", "name = \"b\"")?;
     expect_run(&rt, alloc, input.as_str(), Status::Sheet, "sheet name 2\n")?;
+    Ok(())
+}
+
+#[test]
+fn runs_lists_of_arrivals(rt: HostRuntime) -> Result<(), Fail> {
+    let alloc = rt.alloc();
     // Lists of arrivals: the second job of a waits for nobody, and b is put off by it.
     let input = edited(
         &rt,
@@ -841,6 +955,12 @@ fn refuses_in_order(rt: HostRuntime) -> Result<(), Fail> {
         panic!(rt; "no task");
     };
     expect_run(&rt, alloc, head, Status::Sheet, "sheet geometry tasks\n")?;
+    Ok(())
+}
+
+#[test]
+fn admits_by_the_work_of_the_collector(rt: HostRuntime) -> Result<(), Fail> {
+    let alloc = rt.alloc();
     // A low task counts in the collector's work, and isn't run yet.
     let input = format!(in alloc; "{SMALLEST}{LOW}")?;
     expect_run(&rt, alloc, input.as_str(), Status::NotBuilt, "not built\n")?;
@@ -868,6 +988,12 @@ fn refuses_in_order(rt: HostRuntime) -> Result<(), Fail> {
     )?;
     let input = edited(&rt, alloc, makes.as_str(), "reserve = 129", "reserve = 7")?;
     expect_run(&rt, alloc, input.as_str(), Status::NotBuilt, "not built\n")?;
+    Ok(())
+}
+
+#[test]
+fn counts_statements(rt: HostRuntime) -> Result<(), Fail> {
+    let alloc = rt.alloc();
     // The most statements, and one more.
     let mut script = String::new(alloc);
     for _ in 0..1023 {
@@ -958,6 +1084,11 @@ fn leaves_a_prefix_where_a_write_fails(rt: HostRuntime) -> Result<(), Fail> {
     }
     let ended = run(rt.alloc(), &["run"], SMALLEST, (&[], &[1]), REPORT.len())?;
     assert_eq!(rt; ended.status, Status::Done);
+    Ok(())
+}
+
+#[test]
+fn leaves_a_prefix_of_a_refusal(rt: HostRuntime) -> Result<(), Fail> {
     // The line of a refusal.
     let input = edited(&rt, rt.alloc(), SMALLEST, "every = 10", "every = 9")?;
     let line = "sheet arrivals a 1 0 9\n";
@@ -969,6 +1100,11 @@ fn leaves_a_prefix_where_a_write_fails(rt: HostRuntime) -> Result<(), Fail> {
         assert!(rt; ended.sink.bytes().len() < line.len());
         assert!(rt; line.as_bytes().starts_with(ended.sink.bytes()));
     }
+    Ok(())
+}
+
+#[test]
+fn leaves_a_prefix_of_a_longer_report(rt: HostRuntime) -> Result<(), Fail> {
     // A longer report goes out in several pieces, each of them large.
     let input = edited(&rt, rt.alloc(), SMALLEST, "ticks = 10", "ticks = 40000")?;
     let whole = run(rt.alloc(), &["run"], input.as_str(), (&[], &[]), 65536)?;

@@ -34,11 +34,17 @@ pub enum Status {
     Done,
     /// There was no memory, before the first tick. Nothing was written.
     Memory,
+    /// The words are none that the program takes. One line was written.
+    Usage,
     /// The input could not be read. Nothing was written.
     ReadFault,
     /// The output could not be written. What was taken is a prefix of the text.
     WriteFault,
-    /// This form of input is not run yet. One line was written.
+    /// The input is too long, or no task sheet. One line was written.
+    Sheet,
+    /// The sheet is not admitted. One line was written.
+    NotAdmitted,
+    /// The sheet is admitted, and sheets like it aren't run yet. One line was written.
     NotBuilt,
 }
 
@@ -50,8 +56,11 @@ impl Status {
         match self {
             Status::Done => 0,
             Status::Memory => 1,
+            Status::Usage => 2,
             Status::ReadFault => 3,
             Status::WriteFault => 4,
+            Status::Sheet => 5,
+            Status::NotAdmitted => 6,
             Status::NotBuilt => 9,
         }
     }

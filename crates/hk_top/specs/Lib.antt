@@ -1,7 +1,9 @@
-pub mod Schedule
-pub mod Jobs
+pub mod Session
+pub mod Local
 pub mod Progress
-pub mod Periodic
 pub mod Text
+pub mod Words
+pub mod Refusals
 pub mod Report
+pub mod Jobs
 pub mod Tool

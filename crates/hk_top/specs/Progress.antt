@@ -1,62 +1,67 @@
--- Where the run of one periodic task stands.
-use Rattle.std.specs.Prelude.{◌≡◌, ℕ, ◌+◌, ◌-◌, ◌*◌, ◌<◌, ◌≤◌, ◌==◌, if◌then◌else◌, List, map, length, take, slice_index_or}
-use Rattle.std.specs.List.{range_with_len, AllByRecursion}
-use Rattle.hk_rta.specs.Demand.{starts_in}
-use Rattle.hk_plan.specs.declared.Row.{Row}
-use Rattle.hk_sheet.specs.declared.script.Statement.{Statement}
-use Rattle.hk_sheet.specs.declared.script.Statement.TheVariants.{Work}
-use Rattle.hk_sheet.specs.declared.sheet.TheConstants.{MAX_TICKS}
-use Rattle.hk_sheet.specs.Script.{ticks_of, ticks_of_statement, IsStatement}
-use Rattle.hk_top.specs.declared.progress.PeriodicTask.{PeriodicTask}
-use Rattle.hk_top.specs.declared.progress.Progress.{Progress}
-use Rattle.hk_top.specs.Schedule.{idle_in}
+-- Where the run of a sheet stands, as its code keeps it.
+use Rattle.std.specs.Prelude.{◌≡◌, ℕ, suc, ◌<◌, ◌≤◌, if◌then◌else◌, List, [], ◌∷◌, map, length, slice_index_or, Option, Some, None, option_map}
+use Rattle.hk_rta.specs.Demand.{no_timing}
+use Rattle.hk_script.specs.Walks.{Fits}
+use Rattle.hk_sheet.specs.declared.arrivals.Arrivals.TheVariants as arrivals
+use Rattle.hk_sheet.specs.declared.sheet.High.{High}
+use Rattle.hk_sheet.specs.declared.sheet.Sheet.{Sheet}
+use Rattle.hk_sheet.specs.Arrivals.{arrival_of}
+use Rattle.hk_top.specs.declared.run.Output.{Output}
+use Rattle.hk_top.specs.declared.run.Run.{Run}
+use Rattle.hk_top.specs.declared.run.TaskRun.{TaskRun}
+use Rattle.hk_top.specs.Session.{Course, Session, no_course, has_arrived, output_of, state, turn_at}
 
--- the ticks that a job of the task takes
-abbrev pub size_of : PeriodicTask → ℕ
-size_of task = ticks_of task.script.now
+-- a high task that has no script, which stands for a place where there is none
+abbrev pub no_task : High
+no_task = record { name = []; timing = no_timing; words = 0; arrivals = arrivals.List []; script = [] }
 
--- the jobs that arrive in the run, as rows of the schedule
-abbrev pub rows_of : PeriodicTask → List Row
-rows_of task = map (λ arrival. record { task = 0; arrival = arrival; ticks = size_of task })
-    (map (λ job. task.first + job * task.every) (range_with_len 0 (starts_in (task.ticks - task.first) task.every)))
+-- what a task has come to
+abbrev pub course_of : TaskRun → Course
+course_of at = record { job = at.job; at = record { walk = at.walk; spent = at.spent }; latest = at.latest }
 
--- the task's numbers are in range, its script does something, and a job ends before the next arrives
-pub record IsRight (task : PeriodicTask) : Type 0 where
-  pub ticks : task.ticks ≤ MAX_TICKS
-  pub first : task.first ≤ MAX_TICKS
-  pub every : task.every ≤ MAX_TICKS
-  pub some : 0 < length task.script.now
-  pub right : AllByRecursion IsStatement task.script.now
-  pub apart : size_of task ≤ task.every
+-- what a run has come to
+abbrev pub session_of : Run → Session
+session_of run = record { courses = map course_of run.tasks.items; idle = run.idle }
 
--- the statement at a place of the task's script
-abbrev pub statement_at : PeriodicTask → ℕ → Statement
-statement_at task place = slice_index_or task.script.now place (Work 0)
+-- a task within a run of at most so many ticks: the arrival that is kept is that of its job, which isn't over
+pub record IsKept (ticks : ℕ) (task : High) (at : TaskRun) : Type 0 where
+  pub arrival : at.arrival ≡ arrival_of task.arrivals at.job
+  pub fits : Fits task.script at.walk
+  pub within : at.walk.place < length task.script
+  pub jobs_few : at.job ≤ ticks
+  pub spent_few : at.spent ≤ ticks
 
--- the run stands so after this many ticks
-pub record IsAt (task : PeriodicTask) (ticks : ℕ) (at : Progress) : Type 0 where
-  pub arrival : at.arrival ≡ task.first + at.job * task.every
-  -- the job isn't over, and the one before it is
-  pub running : ticks < at.arrival + size_of task
-  pub ended : 0 < at.job → at.arrival + size_of task ≤ ticks + task.every
-  -- the statement takes so many ticks more
-  pub place : at.statement < length task.script.now
-  pub left_some : 1 ≤ at.left
-  pub left_few : at.left ≤ ticks_of_statement (statement_at task at.statement)
-  pub had : ticks_of (take at.statement task.script.now) + ticks_of_statement (statement_at task at.statement) ≡ (ticks - at.arrival) + at.left
-  pub latest : at.latest ≡ (if at.job == 0 then 0 else size_of task)
-  pub idle : at.idle ≡ idle_in (rows_of task) ticks
-  pub job_few : at.job ≤ at.arrival
-  pub idle_few : at.idle ≤ ticks
+-- so is each task, in the order of the sheet
+abbrev pub AreKept : (ticks : ℕ) → List High → List TaskRun → Type 0
+AreKept ticks [] [] = Unit {0}
+AreKept ticks (task ∷ tasks) (at ∷ rest) = IsKept ticks task at × AreKept ticks tasks rest
+AreKept ticks tasks rest = ⊥
 
--- the run stands so within this tick, which is the last of its statement
-pub record IsOver (task : PeriodicTask) (tick : ℕ) (at : Progress) : Type 0 where
-  pub arrival : at.arrival ≡ task.first + at.job * task.every
-  pub arrived : at.arrival ≤ tick
-  pub ended : 0 < at.job → at.arrival + size_of task ≤ tick + task.every
-  pub place : at.statement < length task.script.now
-  pub had : ticks_of (take at.statement task.script.now) + ticks_of_statement (statement_at task at.statement) ≡ tick + 1 - at.arrival
-  pub latest : at.latest ≡ (if at.job == 0 then 0 else size_of task)
-  pub idle : at.idle ≡ idle_in (rows_of task) (tick + 1)
-  pub job_few : at.job ≤ at.arrival
-  pub idle_few : at.idle ≤ tick
+-- a run of a sheet stands so after this many ticks
+pub record IsAt (sheet : Sheet) (ticks : ℕ) (run : Run) : Type 0 where
+  pub session : session_of run ≡ state sheet ticks
+  pub kept : AreKept ticks sheet.high run.tasks.items
+  pub idle_few : run.idle ≤ ticks
+
+-- what the task at a place put out, if anything
+abbrev pub placed : (place : ℕ) → Option ℕ → Option Output
+placed place value = option_map (λ v. record { place = place; value = v }) value
+
+-- what the task at a place puts out, if anything
+abbrev pub output_by : List High → List Course → ℕ → Option Output
+output_by tasks courses place =
+    placed place (output_of (slice_index_or tasks place no_task).script (slice_index_or courses place no_course).at)
+
+-- what the tick puts out that goes to the task at a place, or to nobody
+abbrev pub output_in : List High → List Course → Option ℕ → Option Output
+output_in tasks courses None = None
+output_in tasks courses (Some place) = output_by tasks courses place
+
+-- what a tick of the run puts out, if anything
+abbrev pub output_at : Sheet → (tick : ℕ) → Option Output
+output_at sheet tick = output_in sheet.high (state sheet tick).courses (turn_at sheet tick)
+
+-- the place of the first task that is ready at a tick
+abbrev pub first_due : List TaskRun → (tick : ℕ) → Option ℕ
+first_due [] tick = None
+first_due (at ∷ rest) tick = if has_arrived at.arrival tick then Some 0 else option_map suc (first_due rest tick)

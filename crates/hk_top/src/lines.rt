@@ -3,7 +3,7 @@ ghost use Rattle.std.specs.Prelude.{◌≡◌, ◌+◌, ◌≤◌, length};
 ghost use Rattle.hk_io.specs.Line.{with_word, with_number, with_end};
 ghost use Rattle.hk_io.specs.declared.line.TheConstants.{LINE_ROOM};
 ghost use Rattle.hk_sheet.specs.declared.sheet.TheConstants.{MAX_NAME};
-ghost use Rattle.hk_top.specs.Text.{heap_line, high_line, out_line, done_line, idle_line, end_line, not_built_line};
+ghost use Rattle.hk_top.specs.Text.{heap_line, high_line, low_line, out_line, done_line, cycles_line, end_line};
 
 use hk_io::Line;
 
@@ -17,7 +17,7 @@ fn add_word(line: &mut Line, bytes: &[u8])
 }
 
 /// Adds a number to a line that has room for 20 digits and a space.
-fn add_number(line: &mut Line, value: u64)
+pub fn add_number(line: &mut Line, value: u64)
     requires { length line.old + 21 ≤ LINE_ROOM }
     ensures added { line.new ≡ with_number line.old value }
     ensures room { length line.new ≤ length line.old + 21 }
@@ -25,7 +25,7 @@ fn add_number(line: &mut Line, value: u64)
     line.number(value);
 }
 
-/// Adds the newline to a line that has room for it.
+/// Ends a line that has room for the newline.
 fn end(line: &mut Line)
     requires { length line.old + 1 ≤ LINE_ROOM }
     ensures { line.new ≡ with_end line.old }
@@ -33,17 +33,21 @@ fn end(line: &mut Line)
     line.end();
 }
 
-/// The events of a collector's cycle at most, and the length of the busy period in ticks.
+/// The analysis of the heap: the most events of a collector's cycle, the most of an attempt that a job can spoil, the
+/// length of the busy period in ticks, and the most events that the collector is behind.
 #[tactic(auto, unfolding(crate::specs::Text::heap_line))]
-pub fn heap_line(work: u64, busy: u64) -> Line
-    ensures { result ≡ heap_line work busy }
+pub fn heap_line(work: u64, attempt: u64, busy: u64, debt: u64) -> Line
+    ensures { result ≡ heap_line work attempt busy debt }
 {
     let mut line = Line::new();
     add_word(&mut line, b"heap work");
     add_number(&mut line, work);
-    add_word(&mut line, b"attempt 0 busy");
+    add_word(&mut line, b"attempt");
+    add_number(&mut line, attempt);
+    add_word(&mut line, b"busy");
     add_number(&mut line, busy);
-    add_word(&mut line, b"debt 0");
+    add_word(&mut line, b"debt");
+    add_number(&mut line, debt);
     end(&mut line);
     line
 }
@@ -61,6 +65,19 @@ pub fn high_line(name: &[u8], response: u64, deadline: u64) -> Line
     add_number(&mut line, response);
     add_word(&mut line, b"deadline");
     add_number(&mut line, deadline);
+    end(&mut line);
+    line
+}
+
+/// A low task.
+#[tactic(auto, unfolding(crate::specs::Text::low_line))]
+pub fn low_line(name: &[u8]) -> Line
+    requires { length name.now ≤ MAX_NAME }
+    ensures { result ≡ low_line name.now }
+{
+    let mut line = Line::new();
+    add_word(&mut line, b"low");
+    add_word(&mut line, name);
     end(&mut line);
     line
 }
@@ -97,13 +114,17 @@ pub fn done_line(name: &[u8], jobs: u64, latest: u64) -> Line
     line
 }
 
-/// How many ticks went to nobody. The collector did nothing.
-#[tactic(auto, unfolding(crate::specs::Text::idle_line))]
-pub fn idle_line(idle: u64) -> Line
-    ensures { result ≡ idle_line idle }
+/// The collector's cycles that began, the ticks that it had, and the ticks that went to nobody.
+#[tactic(auto, unfolding(crate::specs::Text::cycles_line))]
+pub fn cycles_line(cycles: u64, collector: u64, idle: u64) -> Line
+    ensures { result ≡ cycles_line cycles collector idle }
 {
     let mut line = Line::new();
-    add_word(&mut line, b"cycles 0 collector 0 idle");
+    add_word(&mut line, b"cycles");
+    add_number(&mut line, cycles);
+    add_word(&mut line, b"collector");
+    add_number(&mut line, collector);
+    add_word(&mut line, b"idle");
     add_number(&mut line, idle);
     end(&mut line);
     line
@@ -117,17 +138,6 @@ pub fn end_line(ticks: u64) -> Line
     let mut line = Line::new();
     add_word(&mut line, b"end");
     add_number(&mut line, ticks);
-    end(&mut line);
-    line
-}
-
-/// The line for words or an input that aren't run yet.
-#[tactic(auto, unfolding(crate::specs::Text::not_built_line))]
-pub fn not_built_line() -> Line
-    ensures { result ≡ not_built_line }
-{
-    let mut line = Line::new();
-    add_word(&mut line, b"not built");
     end(&mut line);
     line
 }

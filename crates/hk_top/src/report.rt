@@ -1,138 +1,172 @@
-//! The report of a sheet, written as its run goes on. No memory is taken.
-ghost use Rattle.std.specs.Prelude.{◌≡◌, ◌++◌, ◌≤◌, length, IfOk, OnOk, OnErr};
+//! The report of an admitted sheet, written as its run goes on. No memory is taken.
+ghost use Rattle.std.specs.Prelude.{◌≡◌, ◌++◌, ◌≤◌, length, map, zip, flat_map, false, IfOk, OnOk, OnErr};
 ghost use Rattle.std.specs.Io.KnownBytes.{Appends};
 ghost use Rattle.hk_io.specs.Bytes.{AppendsPrefix, AppendsFront};
 ghost use Rattle.hk_io.specs.Faults.{HasCause};
+ghost use Rattle.hk_sheet.specs.Valid.{IsSheet};
 ghost use Rattle.hk_sheet.specs.declared.sheet.TheConstants.{MAX_NAME};
-ghost use Rattle.hk_sheet.specs.FirstForm.{IsOfFirstForm};
-ghost use Rattle.hk_top.specs.Jobs.{first_task};
-ghost use Rattle.hk_top.specs.Progress.{IsRight};
-ghost use Rattle.hk_top.specs.Report.{cycle_work, analysis, ticks_text, closing, report};
-ghost use Rattle.hk_top.specs.Periodic.{IsTaskOf, HasTotals};
+ghost use Rattle.hk_top.specs.Local.{AreNamed, AreLowNamed, IsRunnable};
+ghost use Rattle.hk_top.specs.Progress.{course_of, IsAt};
+ghost use Rattle.hk_top.specs.Session.{state};
+ghost use Rattle.hk_top.specs.Report.{line_of_response, line_of_low, line_of_course, high_lines, low_lines, analysis, ticks_text, closing, report};
 
-use crate::lines::{done_line, end_line, heap_line, high_line, idle_line, out_line};
-use crate::progress::{PeriodicTask, Progress};
+use crate::lines::{cycles_line, done_line, end_line, heap_line, high_line, low_line, out_line};
+use crate::run::{Run, TaskRun, high_tasks};
+use hk_admit::Admitted;
 use hk_io::{Failed, Gather, Sink};
-use hk_sheet::{Arrivals, High, Sheet};
+use hk_sheet::{High, Low, Name, Sheet};
 
-/// The high task of a sheet that has one.
-fn first_task(sheet: &Sheet) -> &High
-    requires { IsOfFirstForm sheet.now }
-    ensures { result.now ≡ first_task sheet.now }
+/// The bytes of a name.
+fn bytes_of(name: &Name) -> &[u8]
+    ensures { result.now ≡ name.now }
 {
-    let highs = &sheet.high;
-    &highs.items[0]
-}
-
-/// The name of the high task.
-fn name_of(sheet: &Sheet) -> &[u8]
-    requires { IsOfFirstForm sheet.now }
-    ensures value { result.now ≡ (first_task sheet.now).name }
-    ensures short { length result.now ≤ MAX_NAME }
-{
-    let name = &first_task(sheet).name;
     name.items.as_slice()
 }
 
-/// The high task as its run goes by it.
-fn periodic(sheet: &Sheet) -> PeriodicTask<'_>
-    requires { IsOfFirstForm sheet.now }
-    ensures task { IsTaskOf sheet.now result }
-    ensures right { IsRight result }
+/// The low tasks of a sheet.
+fn low_tasks(sheet: &Sheet) -> &[Low]
+    ensures { result.now ≡ sheet.now.low }
 {
-    let task = first_task(sheet);
-    let script = &task.script;
-    match task.arrivals {
-        Arrivals::Every { first, step } => PeriodicTask {
-            ticks: sheet.ticks,
-            first,
-            every: step,
-            script: script.items.as_slice(),
-        },
-        Arrivals::List(_) => unreachable!(),
-    }
+    let tasks = &sheet.low;
+    tasks.items.as_slice()
 }
 
-/// The events that a cycle of the collector takes at most.
-fn cycle_work(sheet: &Sheet) -> u64
-    requires { IsOfFirstForm sheet.now }
-    ensures { result ≡ cycle_work sheet.now }
+/// The response times of an admitted sheet.
+fn responses_of(admitted: &Admitted) -> &[u64]
+    ensures { result.now ≡ admitted.now.responses }
 {
-    let highs = &sheet.high;
-    let lows = &sheet.low;
-    let tasks = (highs.items.len() + lows.items.len()) as u64;
-    3 + 34 * tasks + 9 * u64::from(sheet.heap.live) + 7 * u64::from(sheet.heap.alloc)
+    let responses = &admitted.responses;
+    responses.items.as_slice()
 }
 
-/// Writes the lines of the analysis behind what waits. The response time of the only task and the busy period are
-/// its cost.
-fn write_analysis<K: Sink>(sheet: &Sheet, gather: &mut Gather, sink: &mut K) -> Result<(), Failed>
-    requires { IsOfFirstForm sheet.now }
-    ensures ok { OnOk result (AppendsFront (K.taken sink.old) (K.taken sink.new) (gather.old ++ analysis sheet.now) gather.new) }
-    ensures prefix { OnErr result (AppendsPrefix (K.taken sink.old) (K.taken sink.new) (gather.old ++ analysis sheet.now)) }
-    ensures cause { HasCause (K.faults sink.old) (K.faults sink.new) result }
-{
-    let timing = first_task(sheet).timing;
-    let heap = heap_line(cycle_work(sheet), timing.cost);
-    let high = high_line(name_of(sheet), timing.cost, timing.deadline);
-    gather.push(sink, heap.bytes())?;
-    gather.push(sink, high.bytes())
-}
-
-/// Runs the sheet to its horizon, and writes what each tick puts out behind what waits.
-fn write_ticks<K: Sink>(
-    sheet: &Sheet,
+/// Writes the response time and the deadline of each high task behind what waits.
+fn write_high_tasks<K: Sink>(
+    tasks: &[High],
+    responses: &[u64],
     gather: &mut Gather,
     sink: &mut K,
-) -> Result<Progress, Failed>
-    requires { IsOfFirstForm sheet.now }
-    ensures totals { IfOk result (HasTotals sheet.now) }
+) -> Result<(), Failed>
+    requires names { AreNamed tasks.now }
+    requires whole { length responses.now ≡ length tasks.now }
+    ensures ok { OnOk result (AppendsFront (K.taken sink.old) (K.taken sink.new) (gather.old ++ high_lines tasks.now responses.now) gather.new) }
+    ensures prefix { OnErr result (AppendsPrefix (K.taken sink.old) (K.taken sink.new) (gather.old ++ high_lines tasks.now responses.now)) }
+    ensures cause { HasCause (K.faults sink.old) (K.faults sink.new) result }
+{
+    for (place, task) in tasks.iter().enumerate() {
+        let line = high_line(bytes_of(&task.name), responses[place], task.timing.deadline);
+        gather.push(sink, line.bytes())?;
+    }
+    Ok(())
+}
+
+/// Writes the low tasks behind what waits.
+fn write_low_tasks<K: Sink>(tasks: &[Low], gather: &mut Gather, sink: &mut K) -> Result<(), Failed>
+    requires { AreLowNamed tasks.now }
+    ensures ok { OnOk result (AppendsFront (K.taken sink.old) (K.taken sink.new) (gather.old ++ low_lines tasks.now) gather.new) }
+    ensures prefix { OnErr result (AppendsPrefix (K.taken sink.old) (K.taken sink.new) (gather.old ++ low_lines tasks.now)) }
+    ensures cause { HasCause (K.faults sink.old) (K.faults sink.new) result }
+{
+    for task in tasks {
+        gather.push(sink, low_line(bytes_of(&task.name)).bytes())?;
+    }
+    Ok(())
+}
+
+/// Writes the lines of the analysis behind what waits.
+fn write_analysis<K: Sink>(
+    admitted: &Admitted,
+    gather: &mut Gather,
+    sink: &mut K,
+) -> Result<(), Failed>
+    ensures ok { OnOk result (AppendsFront (K.taken sink.old) (K.taken sink.new) (gather.old ++ analysis admitted.now) gather.new) }
+    ensures prefix { OnErr result (AppendsPrefix (K.taken sink.old) (K.taken sink.new) (gather.old ++ analysis admitted.now)) }
+    ensures cause { HasCause (K.faults sink.old) (K.faults sink.new) result }
+{
+    let checked = &admitted.checked;
+    let heap = heap_line(checked.work, checked.attempt, checked.busy, checked.debt);
+    gather.push(sink, heap.bytes())?;
+    let sheet = &checked.sheet;
+    write_high_tasks(high_tasks(sheet), responses_of(admitted), gather, sink)?;
+    write_low_tasks(low_tasks(sheet), gather, sink)
+}
+
+/// Runs a sheet to its horizon, and writes what each tick puts out behind what waits.
+fn write_ticks<K: Sink>(
+    sheet: &Sheet,
+    run: &mut Run,
+    gather: &mut Gather,
+    sink: &mut K,
+) -> Result<(), Failed>
+    requires sheet { IsRunnable sheet.now }
+    requires start { IsAt sheet.now 0 run.old }
+    ensures end { OnOk result (IsAt sheet.now sheet.now.ticks run.new) }
     ensures ok { OnOk result (AppendsFront (K.taken sink.old) (K.taken sink.new) (gather.old ++ ticks_text sheet.now sheet.now.ticks) gather.new) }
     ensures prefix { OnErr result (AppendsPrefix (K.taken sink.old) (K.taken sink.new) (gather.old ++ ticks_text sheet.now sheet.now.ticks)) }
     ensures cause { HasCause (K.faults sink.old) (K.faults sink.new) result }
 {
-    let name = name_of(sheet);
-    let task = periodic(sheet);
-    let mut progress = Progress::start(&task);
-    for tick in 0..task.ticks {
-        if let Some(value) = progress.tick(&task, tick) {
-            gather.push(sink, out_line(tick, name, value).bytes())?;
+    let tasks = high_tasks(sheet);
+    for tick in 0..sheet.ticks {
+        if let Some(output) = run.tick(sheet, tick) {
+            let name = bytes_of(&tasks[output.place].name);
+            gather.push(sink, out_line(tick, name, output.value).bytes())?;
         }
     }
-    Ok(progress)
+    Ok(())
+}
+
+/// Writes what each high task came to behind what waits.
+fn write_done<K: Sink>(
+    tasks: &[High],
+    ended: &[TaskRun],
+    gather: &mut Gather,
+    sink: &mut K,
+) -> Result<(), Failed>
+    requires names { AreNamed tasks.now }
+    requires whole { length ended.now ≡ length tasks.now }
+    ensures ok { OnOk result (AppendsFront (K.taken sink.old) (K.taken sink.new) (gather.old ++ flat_map line_of_course (zip tasks.now (map course_of ended.now))) gather.new) }
+    ensures prefix { OnErr result (AppendsPrefix (K.taken sink.old) (K.taken sink.new) (gather.old ++ flat_map line_of_course (zip tasks.now (map course_of ended.now)))) }
+    ensures cause { HasCause (K.faults sink.old) (K.faults sink.new) result }
+{
+    for (place, task) in tasks.iter().enumerate() {
+        let at = ended[place];
+        let line = done_line(bytes_of(&task.name), at.job, at.latest);
+        gather.push(sink, line.bytes())?;
+    }
+    Ok(())
 }
 
 /// Writes the last lines behind what waits.
 fn write_closing<K: Sink>(
     sheet: &Sheet,
-    progress: &Progress,
+    run: &Run,
     gather: &mut Gather,
     sink: &mut K,
 ) -> Result<(), Failed>
-    requires form { IsOfFirstForm sheet.now }
-    requires totals { HasTotals sheet.now progress.now }
-    ensures ok { OnOk result (AppendsFront (K.taken sink.old) (K.taken sink.new) (gather.old ++ closing sheet.now) gather.new) }
-    ensures prefix { OnErr result (AppendsPrefix (K.taken sink.old) (K.taken sink.new) (gather.old ++ closing sheet.now)) }
+    requires names { AreNamed sheet.now.high }
+    requires end { IsAt sheet.now sheet.now.ticks run.now }
+    ensures ok { OnOk result (AppendsFront (K.taken sink.old) (K.taken sink.new) (gather.old ++ closing sheet.now (state sheet.now sheet.now.ticks)) gather.new) }
+    ensures prefix { OnErr result (AppendsPrefix (K.taken sink.old) (K.taken sink.new) (gather.old ++ closing sheet.now (state sheet.now sheet.now.ticks))) }
     ensures cause { HasCause (K.faults sink.old) (K.faults sink.new) result }
 {
-    let done = done_line(name_of(sheet), progress.job, progress.latest);
-    let idle = idle_line(progress.idle);
+    let cycles = cycles_line(0, 0, run.idle);
     let end = end_line(sheet.ticks);
-    gather.push(sink, done.bytes())?;
-    gather.push(sink, idle.bytes())?;
+    write_done(high_tasks(sheet), &run.tasks, gather, sink)?;
+    gather.push(sink, cycles.bytes())?;
     gather.push(sink, end.bytes())
 }
 
-/// Runs a sheet of the first form and writes its report.
-pub fn write_report<K: Sink>(sheet: &Sheet, sink: &mut K) -> Result<(), Failed>
-    requires { IsOfFirstForm sheet.now }
-    ensures ok { OnOk result (Appends (K.taken sink.old) (K.taken sink.new) (report sheet.now)) }
-    ensures prefix { OnErr result (AppendsPrefix (K.taken sink.old) (K.taken sink.new) (report sheet.now)) }
+/// Runs an admitted sheet, whose run is at its start, and writes its report.
+pub fn write_report<K: Sink>(admitted: &Admitted, run: &mut Run, sink: &mut K) -> Result<(), Failed>
+    requires sheet { IsRunnable admitted.now.checked.sheet }
+    requires start { IsAt admitted.now.checked.sheet 0 run.old }
+    ensures ok { OnOk result (Appends (K.taken sink.old) (K.taken sink.new) (report admitted.now)) }
+    ensures prefix { OnErr result (AppendsPrefix (K.taken sink.old) (K.taken sink.new) (report admitted.now)) }
     ensures cause { HasCause (K.faults sink.old) (K.faults sink.new) result }
 {
+    let sheet = &admitted.checked.sheet;
     let mut gather = Gather::new();
-    write_analysis(sheet, &mut gather, sink)?;
-    let progress = write_ticks(sheet, &mut gather, sink)?;
-    write_closing(sheet, &progress, &mut gather, sink)?;
+    write_analysis(admitted, &mut gather, sink)?;
+    write_ticks(sheet, run, &mut gather, sink)?;
+    write_closing(sheet, run, &mut gather, sink)?;
     gather.flush(sink)
 }

@@ -1,20 +1,25 @@
 //! What the program does for its words.
-ghost use Rattle.std.specs.Prelude.{◌≡◌, ◌≢◌, ◌⊎◌, ◌↔◌, ℕ, ◌≤◌, length, IsTrue, IfSome, MatchResult};
+ghost use Rattle.std.specs.Prelude.{◌≡◌, ◌≢◌, ◌⊎◌, ◌↔◌, ℕ, ◌≤◌, List, length, Err, IsTrue, IfSome, MatchResult};
 ghost use Rattle.std.specs.Io.KnownBytes.{Appends, IsAtEnd};
 ghost use Rattle.hk_io.specs.Bytes.{AppendsPrefix};
 ghost use Rattle.hk_io.specs.Faults.{Rose};
 ghost use Rattle.hk_io.specs.declared.whole.TheConstants.{MAX_INPUT};
+ghost use Rattle.std.specs.List.{list_any};
+ghost use Rattle.hk_admit.specs.Refusals.{IsRefusal};
+ghost use Rattle.hk_sheet.specs.Answers.{Answers};
+ghost use Rattle.hk_sheet.specs.declared.sheet.High.{High};
 ghost use Rattle.hk_sheet.specs.declared.sheet.Sheet.{Sheet};
-ghost use Rattle.hk_sheet.specs.FirstForm.{IsSheetOf, IsOnlySheetOf, HasNoSheet};
-ghost use Rattle.hk_top.specs.Report.{report};
-ghost use Rattle.hk_top.specs.Text.{not_built_line};
-ghost use Rattle.hk_top.specs.Tool.{IsRun, IsUnfit, WritesReport, WritesRefusal, WritesPrefix};
+ghost use Rattle.hk_top.specs.Local.{is_on_heap, uses_heap};
+ghost use Rattle.hk_top.specs.Tool.{IsRun, is_unbuilt, IsSheetOf, HasText, CallsFor, BytesCallFor, AdmittedCallsFor, Writes, WritesPrefix, EndsBy};
 
-use crate::lines::not_built_line;
+use crate::refusals::{put_line, put_refused, put_sheet_error};
 use crate::report::write_report;
-use hk_io::{Failed, Sink, Source, Status, TakeFault, put_all, take_all};
-use hk_sheet::{ReadError, read};
-use std::alloc::Global;
+use crate::run::{Run, high_tasks};
+use hk_admit::{Admitted, Refused, admit};
+use hk_io::{Failed, Sink, Source, Status, TakeFault, take_all};
+use hk_script::{Script, Statement, Test};
+use hk_sheet::{High, Sheet, SheetError, read};
+use std::alloc::{AllocError, Global};
 
 /// Whether the words are the one word `run`.
 fn is_run(words: &[String]) -> bool
@@ -36,51 +41,123 @@ fn ended(status: Status, written: Result<(), Failed>) -> Status
     }
 }
 
-/// Writes the line for words or an input that aren't run.
-fn refuse<K: Sink>(sink: &mut K) -> Status
-    ensures answer { (result ≡ Status.NotBuilt) ⊎ (result ≡ Status.WriteFault) }
-    ensures whole { result ≡ Status.NotBuilt → Appends (K.taken sink.old) (K.taken sink.new) not_built_line }
-    ensures prefix { result ≡ Status.WriteFault → AppendsPrefix (K.taken sink.old) (K.taken sink.new) not_built_line }
-    ensures cause { result ≡ Status.WriteFault → Rose (K.faults sink.old) (K.faults sink.new) }
-    ensures later { K.faults sink.old ≤ K.faults sink.new }
+/// Whether a statement is one on the heap.
+fn is_on_heap(statement: &Statement) -> bool
+    ensures { result ≡ is_on_heap statement.now }
 {
-    ended(Status::NotBuilt, put_all(sink, not_built_line().bytes()))
-}
-
-/// Runs the sheet that an input spells, and writes its report.
-fn run_sheet<K: Sink>(alloc: Global, bytes: &[u8], sink: &mut K) -> Status
-    ensures report { result ≡ Status.Done → (sheet : Sheet) × IsOnlySheetOf bytes.now sheet × Appends (K.taken sink.old) (K.taken sink.new) (report sheet) }
-    ensures not_built { result ≡ Status.NotBuilt → HasNoSheet bytes.now × Appends (K.taken sink.old) (K.taken sink.new) not_built_line }
-    ensures prefix { result ≡ Status.WriteFault → Rose (K.faults sink.old) (K.faults sink.new)
-        × (((sheet : Sheet) × IsOnlySheetOf bytes.now sheet × AppendsPrefix (K.taken sink.old) (K.taken sink.new) (report sheet))
-        ⊎ (HasNoSheet bytes.now × AppendsPrefix (K.taken sink.old) (K.taken sink.new) not_built_line)) }
-    ensures memory { result ≡ Status.Memory → sink.new ≡ sink.old }
-    ensures other { result ≢ Status.ReadFault }
-    ensures later { K.faults sink.old ≤ K.faults sink.new }
-{
-    match read(alloc, bytes) {
-        Ok(sheet) => ended(Status::Done, write_report(&sheet, sink)),
-        Err(ReadError::NotFirstForm) => refuse(sink),
-        Err(ReadError::Memory) => Status::Memory,
+    match *statement {
+        Statement::Get { .. }
+        | Statement::Put { .. }
+        | Statement::Load { .. }
+        | Statement::Store { .. }
+        | Statement::Move { .. }
+        | Statement::Clear { .. }
+        | Statement::New { .. } => true,
+        Statement::If { test } => matches!(test, Test::Null { .. } | Test::Same { .. }),
+        _ => false,
     }
 }
 
-/// Does what the words ask for. For the one word `run` it reads the input, a sheet of the first form, to its end, runs
-/// the sheet, and writes the report. All else gets the line `not built`. Wrong words are refused before anything is
-/// read. Memory is taken for the input and the sheet alone, none while the run goes on.
+/// Whether a statement of a script is one on the heap.
+fn uses_heap(script: &Script) -> bool
+    ensures { result ≡ uses_heap script.now }
+{
+    script.statements().iter().any(is_on_heap)
+}
+
+/// Whether a statement of a task's script is one on the heap.
+fn task_uses_heap(task: &High) -> bool
+    ensures { result ≡ uses_heap task.now.script }
+{
+    uses_heap(&task.script)
+}
+
+/// Whether a statement of some task's script is one on the heap.
+fn some_uses_heap(tasks: &[High]) -> bool
+    ensures { result ≡ list_any (λ (task : High). uses_heap task.script) tasks.now }
+{
+    tasks.iter().any(task_uses_heap)
+}
+
+/// Whether the run of a sheet isn't built yet: it has a low task, or a statement on the heap.
+fn is_unbuilt(sheet: &Sheet) -> bool
+    ensures { result ≡ is_unbuilt sheet.now }
+{
+    let low = &sheet.low;
+    !low.items.is_empty() || some_uses_heap(high_tasks(sheet))
+}
+
+/// Runs an admitted sheet, and writes its report.
+fn run_admitted<K: Sink>(alloc: Global, admitted: &Admitted, sink: &mut K) -> Status
+    ensures ends { EndsBy (AdmittedCallsFor admitted.now) (K.taken sink.old) (K.taken sink.new) (K.faults sink.old) (K.faults sink.new) result }
+    ensures memory { result ≡ Status.Memory → sink.new ≡ sink.old }
+{
+    let sheet = &admitted.checked.sheet;
+    if is_unbuilt(sheet) {
+        return ended(Status::NotBuilt, put_line(sink, &[b"not built"]));
+    }
+    match Run::open(alloc, sheet) {
+        Ok(mut run) => ended(Status::Done, write_report(admitted, &mut run, sink)),
+        Err(AllocError) => Status::Memory,
+    }
+}
+
+/// Ends the program for bytes that are no sheet.
+fn refuse_sheet<K: Sink>(error: &SheetError, sink: &mut K) -> Status
+    ensures ends { (bytes : List ℕ) → length bytes ≤ MAX_INPUT → Answers bytes (Err error.now)
+        → EndsBy (BytesCallFor bytes) (K.taken sink.old) (K.taken sink.new) (K.faults sink.old) (K.faults sink.new) result }
+    ensures memory { result ≡ Status.Memory → sink.new ≡ sink.old }
+{
+    match error {
+        SheetError::Memory => Status::Memory,
+        _ => ended(Status::Sheet, put_sheet_error(sink, error)),
+    }
+}
+
+/// Ends the program for a sheet that isn't admitted.
+fn refuse_admission<K: Sink>(refused: &Refused, sink: &mut K) -> Status
+    ensures ends { (bytes : List ℕ) (sheet : Sheet) → IsSheetOf bytes sheet → IsRefusal sheet refused.now
+        → EndsBy (BytesCallFor bytes) (K.taken sink.old) (K.taken sink.new) (K.faults sink.old) (K.faults sink.new) result }
+    ensures memory { result ≡ Status.Memory → sink.new ≡ sink.old }
+{
+    match refused {
+        Refused::Memory => Status::Memory,
+        _ => ended(Status::NotAdmitted, put_refused(sink, refused)),
+    }
+}
+
+/// Runs the sheet that an input is, and writes its report.
+fn run_bytes<K: Sink>(alloc: Global, bytes: &[u8], sink: &mut K) -> Status
+    requires { length bytes.now ≤ MAX_INPUT }
+    ensures ends { EndsBy (BytesCallFor bytes.now) (K.taken sink.old) (K.taken sink.new) (K.faults sink.old) (K.faults sink.new) result }
+    ensures memory { result ≡ Status.Memory → sink.new ≡ sink.old }
+{
+    let sheet = match read(alloc, bytes) {
+        Ok(sheet) => sheet,
+        Err(error) => return refuse_sheet(&error, sink),
+    };
+    match admit(alloc, sheet) {
+        Ok(admitted) => run_admitted(alloc, &admitted, sink),
+        Err(refused) => refuse_admission(&refused, sink),
+    }
+}
+
+/// Does what the words ask for. For the one word `run` it reads the input, a task sheet, to its end, admits it, runs it,
+/// and writes the report. What is refused gets one line. Wrong words are refused before anything is read; nothing is
+/// written before the input was read. Memory is taken for the input, the sheet and the opening of the run, none while the
+/// run goes on.
 pub fn run_tool<S: Source, K: Sink>(
     alloc: Global,
     words: &[String],
     source: &mut S,
     sink: &mut K,
 ) -> Status
-    // The whole report was written, after the whole input was read.
-    ensures report { result ≡ Status.Done → WritesReport words.now (S.left source.old) (K.taken sink.old) (K.taken sink.new) }
+    // The whole text was written that the words and the input call for; for a report the whole input was read.
+    ensures whole { HasText result → Writes words.now (S.left source.old) (K.taken sink.old) (K.taken sink.new) result }
     ensures whole_input { result ≡ Status.Done → IsAtEnd (S.left source.new) }
 
-    // Words or an input that aren't run yet.
-    ensures not_built { result ≡ Status.NotBuilt → WritesRefusal words.now (S.left source.old) (K.taken sink.old) (K.taken sink.new) }
-    ensures wrong_words { ¬ (IsRun words.now) → (result ≡ Status.NotBuilt) ⊎ (result ≡ Status.WriteFault) }
+    // Words that the program doesn't take are refused before anything is read.
+    ensures wrong_words { ¬ (IsRun words.now) → (result ≡ Status.Usage) ⊎ (result ≡ Status.WriteFault) }
     ensures untouched { ¬ (IsRun words.now) → source.new ≡ source.old }
 
     // What failed.
@@ -89,23 +166,22 @@ pub fn run_tool<S: Source, K: Sink>(
     ensures prefix { result ≡ Status.WriteFault → WritesPrefix words.now (S.left source.old) (K.taken sink.old) (K.taken sink.new) }
     ensures memory { result ≡ Status.Memory → sink.new ≡ sink.old }
 
-    // Where nothing fails, the input decides.
-    ensures complete { IsRun words.now → ¬ (Rose (S.faults source.old) (S.faults source.new)) → ¬ (Rose (K.faults sink.old) (K.faults sink.new))
-        → IfSome (S.left source.old) (λ bytes. (sheet : Sheet) → IsSheetOf bytes sheet → length bytes ≤ MAX_INPUT
-        → (result ≡ Status.Done) ⊎ (result ≡ Status.Memory)) }
-    ensures refuses { IsRun words.now → ¬ (Rose (S.faults source.old) (S.faults source.new)) → ¬ (Rose (K.faults sink.old) (K.faults sink.new))
-        → IfSome (S.left source.old) (λ bytes. IsUnfit bytes → (result ≡ Status.NotBuilt) ⊎ (result ≡ Status.Memory)) }
+    // Where nothing fails, the words and the input decide.
+    ensures complete { ¬ (Rose (S.faults source.old) (S.faults source.new)) → ¬ (Rose (K.faults sink.old) (K.faults sink.new))
+        → IfSome (S.left source.old) (λ bytes. (status : Status) (text : List ℕ) → CallsFor words.now bytes status text
+        → (result ≡ status) ⊎ (result ≡ Status.Memory)) }
 
     // Counts of faults never fall.
     ensures later { (S.faults source.old ≤ S.faults source.new) × (K.faults sink.old ≤ K.faults sink.new) }
 {
     if !is_run(words) {
-        return refuse(sink);
+        let usage = b"usage: henri check, run [--trace], gen N, sim N";
+        return ended(Status::Usage, put_line(sink, &[usage]));
     }
     match take_all(alloc, source) {
-        Ok(bytes) => run_sheet(alloc, bytes.as_slice(), sink),
+        Ok(bytes) => run_bytes(alloc, bytes.as_slice(), sink),
         Err(TakeFault::Failed) => Status::ReadFault,
-        Err(TakeFault::Long) => refuse(sink),
+        Err(TakeFault::Long) => ended(Status::Sheet, put_line(sink, &[b"sheet long"])),
         Err(TakeFault::Memory) => Status::Memory,
     }
 }

@@ -1,0 +1,48 @@
+-- One line behind another.
+use Rattle.std.proofs.Common.{◌∙◌, zip, map, arith}
+use Rattle.std.proofs.lemmas.Result.{err_from_is_err_and}
+use Rattle.hk_top.specs.Progress.{course_of}
+use Rattle.hk_top.specs.Report.{line_of_course}
+use Rattle.hk_top.proofs.Parts.{more_front, more_prefix, all_front}
+use Rattle.hk_top.proofs.ReportLemmas.{done_text, zip_within, zip_past, length_courses}
+use Rattle.hk_top.proofs.report.write_done.Goals as goal
+
+pub returns-in_err-push-clause-prefix : goal.returns-in_err-push-clause-prefix
+returns-in_err-push-clause-prefix g c =
+    let tasks = c.args.tasks.now in
+    let courses = map course_of c.args.ended.now in
+    let same = length_courses c.args.ended.now ∙ c.requires.whole in
+    let place = c.loop-place.place in
+    let text = c.bytes.result.now in
+    let within = c.loop-place-test.true in
+    let is = done_text tasks c.args.ended.now place c.index-tasks-place.result _ c.bytes_of.result.now text within c.requires.whole c.index-tasks-place.is c.bytes_of.ensures
+    (c.bytes.ensures.value ∙ c.done_line-line.ensures) in
+    let p = err_from_is_err_and c.from_residual.result c.from_residual.ensures.1 in
+    rw p.1 (more_prefix line_of_course (zip tasks courses) _ _ _ c.args.gather.now c.loop-place.gather text place _ (zip_within tasks courses place same within) is
+    c.loop-place.invariant.front c.in_err-push.ensures.prefix)
+
+pub loop-place-preserved : goal.loop-place-preserved
+loop-place-preserved g c =
+    let tasks = c.args.tasks.now in
+    let courses = map course_of c.args.ended.now in
+    let same = length_courses c.args.ended.now ∙ c.requires.whole in
+    let place = c.loop-place.place in
+    let text = c.bytes.result.now in
+    let within = c.loop-place-test.true in
+    let is = done_text tasks c.args.ended.now place c.index-tasks-place.result _ c.bytes_of.result.now text within c.requires.whole c.index-tasks-place.is c.bytes_of.ensures
+    (c.bytes.ensures.value ∙ c.done_line-line.ensures) in
+    let later = c.push.ensures.cause.later in
+    let before = c.loop-place.invariant.later in
+    record {
+      front = more_front line_of_course (zip tasks courses) _ _ _ c.args.gather.now c.loop-place.gather text place _ (zip_within tasks courses place same within) is _
+          c.loop-place.invariant.front c.in_ok-push.ensures.ok;
+      later = omega (arith, before, later);
+    }
+
+pub returns-clause-ok : goal.returns-clause-ok
+returns-clause-ok g c =
+    let tasks = c.args.tasks.now in
+    let courses = map course_of c.args.ended.now in
+    let same = length_courses c.args.ended.now ∙ c.requires.whole in
+    all_front line_of_course (zip tasks courses) _ _ c.args.gather.now c.loop-place.gather c.loop-place.place
+    (zip_past tasks courses c.loop-place.place same c.loop-place-test.false) c.loop-place.invariant.front

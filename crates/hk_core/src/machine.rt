@@ -196,19 +196,16 @@ impl Core {
     }
 
     /// Does the next place of the seat's call: its event on the row, and what the flight takes from it.
-    #[tactic(auto, unfolding(crate::specs::Step::next, crate::specs::Step::answer_by, crate::specs::Step::event_by, crate::specs::Step::found_by))]
+    #[tactic(auto, unfolding(crate::specs::Step::next, crate::specs::Step::answer_by, crate::specs::Step::event_by, crate::specs::Step::found_by, crate::specs::State::flight_of))]
     pub fn advance(&mut self, seat: u8) -> Step
         requires seat { seat < tasks self.old.geometry }
         requires can_step { CanStep self.old seat }
         ensures next { self.new ≡ next self.old seat }
         ensures step { result ≡ answer_by self.old seat }
     {
-        let mut flight = self.flight(seat);
-        let event = flight.event(&self.geometry);
+        let event = self.flights[seat as usize].event(&self.geometry);
         let found = self.fire_if(event);
-        let step = flight.took(&self.geometry, found);
-        self.flights[seat as usize] = flight;
-        step
+        self.flights[seat as usize].took(&self.geometry, found)
     }
 
     /// Does the next place of a call in flight, whatever the call. The machine is lawful for each history for which it was,

@@ -18,7 +18,7 @@ impl Flight {
         ensures step { result ≡ step_of self.old }
     {
         let step = self.answer();
-        *self = match self.call {
+        match self.call {
             Call::Get { .. } => self.get_took(old),
             Call::Put { .. } => self.put_took(old),
             Call::Move { .. } => self.move_took(),
@@ -26,8 +26,8 @@ impl Flight {
             Call::Load { .. } => self.load_took(old),
             Call::Store { .. } => self.store_took(old),
             Call::New { shape, .. } => self.new_took(g, shape, old),
-            Call::Same { .. } | Call::IsNull { .. } => *self,
-        };
+            Call::Same { .. } | Call::IsNull { .. } => {}
+        }
         step
     }
 
@@ -70,164 +70,175 @@ impl Flight {
     }
 
     #[tactic(auto, unfolding(crate::specs::Step::get_took))]
-    fn get_took(&self, old: u64) -> Flight
-        ensures { result ≡ table.get_took self.now old }
+    fn get_took(&mut self, old: u64)
+        ensures { self.new ≡ table.get_took self.old old }
     {
         match self.place {
-            1 => Flight {
-                place: 2,
-                at: header_place(old),
-                ..*self
+            1 => {
+                self.at = header_place(old);
+                self.place = 2;
             },
-            2 => Flight {
-                place: 3,
-                item: old,
-                ..*self
+            2 => {
+                self.item = old;
+                self.place = 3;
             },
-            3 => Flight::idle(self.seat),
-            _ => *self,
+            3 => *self = Flight::idle(self.seat),
+            _ => {}
         }
     }
 
     #[tactic(auto, unfolding(crate::specs::Step::put_took))]
-    fn put_took(&self, old: u64) -> Flight
-        ensures { result ≡ table.put_took self.now old }
+    fn put_took(&mut self, old: u64)
+        ensures { self.new ≡ table.put_took self.old old }
     {
         match self.place {
-            1 => Flight {
-                place: 2,
-                at: header_place(old),
-                ..*self
+            1 => {
+                self.at = header_place(old);
+                self.place = 2;
             },
-            2 => Flight { place: 3, ..*self },
-            3 => Flight::idle(self.seat),
-            _ => *self,
+            2 => {
+                self.place = 3;
+            },
+            3 => *self = Flight::idle(self.seat),
+            _ => {}
         }
     }
 
     #[tactic(auto, unfolding(crate::specs::Step::move_took))]
-    fn move_took(&self) -> Flight
-        ensures { result ≡ table.move_took self.now }
+    fn move_took(&mut self)
+        ensures { self.new ≡ table.move_took self.old }
     {
         match self.place {
-            1 => Flight { place: 2, ..*self },
-            2 => Flight { place: 3, ..*self },
-            3 => Flight::idle(self.seat),
-            _ => *self,
+            1 => {
+                self.place = 2;
+            },
+            2 => {
+                self.place = 3;
+            },
+            3 => *self = Flight::idle(self.seat),
+            _ => {}
         }
     }
 
     #[tactic(auto, unfolding(crate::specs::Step::clear_took))]
-    fn clear_took(&self) -> Flight
-        ensures { result ≡ table.clear_took self.now }
+    fn clear_took(&mut self)
+        ensures { self.new ≡ table.clear_took self.old }
     {
         match self.place {
-            1 => Flight::idle(self.seat),
-            _ => *self,
+            1 => *self = Flight::idle(self.seat),
+            _ => {}
         }
     }
 
     #[tactic(auto, unfolding(crate::specs::Step::load_took))]
-    fn load_took(&self, old: u64) -> Flight
-        ensures { result ≡ table.load_took self.now old }
+    fn load_took(&mut self, old: u64)
+        ensures { self.new ≡ table.load_took self.old old }
     {
         match self.place {
-            1 => Flight { place: 2, ..*self },
-            2 => Flight {
-                place: 3,
-                at: header_place(old),
-                ..*self
+            1 => {
+                self.place = 2;
             },
-            3 => Flight {
-                place: 4,
-                word: old,
-                ..*self
+            2 => {
+                self.at = header_place(old);
+                self.place = 3;
             },
-            4 => Flight {
-                place: 5,
-                item: old,
-                ..*self
+            3 => {
+                self.word = old;
+                self.place = 4;
             },
-            5 => Flight {
-                place: 6,
-                claimer: self.claims(old),
-                ..*self
+            4 => {
+                self.item = old;
+                self.place = 5;
             },
-            6 => Flight {
-                place: 7,
-                offset: old,
-                ..*self
+            5 => {
+                self.claimer = self.claims(old);
+                self.place = 6;
             },
-            7 => Flight { place: 8, ..*self },
-            8 => Flight { place: 9, ..*self },
-            9 => Flight { place: 10, ..*self },
-            10 => Flight::idle(self.seat),
-            _ => *self,
+            6 => {
+                self.offset = old;
+                self.place = 7;
+            },
+            7 => {
+                self.place = 8;
+            },
+            8 => {
+                self.place = 9;
+            },
+            9 => {
+                self.place = 10;
+            },
+            10 => *self = Flight::idle(self.seat),
+            _ => {}
         }
     }
 
     #[tactic(auto, unfolding(crate::specs::Step::store_took))]
-    fn store_took(&self, old: u64) -> Flight
-        ensures { result ≡ table.store_took self.now old }
+    fn store_took(&mut self, old: u64)
+        ensures { self.new ≡ table.store_took self.old old }
     {
         match self.place {
-            1 => Flight {
-                place: 2,
-                at: header_place(old),
-                ..*self
+            1 => {
+                self.at = header_place(old);
+                self.place = 2;
             },
-            2 => Flight {
-                place: 3,
-                word: old,
-                ..*self
+            2 => {
+                self.word = old;
+                self.place = 3;
             },
-            3 => Flight {
-                place: 4,
-                claimer: self.claims(old),
-                ..*self
+            3 => {
+                self.claimer = self.claims(old);
+                self.place = 4;
             },
-            4 => Flight {
-                place: 5,
-                offset: old,
-                ..*self
+            4 => {
+                self.offset = old;
+                self.place = 5;
             },
-            5 => Flight { place: 6, ..*self },
-            6 => Flight { place: 7, ..*self },
-            7 => Flight::idle(self.seat),
-            _ => *self,
+            5 => {
+                self.place = 6;
+            },
+            6 => {
+                self.place = 7;
+            },
+            7 => *self = Flight::idle(self.seat),
+            _ => {}
         }
     }
 
     #[tactic(auto, unfolding(crate::specs::Step::new_took))]
-    fn new_took(&self, g: &Geometry, shape: Shape, old: u64) -> Flight
-        requires { self.now.place ≡ 4 → old < 2 ^ 32 }
-        ensures { result ≡ table.new_took g.now self.now shape old }
+    fn new_took(&mut self, g: &Geometry, shape: Shape, old: u64)
+        requires { self.old.place ≡ 4 → old < 2 ^ 32 }
+        ensures { self.new ≡ table.new_took g.now self.old shape old }
     {
         match self.place {
-            1 => Flight {
-                place: 2,
-                word: old,
-                full: Flight::full_to(g, self.seat, shape, old),
-                ..*self
+            1 => {
+                self.word = old;
+                self.full = Flight::full_to(g, self.seat, shape, old);
+                self.place = 2;
             },
-            2 => Flight { place: 3, ..*self },
-            3 if self.full => Flight { place: 4, ..*self },
-            3 => Flight {
-                place: 4,
-                word: old,
-                full: Flight::full_to_all(g, shape, old),
-                raised: true,
-                ..*self
+            2 => {
+                self.place = 3;
             },
-            4 => Flight {
-                place: 5,
-                number: old as u32,
-                ..*self
+            3 if self.full => {
+                self.place = 4;
             },
-            5 => Flight { place: 6, ..*self },
-            6 => Flight { place: 7, ..*self },
-            7 => Flight::idle(self.seat),
-            _ => *self,
+            3 => {
+                self.word = old;
+                self.full = Flight::full_to_all(g, shape, old);
+                self.raised = true;
+                self.place = 4;
+            },
+            4 => {
+                self.number = old as u32;
+                self.place = 5;
+            },
+            5 => {
+                self.place = 6;
+            },
+            6 => {
+                self.place = 7;
+            },
+            7 => *self = Flight::idle(self.seat),
+            _ => {}
         }
     }
 

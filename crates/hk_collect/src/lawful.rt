@@ -1,6 +1,6 @@
 //! A machine that is lawful all along: what tasks and the collector do keeps it so.
 use crate::{Work, step};
-use hk_core::{Core, Fault, Flight, Memory, Outcome, Step};
+use hk_core::{Core, Fault, Flight, Memory, Outcome, Spot, Step};
 use hk_words::{Call, Geometry};
 use std::alloc::Global;
 use std::marker::Model;
@@ -27,6 +27,11 @@ impl Machine {
     pub fn open(alloc: Global, g: Geometry) -> Result<Machine, Memory> {
         let core = Core::open(alloc, g)?;
         Ok(Machine { core })
+    }
+
+    /// Where the collector is.
+    pub fn spot(&self) -> Spot {
+        self.core.spot()
     }
 
     /// The begin of a call.

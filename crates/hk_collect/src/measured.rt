@@ -1,9 +1,9 @@
 //! Walks of the machine beside the measure of a cycle: each call runs whole, between two events of the collector.
 ghost use Rattle.std.specs.Prelude.{◌<◌};
 
-use crate::checks::{can_collect, can_step, spot_fits};
-use crate::{Work, advance};
-use hk_core::{Core, Line, Spot, Stage, Step, reference_size};
+use crate::Work;
+use crate::lawful::Machine;
+use hk_core::{Line, Spot, Stage, reference_size};
 use hk_words::{Call, Geometry, Shape};
 use std::process::Abort;
 use std::test::Fail;
@@ -53,7 +53,8 @@ fn most_lost(spot: &Spot) -> u32 {
 /// A machine, the useful events of its cycle so far, and how often the spaces were flipped and an attempt was lost.
 #[derive(Drop)]
 struct Walk {
-    core: Core,
+    geometry: Geometry,
+    machine: Machine,
     useful: u64,
     flips: u32,
     lost: u32,
@@ -61,11 +62,8 @@ struct Walk {
 
 /// One event of the collector. It waits for nobody, and keeps to the measure.
 fn collect(rt: &impl Abort, walk: &mut Walk) {
-    let g = walk.core.geometry();
-    let before = walk.core.spot();
-    assert!(rt; spot_fits(&g, &before));
-    assert!(rt; can_collect(&walk.core));
-    match advance(&mut walk.core) {
+    let before = walk.machine.spot();
+    match walk.machine.collect() {
         Work::Useful => walk.useful = walk.useful.wrapping_add(1),
         Work::Flipped => {
             walk.useful = 1;
@@ -83,30 +81,9 @@ fn collect(rt: &impl Abort, walk: &mut Walk) {
         }
     }
     assert!(rt;
-        walk.useful <= most_useful(&g, &walk.core.spot()),
+        walk.useful <= most_useful(&walk.geometry, &walk.machine.spot()),
         "more useful events than the bound of the spot"
     );
-}
-
-/// A call of a seat, begun and stepped to its end.
-fn whole(rt: &impl Abort, core: &mut Core, seat: u8, call: Call) {
-    assert!(rt; seat < core.geometry().tasks());
-    assert!(rt; core.flight(seat).place == 0);
-    assert!(rt; call.registers_fit(core.geometry().registers()));
-    let begun = match call {
-        Call::Same { .. } | Call::IsNull { .. } => panic!(rt; "a question"),
-        _ => core.begin(seat, call),
-    };
-    if begun.is_err() {
-        return;
-    }
-    for _ in 0..20 {
-        assert!(rt; seat < core.geometry().tasks());
-        assert!(rt; can_step(core, seat));
-        if let Step::Ended(_) = core.advance(seat) {
-            return;
-        }
-    }
 }
 
 /// Numbers drawn one after another from a state.
@@ -153,7 +130,8 @@ impl Draws {
 fn one_cycle(rt: HostRuntime) -> Result<(), Fail> {
     let g = Geometry::new(8, 16, 0, 1, 0, 1, 0)?;
     let mut walk = Walk {
-        core: Core::open(rt.alloc(), g)?,
+        geometry: g,
+        machine: Machine::open(rt.alloc(), g)?,
         useful: 0,
         flips: 0,
         lost: 0,
@@ -161,9 +139,9 @@ fn one_cycle(rt: HostRuntime) -> Result<(), Fail> {
     for _ in 0..108 {
         collect(&rt, &mut walk);
     }
-    assert_eq!(rt; walk.core.spot().line, Line::Rest);
+    assert_eq!(rt; walk.machine.spot().line, Line::Rest);
     assert_eq!(rt; (walk.useful, walk.flips, walk.lost), (108, 1, 0));
-    assert_eq!(rt; most_useful(&g, &walk.core.spot()), 185);
+    assert_eq!(rt; most_useful(&g, &walk.machine.spot()), 185);
     Ok(())
 }
 
@@ -172,7 +150,8 @@ fn whole_calls(rt: HostRuntime) -> Result<(), Fail> {
     for number in 1..4 {
         let g = Geometry::new(64, 64, 16, 2, 1, 2, 1)?;
         let mut walk = Walk {
-            core: Core::open(rt.alloc(), g)?,
+            geometry: g,
+            machine: Machine::open(rt.alloc(), g)?,
             useful: 0,
             flips: 0,
             lost: 0,
@@ -182,7 +161,7 @@ fn whole_calls(rt: HostRuntime) -> Result<(), Fail> {
             let seat = draws.below(24) as u8;
             if seat < 3 {
                 let call = draws.call();
-                whole(&rt, &mut walk.core, seat, call);
+                walk.machine.whole(&rt, seat, call);
             } else {
                 collect(&rt, &mut walk);
             }

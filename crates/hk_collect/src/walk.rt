@@ -323,6 +323,24 @@ fn replies_of_the_plain_heap(rt: HostRuntime) -> Result<(), Fail> {
     Ok(())
 }
 
+/// More than 200 whole cycles of three seats and the collector on a tiny heap, in walks of 5,000 actions: each flip after
+/// the first of a walk ends one.
+#[test]
+fn many_cycles(rt: HostRuntime) -> Result<(), Fail> {
+    let g = Geometry::new(24, 32, 8, 2, 1, 2, 1)?;
+    let mut whole: u32 = 0;
+    for number in 1..101 {
+        let mut walk = walk_of(rt.alloc(), g)?;
+        let mut draws = Draws { state: number };
+        for _ in 0..5_000 {
+            act_or_collect(&rt, rt.alloc(), &mut walk, &mut draws)?;
+        }
+        whole = whole.wrapping_add(walk.flips.saturating_sub(1));
+    }
+    assert!(rt; whole > 200, "{whole} cycles");
+    Ok(())
+}
+
 /// Three seats alone: calls that go through no reference cell, and calls of all kinds, until the heap is full.
 #[test]
 fn replies_without_a_collector(rt: HostRuntime) -> Result<(), Fail> {

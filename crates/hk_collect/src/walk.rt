@@ -390,9 +390,10 @@ fn calls_among_events(rt: HostRuntime) -> Result<(), Fail> {
     let g = Geometry::new(64, 64, 16, 2, 1, 2, 1)?;
     let mut walk = walk_of(rt.alloc(), g)?;
     let mut draws = Draws { state: 11 };
-    for number in 0..500 {
-        let seat = (number % 2) as u8;
-        call_among_events(&rt, rt.alloc(), &mut walk, &mut draws, seat, 4)?;
+    for _ in 0..250 {
+        for seat in 0..2 {
+            call_among_events(&rt, rt.alloc(), &mut walk, &mut draws, seat, 4)?;
+        }
     }
     assert!(rt; walk.flips >= 2 && walk.done > 300);
     Ok(())

@@ -2,12 +2,14 @@
 //! words that the heap's row consists of. Nothing here takes memory.
 #![tactic(auto)]
 
+mod bounds;
 mod call;
 mod geometry;
 mod packing;
 mod row;
 mod shape;
 
+pub use bounds::{MOST_PLACES, cycle_events, frame_events, object_events};
 pub use call::{Call, Reply, call_laws};
 pub use geometry::{
     GeoError, Geometry, MAX_REGISTERS, MAX_TASKS, MAX_WORDS, MIN_ALLOC, MIN_REGISTERS, REGISTERS,
@@ -19,4 +21,4 @@ pub use packing::{
     reference_nums, reference_refs, w0_cycle, w0_laws, w0_objects, w0_words,
 };
 pub use row::row_laws;
-pub use shape::{MAX_FIELDS, Shape};
+pub use shape::{MAX_FIELDS, Shape, USUAL_FIELDS};

@@ -5,6 +5,7 @@
 mod bounds;
 mod call;
 mod geometry;
+mod memory;
 mod packing;
 mod row;
 mod shape;
@@ -14,6 +15,7 @@ pub use call::{Call, Reply, call_laws};
 pub use geometry::{
     GeoError, Geometry, MAX_REGISTERS, MAX_TASKS, MAX_WORDS, MIN_ALLOC, MIN_REGISTERS, REGISTERS,
 };
+pub use memory::Memory;
 pub use packing::{
     ENTER, LEAVE, frame_accessors, frame_blackened, frame_cycle, frame_laws, frame_version,
     header_accessors, header_laws, header_moved, header_place, header_version, pack_frame,

@@ -32,12 +32,12 @@ use Rattle.hk_core.proofs.Inside.{shapes_fit, good_sound, LiesInSpaces}
 use Rattle.hk_core.proofs.Reserved.{reserved_small}
 use Rattle.hk_core.proofs.kinds.WriteCell.{shades_mean}
 use Rattle.hk_core.proofs.kinds.LoadRead.{some_words}
-use Rattle.hk_core.proofs.kinds.Spots.{WorkFacts, work_facts, hands_changed}
-use Rattle.hk_core.proofs.kinds.SpotLines.{AtRegister, AtFrameTrade, AtRange, AtItem, AtCell, AtObjectTrade, at_register, at_frame_trade, at_link, at_look, at_cell, at_object_trade}
-use Rattle.hk_core.proofs.kinds.SpotLoadsCells.{IsItem, item_known}
-use Rattle.hk_core.proofs.kinds.SpotLoadsRow.{space_ends}
-use Rattle.hk_core.proofs.kinds.SpotCopy.{moving, item_shows}
-use Rattle.hk_core.proofs.kinds.SpotWords.{can_swap_w0, can_load_w1, can_write_w1, can_load_header, can_trade_header, can_load_mark, can_write_mark, can_load_frame, can_trade_frame, can_load_register, can_write_entry}
+use Rattle.hk_collect.proofs.spots.Spots.{WorkFacts, work_facts, hands_changed}
+use Rattle.hk_collect.proofs.spots.SpotLines.{AtRegister, AtFrameTrade, AtRange, AtItem, AtCell, AtObjectTrade, at_register, at_frame_trade, at_link, at_look, at_cell, at_object_trade}
+use Rattle.hk_collect.proofs.spots.SpotLoadsCells.{IsItem, item_known}
+use Rattle.hk_collect.proofs.spots.SpotLoadsRow.{space_ends}
+use Rattle.hk_collect.proofs.spots.SpotCopy.{moving, item_shows}
+use Rattle.hk_collect.proofs.spots.SpotWords.{can_swap_w0, can_load_w1, can_write_w1, can_load_header, can_trade_header, can_load_mark, can_write_mark, can_load_frame, can_trade_frame, can_load_register, can_write_entry}
 use Rattle.hk_collect.specs.SpotFits.{SpotFits, LineFits, RegisterFits, CellFits, SweepFits, FewSpent}
 
 -- SHAPES

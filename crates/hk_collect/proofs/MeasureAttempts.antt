@@ -30,9 +30,9 @@ use Rattle.hk_core.specs.Lawful.{Lawful}
 use Rattle.hk_core.proofs.Columns.{fired_kept}
 use Rattle.hk_core.proofs.Inside.{shapes_fit}
 use Rattle.hk_core.proofs.kinds.Seats.{kept_means}
-use Rattle.hk_core.proofs.kinds.SpotLines.{AtRegister, AtCell, at_register, at_cell}
-use Rattle.hk_core.proofs.kinds.SpotLoads.{work_at, took_at}
-use Rattle.hk_core.proofs.kinds.SpotLoadsCells.{IsItem, item_known}
+use Rattle.hk_collect.proofs.spots.SpotLines.{AtRegister, AtCell, at_register, at_cell}
+use Rattle.hk_collect.proofs.spots.SpotLoads.{work_at, took_at}
+use Rattle.hk_collect.proofs.spots.SpotLoadsCells.{IsItem, item_known}
 use Rattle.hk_words.specs.Bounds.{frame_events, object_events}
 use Rattle.hk_collect.specs.Measure.{in_attempt, FrameUntouched, ObjectUntouched, UntouchedAt, IsUntouched, ClosesAttempt, useful_after, least_useful, CountsAttempt}
 

@@ -18,8 +18,8 @@ use Rattle.hk_core.specs.Lawful.{Lawful}
 use Rattle.hk_core.proofs.Inside.{shapes_fit}
 use Rattle.hk_core.proofs.kinds.Seats.{kept_means}
 use Rattle.hk_core.proofs.kinds.WriteCell.{reference_parts, size_of_reference, shades_mean}
-use Rattle.hk_core.proofs.kinds.SpotLines.{AtItem, at_object_trade}
-use Rattle.hk_core.proofs.kinds.SpotLoads.{work_at}
+use Rattle.hk_collect.proofs.spots.SpotLines.{AtItem, at_object_trade}
+use Rattle.hk_collect.proofs.spots.SpotLoads.{work_at}
 use Rattle.hk_words.specs.Bounds.{frame_events}
 use Rattle.hk_collect.specs.Measure.{most_for_sweep, most_in_sweep, most_useful_at, most_useful, cycle_bound, MovesBirth}
 use Rattle.hk_collect.proofs.MeasureAttempts.{register_knows, cell_knows}

@@ -20,8 +20,8 @@ use Rattle.hk_core.specs.Facts as fact
 use Rattle.hk_core.specs.Lawful.{Facts, FactsOf, hands_of}
 use Rattle.hk_core.proofs.Update.{upd_cases}
 use Rattle.hk_core.proofs.kinds.LoadRead.{some_words}
-use Rattle.hk_core.proofs.kinds.SpotSweepLines.{quiet_line, sweep_spot, kept_current}
-use Rattle.hk_core.proofs.kinds.Spots.{SpotFacts, hands_kept, shades_kept}
+use Rattle.hk_collect.proofs.spots.SpotSweepLines.{quiet_line, sweep_spot, kept_current}
+use Rattle.hk_collect.proofs.spots.Spots.{SpotFacts, hands_kept, shades_kept}
 use Rattle.hk_core.proofs.kinds.WriteCell.{ShadesMean, shades_mean}
 
 -- what the tables say of a line on which the collector clears the old space, and after that

@@ -26,11 +26,11 @@ use Rattle.hk_core.proofs.kinds.Read.{ShapesFit}
 use Rattle.hk_core.proofs.kinds.LoadRead.{found-cell, some_words}
 use Rattle.hk_core.proofs.kinds.WriteCell.{shades_mean}
 use Rattle.hk_core.proofs.kinds.ReserveSeats.{BearersHaveFields}
-use Rattle.hk_core.proofs.kinds.SpotLines.{AtFrame, AtRegister, AtRange, AtItem, AtCell, AtPass, at_frame, at_register, at_link, at_look, at_cell, at_pass, at_pass_head}
-use Rattle.hk_core.proofs.kinds.SpotLoads.{work_at, frame_loads, register_loads, frame_trade_lost}
-use Rattle.hk_core.proofs.kinds.SpotLoadsScan.{scan_loads, link_loads}
-use Rattle.hk_core.proofs.kinds.SpotLoadsCells.{IsItem, item_known, look_loads, cell_loads, object_trade_lost}
-use Rattle.hk_core.proofs.kinds.SpotLoadsPass.{pass_finds_claimed, pass_finds_unclaimed, pass_finds_grey, pass_finds_moved}
+use Rattle.hk_collect.proofs.spots.SpotLines.{AtFrame, AtRegister, AtRange, AtItem, AtCell, AtPass, at_frame, at_register, at_link, at_look, at_cell, at_pass, at_pass_head}
+use Rattle.hk_collect.proofs.spots.SpotLoads.{work_at, frame_loads, register_loads, frame_trade_lost}
+use Rattle.hk_collect.proofs.spots.SpotLoadsScan.{scan_loads, link_loads}
+use Rattle.hk_collect.proofs.spots.SpotLoadsCells.{IsItem, item_known, look_loads, cell_loads, object_trade_lost}
+use Rattle.hk_collect.proofs.spots.SpotLoadsPass.{pass_finds_claimed, pass_finds_unclaimed, pass_finds_grey, pass_finds_moved}
 
 -- all facts, of the row and the spot after the collector's event
 abbrev pub AfterEvent : Geometry → (row : List ℕ) → (flight : ℕ → Flight) → (begun : ℕ → ℕ) → Spot → Names → Contents → (range : ℕ → Option ℕ) → Type 0

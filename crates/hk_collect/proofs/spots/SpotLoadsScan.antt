@@ -15,10 +15,10 @@ use Rattle.hk_core.specs.Colours.{spaces_of, shades_of}
 use Rattle.hk_core.specs.Lawful.{FactsOf, hands_of}
 use Rattle.hk_core.proofs.kinds.LoadRead.{colours_mean}
 use Rattle.hk_core.proofs.kinds.WriteCell.{shades_mean}
-use Rattle.hk_core.proofs.kinds.SpotLines.{AllBlack, AtRange, AtPass, at_scan, at_link, link_works, look_works, scan_works, pass_works}
-use Rattle.hk_core.proofs.kinds.SpotRanges.{RangeAt, reaches}
-use Rattle.hk_core.proofs.kinds.SpotSettled.{some_or_none, settled_when_none_grey}
-use Rattle.hk_core.proofs.kinds.SpotLoads.{work_at, goes_on, took_at}
+use Rattle.hk_collect.proofs.spots.SpotLines.{AllBlack, AtRange, AtPass, at_scan, at_link, link_works, look_works, scan_works, pass_works}
+use Rattle.hk_collect.proofs.spots.SpotRanges.{RangeAt, reaches}
+use Rattle.hk_collect.proofs.spots.SpotSettled.{some_or_none, settled_when_none_grey}
+use Rattle.hk_collect.proofs.spots.SpotLoads.{work_at, goes_on, took_at}
 
 module _ (g : Geometry) (w : Words) (flight : ℕ → Flight) (begun : ℕ → ℕ) (t : Spot) (names : Names) (contents : Contents) (range : ℕ → Option ℕ)
     (at : t.line ≡ line.Scan) (h : FactsOf g w flight begun t names contents range) where

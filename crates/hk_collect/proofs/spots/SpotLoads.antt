@@ -17,8 +17,8 @@ use Rattle.hk_core.specs.Lines as l
 use Rattle.hk_core.specs.Colours.{spaces_of, Shades, shades_of, IsGood}
 use Rattle.hk_core.specs.Facts.{FrameBehind}
 use Rattle.hk_core.specs.Lawful.{FactsOf, hands_of}
-use Rattle.hk_core.proofs.kinds.Spots.{WorkFacts, on_spot, work_facts, marking_on}
-use Rattle.hk_core.proofs.kinds.SpotLines.{AtFrame, InFrame, AtRegister, AtFrameTrade, at_frame, at_register, at_frame_trade, frame_works, register_works, frame_trade_works}
+use Rattle.hk_collect.proofs.spots.Spots.{WorkFacts, on_spot, work_facts, marking_on}
+use Rattle.hk_collect.proofs.spots.SpotLines.{AtFrame, InFrame, AtRegister, AtFrameTrade, at_frame, at_register, at_frame_trade, frame_works, register_works, frame_trade_works}
 
 -- GOING ON
 

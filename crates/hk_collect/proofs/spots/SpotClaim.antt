@@ -34,8 +34,8 @@ use Rattle.hk_core.proofs.kinds.Claim.{CanClaim, claim_words, claim_hand, claim_
 use Rattle.hk_core.proofs.kinds.Reserve.{CanReserve, reserve_words, reserve_range, reserve_hand, reserve_facts}
 use Rattle.hk_core.proofs.kinds.ReserveSeats.{BearersHaveFields, two_words, shades_reserved}
 use Rattle.hk_core.proofs.kinds.Link.{CanLink, link_facts}
-use Rattle.hk_core.proofs.kinds.Spots.{SpotFacts, HandFacts, WorkFacts, GoesMarking, hand_facts, with_spot, with_spot_and_hand, hands_changed, shades_kept, work_facts, marking_on}
-use Rattle.hk_core.proofs.kinds.SpotLines.{AtRegister, AtCell, at_register, register_works, frame_trade_works, at_cell, cell_works}
+use Rattle.hk_collect.proofs.spots.Spots.{SpotFacts, HandFacts, WorkFacts, GoesMarking, hand_facts, with_spot, with_spot_and_hand, hands_changed, shades_kept, work_facts, marking_on}
+use Rattle.hk_collect.proofs.spots.SpotLines.{AtRegister, AtCell, at_register, register_works, frame_trade_works, at_cell, cell_works}
 
 -- THE CLAIMS IN HAND
 

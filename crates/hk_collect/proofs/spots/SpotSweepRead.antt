@@ -22,10 +22,10 @@ use Rattle.hk_core.specs.Colours.{Spaces, spaces_of, Shades, shades_of}
 use Rattle.hk_core.specs.Facts as fact
 use Rattle.hk_core.specs.Facts.{IsSettled}
 use Rattle.hk_core.specs.Lawful.{Facts, FactsOf, hands_of}
-use Rattle.hk_core.proofs.kinds.SpotRanges.{reaches}
-use Rattle.hk_core.proofs.kinds.SpotSweepCounts.{count_listed, count_covers}
-use Rattle.hk_core.proofs.kinds.SpotSweepLines.{sweep_spot, quiet_line, none_reserves, none_counted}
-use Rattle.hk_core.proofs.kinds.Spots.{SpotFacts, on_spot}
+use Rattle.hk_collect.proofs.spots.SpotRanges.{reaches}
+use Rattle.hk_collect.proofs.spots.SpotSweepCounts.{count_listed, count_covers}
+use Rattle.hk_collect.proofs.spots.SpotSweepLines.{sweep_spot, quiet_line, none_reserves, none_counted}
+use Rattle.hk_collect.proofs.spots.Spots.{SpotFacts, on_spot}
 use Rattle.hk_core.proofs.kinds.WriteCell.{ShadesMean, shades_mean}
 
 -- THE SWEEP FINDS ENOUGH

@@ -24,15 +24,15 @@ use Rattle.hk_core.specs.Lines as l
 use Rattle.hk_core.specs.Lawful.{FactsOf}
 use Rattle.hk_core.proofs.Columns.{fired_at, fired_if_some, raw-w0, raw-w1, raw-header, raw-mark, raw-entry, raw_header}
 use Rattle.hk_core.proofs.Encode.{decoded-flip, decoded-w1, decoded-entry, decoded-mark, decoded-empty_header}
-use Rattle.hk_core.proofs.kinds.SpotClear.{clear}
-use Rattle.hk_core.proofs.kinds.SpotFlip.{flipped_words, flipped_spot, flip, flip_took}
-use Rattle.hk_core.proofs.kinds.SpotLoadsRow.{AfterEvent, found-mark, found-header, pass_loads_row, pass_head_loads_row}
-use Rattle.hk_core.proofs.kinds.SpotReset.{no_ranges, reset}
-use Rattle.hk_core.proofs.kinds.SpotSweepEmpty.{emptied_words, sweep_empties}
-use Rattle.hk_core.proofs.kinds.SpotSweepMark.{sweep_marks}
-use Rattle.hk_core.proofs.kinds.SpotSweepRead.{sweep_reads}
-use Rattle.hk_core.proofs.kinds.SpotSweepWrite.{sweep_writes}
-use Rattle.hk_core.proofs.kinds.SpotToSweep.{pass_to_sweep, pass_head_to_sweep}
+use Rattle.hk_collect.proofs.spots.SpotClear.{clear}
+use Rattle.hk_collect.proofs.spots.SpotFlip.{flipped_words, flipped_spot, flip, flip_took}
+use Rattle.hk_collect.proofs.spots.SpotLoadsRow.{AfterEvent, found-mark, found-header, pass_loads_row, pass_head_loads_row}
+use Rattle.hk_collect.proofs.spots.SpotReset.{no_ranges, reset}
+use Rattle.hk_collect.proofs.spots.SpotSweepEmpty.{emptied_words, sweep_empties}
+use Rattle.hk_collect.proofs.spots.SpotSweepMark.{sweep_marks}
+use Rattle.hk_collect.proofs.spots.SpotSweepRead.{sweep_reads}
+use Rattle.hk_collect.proofs.spots.SpotSweepWrite.{sweep_writes}
+use Rattle.hk_collect.proofs.spots.SpotToSweep.{pass_to_sweep, pass_head_to_sweep}
 use Rattle.hk_core.proofs.kinds.Words.{words-load, words-write_cell}
 
 -- WHAT THE WORDS OF A ROW SAY AFTER THE EVENT

@@ -23,8 +23,8 @@ use Rattle.hk_core.specs.Facts as fact
 use Rattle.hk_core.specs.Facts.{IsUnread, IsOwn, IsSettled}
 use Rattle.hk_core.specs.Lawful.{Facts, FactsOf, hands_of}
 use Rattle.hk_core.proofs.kinds.NewRaise.{making_raised}
-use Rattle.hk_core.proofs.kinds.SpotSweepLines.{sweep_spot}
-use Rattle.hk_core.proofs.kinds.Spots.{SpotFacts, hands_kept, shades_kept}
+use Rattle.hk_collect.proofs.spots.SpotSweepLines.{sweep_spot}
+use Rattle.hk_collect.proofs.spots.Spots.{SpotFacts, hands_kept, shades_kept}
 
 -- a New that has loaded its entry makes an object
 numbered_at : (call : Call) (place : ℕ) → f.is_new_at 5 6 call place ≡ true → f.is_new_at 4 6 call place ≡ true

@@ -15,7 +15,7 @@ use Rattle.hk_core.specs.View.{Words, Names}
 use Rattle.hk_core.specs.Lines as l
 use Rattle.hk_core.specs.Colours.{Spaces, Shades, IsGood, IsNullOrMarked}
 use Rattle.hk_core.specs.Facts.{FrameBehind, ObjectBehind, IsSettled}
-use Rattle.hk_core.proofs.kinds.Spots.{WorkFacts}
+use Rattle.hk_collect.proofs.spots.Spots.{WorkFacts}
 
 -- THE RECORDS
 

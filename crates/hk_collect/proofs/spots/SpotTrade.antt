@@ -27,8 +27,8 @@ use Rattle.hk_core.specs.Facts as fact
 use Rattle.hk_core.specs.Lawful.{Facts, FactsOf, hands_of}
 use Rattle.hk_core.proofs.Update.{upd_cases}
 use Rattle.hk_core.proofs.kinds.LoadRead.{ColoursMean, colours_mean}
-use Rattle.hk_core.proofs.kinds.Spots.{WorkFacts, GoesMarking, work_facts, marking_on, on_spot}
-use Rattle.hk_core.proofs.kinds.SpotLines.{AtFrame, AtFrameTrade, at_frame, frame_works, at_frame_trade, scan_works}
+use Rattle.hk_collect.proofs.spots.Spots.{WorkFacts, GoesMarking, work_facts, marking_on, on_spot}
+use Rattle.hk_collect.proofs.spots.SpotLines.{AtFrame, AtFrameTrade, at_frame, frame_works, at_frame_trade, scan_works}
 
 -- CALLS INSIDE THE FRAME
 

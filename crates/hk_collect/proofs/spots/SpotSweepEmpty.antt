@@ -26,10 +26,10 @@ use Rattle.hk_core.specs.Lawful.{Facts, FactsOf, hands_of}
 use Rattle.hk_core.proofs.Update.{upd_cases}
 use Rattle.hk_core.proofs.kinds.NewHeader.{object_through}
 use Rattle.hk_core.proofs.kinds.NewRaise.{making_raised}
-use Rattle.hk_core.proofs.kinds.SpotSweepCounts.{count_none}
-use Rattle.hk_core.proofs.kinds.SpotSweepLines.{sweep_spot, kept_marked, quiet_line}
-use Rattle.hk_core.proofs.kinds.SpotSweepRead.{GoesSweeping, goes_to_number, goes_to_clear, room_for}
-use Rattle.hk_core.proofs.kinds.Spots.{SpotFacts, hands_kept}
+use Rattle.hk_collect.proofs.spots.SpotSweepCounts.{count_none}
+use Rattle.hk_collect.proofs.spots.SpotSweepLines.{sweep_spot, kept_marked, quiet_line}
+use Rattle.hk_collect.proofs.spots.SpotSweepRead.{GoesSweeping, goes_to_number, goes_to_clear, room_for}
+use Rattle.hk_collect.proofs.spots.Spots.{SpotFacts, hands_kept}
 use Rattle.hk_core.proofs.kinds.WriteCell.{ShadesMean, shades_mean}
 
 -- the words after the header of a number was emptied

@@ -25,8 +25,8 @@ use Rattle.hk_core.specs.Lawful.{Facts, FactsOf, hands_of}
 use Rattle.hk_core.proofs.kinds.LoadRead.{ColoursMean, colours_mean, kept_number, settled_black, shown_birth, some_words}
 use Rattle.hk_core.proofs.kinds.Read.{refuted}
 use Rattle.hk_core.proofs.kinds.Seats.{IsKept, kept_parts}
-use Rattle.hk_core.proofs.kinds.SpotSweepLines.{sweep_spot}
-use Rattle.hk_core.proofs.kinds.Spots.{SpotFacts, MarkingLine, marking_line, hands_kept}
+use Rattle.hk_collect.proofs.spots.SpotSweepLines.{sweep_spot}
+use Rattle.hk_collect.proofs.spots.Spots.{SpotFacts, MarkingLine, marking_line, hands_kept}
 use Rattle.hk_core.proofs.kinds.WriteCell.{IsGreyIn, ShadesMean, shades_mean, fresh_when_done}
 
 -- REFERENCES

@@ -15,9 +15,9 @@ use Rattle.hk_core.specs.Colours.{Spaces, spaces_of, Shades, shades_of}
 use Rattle.hk_core.specs.Facts as fact
 use Rattle.hk_core.specs.Facts.{HoldsRange, HoldsClaim, IsMoved}
 use Rattle.hk_core.specs.Lawful.{Facts, FactsOf, hands_of}
-use Rattle.hk_core.proofs.kinds.SpotClear.{ClearingLine, reset_line}
-use Rattle.hk_core.proofs.kinds.SpotSweepLines.{sweep_spot, range_moved}
-use Rattle.hk_core.proofs.kinds.Spots.{SpotFacts, hands_kept, shades_kept}
+use Rattle.hk_collect.proofs.spots.SpotClear.{ClearingLine, reset_line}
+use Rattle.hk_collect.proofs.spots.SpotSweepLines.{sweep_spot, range_moved}
+use Rattle.hk_collect.proofs.spots.Spots.{SpotFacts, hands_kept, shades_kept}
 use Rattle.hk_core.proofs.kinds.WriteCell.{ShadesMean, shades_mean}
 
 -- no range

@@ -25,8 +25,8 @@ use Rattle.hk_core.specs.Lawful.{Facts, FactsOf, hands_of}
 use Rattle.hk_core.proofs.Update.{upd_cases}
 use Rattle.hk_core.proofs.Counts.{count_kept}
 use Rattle.hk_core.proofs.kinds.NewRaise.{making_raised}
-use Rattle.hk_core.proofs.kinds.SpotSweepLines.{sweep_spot, kept_marked}
-use Rattle.hk_core.proofs.kinds.Spots.{SpotFacts, hands_kept}
+use Rattle.hk_collect.proofs.spots.SpotSweepLines.{sweep_spot, kept_marked}
+use Rattle.hk_collect.proofs.spots.Spots.{SpotFacts, hands_kept}
 use Rattle.hk_core.proofs.kinds.WriteCell.{ShadesMean, shades_mean}
 
 never : {A : Type 0} → true ≡ false → A

@@ -37,9 +37,9 @@ use Rattle.hk_core.proofs.kinds.WriteCell.{ShadesMean, SpacesApart, IsGreyIn, Is
 use Rattle.hk_core.proofs.kinds.LoadRead.{ColoursMean, colours_mean, kept_number, shown_birth}
 use Rattle.hk_core.proofs.kinds.Reserve.{size_some}
 use Rattle.hk_core.proofs.kinds.NewRaise.{making_has_room}
-use Rattle.hk_core.proofs.kinds.Spots.{WorkFacts, GoesMarking, hands_kept, shades_kept, work_facts, marking_on, on_spot}
-use Rattle.hk_core.proofs.kinds.SpotLines.{AtItem, AtObjectTrade, at_object_trade, look_works, scan_works}
-use Rattle.hk_core.proofs.kinds.SpotCopy.{IsSpaceOf, spaces_are, moving, item_shows, item_grey}
+use Rattle.hk_collect.proofs.spots.Spots.{WorkFacts, GoesMarking, hands_kept, shades_kept, work_facts, marking_on, on_spot}
+use Rattle.hk_collect.proofs.spots.SpotLines.{AtItem, AtObjectTrade, at_object_trade, look_works, scan_works}
+use Rattle.hk_collect.proofs.spots.SpotCopy.{IsSpaceOf, spaces_are, moving, item_shows, item_grey}
 
 -- CALLS INSIDE AN OBJECT
 

@@ -23,7 +23,7 @@ use Rattle.hk_core.proofs.kinds.Seats.{FlightFacts, CallsFacts, facts_of_flight}
 use Rattle.hk_core.proofs.kinds.Read.{refuted}
 use Rattle.hk_core.proofs.kinds.LoadRead.{ColoursMean, settled_black, some_words}
 use Rattle.hk_core.proofs.kinds.WriteCell.{ShadesMean}
-use Rattle.hk_core.proofs.kinds.SpotLines.{AllBlack}
+use Rattle.hk_collect.proofs.spots.SpotLines.{AllBlack}
 
 -- a number below a bound that passes a test, or none
 abbrev pub SomeBelow : (ℕ → Bool) → ℕ → Type 0

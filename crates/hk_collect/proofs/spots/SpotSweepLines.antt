@@ -29,8 +29,8 @@ use Rattle.hk_core.specs.Lawful.{Facts, FactsOf, hands_of}
 use Rattle.hk_core.proofs.kinds.Seats.{KeptMeans, kept_means}
 use Rattle.hk_core.proofs.kinds.WriteCell.{ShadesMean, fresh_when_done}
 use Rattle.hk_core.proofs.kinds.LoadRead.{some_words}
-use Rattle.hk_core.proofs.kinds.Spots.{SpotFacts}
-use Rattle.hk_core.proofs.kinds.SpotSweepCounts.{count_none}
+use Rattle.hk_collect.proofs.spots.Spots.{SpotFacts}
+use Rattle.hk_collect.proofs.spots.SpotSweepCounts.{count_none}
 
 -- LINES
 

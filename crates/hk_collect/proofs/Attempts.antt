@@ -13,7 +13,7 @@ use Rattle.hk_core.specs.Collect as table
 use Rattle.hk_core.specs.Collect.{last_cycle, is_reference, is_old, spot_took, took_at_line}
 use Rattle.hk_core.specs.Lines as l
 use Rattle.hk_core.specs.Step.{reference_size, reserved_fits}
-use Rattle.hk_core.proofs.kinds.SpotLoads.{took_at}
+use Rattle.hk_collect.proofs.spots.SpotLoads.{took_at}
 use Rattle.hk_collect.specs.Runs.{in_attempt}
 
 -- a choice has what both have

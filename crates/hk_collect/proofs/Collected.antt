@@ -19,8 +19,8 @@ use Rattle.hk_core.proofs.Columns.{fired_if_some}
 use Rattle.hk_core.proofs.Inside.{inside_through}
 use Rattle.hk_core.proofs.Next.{length-fired_if}
 use Rattle.hk_core.proofs.kinds.Enter.{object_of}
-use Rattle.hk_core.proofs.kinds.SpotLoads.{took_at}
-use Rattle.hk_core.proofs.kinds.SpotLoadsRow.{AfterEvent}
+use Rattle.hk_collect.proofs.spots.SpotLoads.{took_at}
+use Rattle.hk_collect.proofs.spots.SpotLoadsRow.{AfterEvent}
 
 -- the words after an event leave the object alone that a call is inside
 abbrev pub Spares : (c : State) → History → Words → Type 0

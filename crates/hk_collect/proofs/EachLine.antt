@@ -38,17 +38,17 @@ use Rattle.hk_core.proofs.kinds.Claim.{claim_words}
 use Rattle.hk_core.proofs.kinds.Reserve.{reserve_words, reserve_range}
 use Rattle.hk_core.proofs.kinds.ReserveSeats.{bearers_have_fields}
 use Rattle.hk_core.proofs.kinds.WriteCell.{cell_words, shades_mean}
-use Rattle.hk_core.proofs.kinds.SpotWords.{words-blacken, words-move, found-claim, found-reserve, found-trade_frame, found-trade_header}
-use Rattle.hk_core.proofs.kinds.SpotLoadsRow.{AfterEvent, frame_loads_row, register_loads_row, frame_trade_lost_row, scan_loads_row, link_loads_row, look_loads_row, cell_loads_row, object_trade_lost_row, pass_loads_row, pass_head_loads_row, found-mark, found-header}
-use Rattle.hk_core.proofs.kinds.SpotClaim.{register_claims, register_reserves, register_links, cell_claims, cell_reserves, cell_links}
-use Rattle.hk_core.proofs.kinds.SpotTrade.{blackened_words, frame_traded}
-use Rattle.hk_core.proofs.kinds.SpotCopy.{cell_copied, in_no_object}
-use Rattle.hk_core.proofs.kinds.SpotMove.{moved_words, object_traded}
-use Rattle.hk_core.proofs.kinds.SpotFlip.{flipped_words, flip, flip_took}
-use Rattle.hk_core.proofs.kinds.SpotToSweep.{pass_to_sweep, pass_head_to_sweep}
-use Rattle.hk_core.proofs.kinds.SpotSweepLines.{kept_marked, kept_current}
-use Rattle.hk_core.proofs.kinds.SpotSweepRow.{sweep_reads_row, sweep_writes_row, sweep_marks_row, sweep_empties_row, clear_row, reset_row, words-flip, words-reset, words-write_entry, words-write_mark, words-empty_header}
-use Rattle.hk_core.proofs.kinds.SpotReset.{no_ranges}
+use Rattle.hk_collect.proofs.spots.SpotWords.{words-blacken, words-move, found-claim, found-reserve, found-trade_frame, found-trade_header}
+use Rattle.hk_collect.proofs.spots.SpotLoadsRow.{AfterEvent, frame_loads_row, register_loads_row, frame_trade_lost_row, scan_loads_row, link_loads_row, look_loads_row, cell_loads_row, object_trade_lost_row, pass_loads_row, pass_head_loads_row, found-mark, found-header}
+use Rattle.hk_collect.proofs.spots.SpotClaim.{register_claims, register_reserves, register_links, cell_claims, cell_reserves, cell_links}
+use Rattle.hk_collect.proofs.spots.SpotTrade.{blackened_words, frame_traded}
+use Rattle.hk_collect.proofs.spots.SpotCopy.{cell_copied, in_no_object}
+use Rattle.hk_collect.proofs.spots.SpotMove.{moved_words, object_traded}
+use Rattle.hk_collect.proofs.spots.SpotFlip.{flipped_words, flip, flip_took}
+use Rattle.hk_collect.proofs.spots.SpotToSweep.{pass_to_sweep, pass_head_to_sweep}
+use Rattle.hk_collect.proofs.spots.SpotSweepLines.{kept_marked, kept_current}
+use Rattle.hk_collect.proofs.spots.SpotSweepRow.{sweep_reads_row, sweep_writes_row, sweep_marks_row, sweep_empties_row, clear_row, reset_row, words-flip, words-reset, words-write_entry, words-write_mark, words-empty_header}
+use Rattle.hk_collect.proofs.spots.SpotReset.{no_ranges}
 use Rattle.hk_collect.proofs.Fitting.{in_space, own_hand, register_hand, cell_hand, cell_names, item_names, item_range, marks_at, formed, in_step, link_there, here_cell, here_object_trade}
 use Rattle.hk_collect.proofs.Collected.{Collected, collected_row, collected_at, inside_kept, spares_all, spares_beside, spares_outside}
 

@@ -2,7 +2,6 @@
 use Rattle.std.proofs.Common.{◌≡◌, ℕ, zero, suc, ◌+◌, ◌-◌, ◌*◌, ◌^◌, ◌<◌, ◌≤◌, Bool, true, false, inl, inr, refl, ◌∙◌, ap, subst, arith, Option, Some, None}
 use Rattle.std.specs.Prelude.{slice_get, unwrap_or, option_map, nat_eq, if◌then◌else◌}
 use Rattle.hk_words.specs.declared.geometry.Geometry.{Geometry}
-use Rattle.hk_words.specs.declared.shape.TheConstants.{MAX_FIELDS}
 use Rattle.hk_words.specs.Geometry.{tasks, list_length, space_words}
 use Rattle.hk_words.specs.Layout as layout
 use Rattle.hk_words.specs.Row.{w0_at, place_at}
@@ -33,30 +32,30 @@ use Rattle.hk_core.proofs.Inside.{shapes_fit, good_sound, LiesInSpaces}
 use Rattle.hk_core.proofs.Reserved.{reserved_small}
 use Rattle.hk_core.proofs.kinds.WriteCell.{shades_mean}
 use Rattle.hk_core.proofs.kinds.LoadRead.{some_words}
-use Rattle.hk_core.proofs.kinds.Spots.{WorkFacts, work_facts, hands_changed}
-use Rattle.hk_core.proofs.kinds.SpotLines.{AtRegister, AtFrameTrade, AtRange, AtItem, AtCell, AtObjectTrade, at_register, at_frame_trade, at_link, at_look, at_cell, at_object_trade}
-use Rattle.hk_core.proofs.kinds.SpotLoadsCells.{IsItem, item_known}
-use Rattle.hk_core.proofs.kinds.SpotLoadsRow.{space_ends}
-use Rattle.hk_core.proofs.kinds.SpotCopy.{moving, item_shows}
-use Rattle.hk_core.proofs.kinds.SpotWords.{can_swap_w0, can_load_w1, can_write_w1, can_load_header, can_trade_header, can_load_mark, can_write_mark, can_load_frame, can_trade_frame, can_load_register, can_write_entry}
+use Rattle.hk_collect.proofs.spots.Spots.{WorkFacts, work_facts, hands_changed}
+use Rattle.hk_collect.proofs.spots.SpotLines.{AtRegister, AtFrameTrade, AtRange, AtItem, AtCell, AtObjectTrade, at_register, at_frame_trade, at_link, at_look, at_cell, at_object_trade}
+use Rattle.hk_collect.proofs.spots.SpotLoadsCells.{IsItem, item_known}
+use Rattle.hk_collect.proofs.spots.SpotLoadsRow.{space_ends}
+use Rattle.hk_collect.proofs.spots.SpotCopy.{moving, item_shows}
+use Rattle.hk_collect.proofs.spots.SpotWords.{can_swap_w0, can_load_w1, can_write_w1, can_load_header, can_trade_header, can_load_mark, can_write_mark, can_load_frame, can_trade_frame, can_load_register, can_write_entry}
 use Rattle.hk_collect.specs.SpotFits.{SpotFits, LineFits, RegisterFits, CellFits, SweepFits, FewSpent}
 
 -- SHAPES
 
 -- each birth of a history has few fields
-few_in : (h : Heap) (b : ℕ) → heap.refs h b + heap.nums h b ≤ MAX_FIELDS
+few_in : (h : Heap) (b : ℕ) → heap.refs h b + heap.nums h b ≤ 254
 unfolding heap.refs heap.nums of_object
 few_in h b = each (slice_get h.objects b)
   where
-    each : (o : Option Object) → unwrap_or (option_map (λ (o : Object). o.shape.refs) o) 0 + unwrap_or (option_map (λ (o : Object). o.shape.nums) o) 0 ≤ MAX_FIELDS
+    each : (o : Option Object) → unwrap_or (option_map (λ (o : Object). o.shape.refs) o) 0 + unwrap_or (option_map (λ (o : Object). o.shape.nums) o) 0 ≤ 254
     each None = omega arith
     each (Some o) = o.shape.few
 
-pub few_words : (c : State) (history : History) (n : ℕ) → size_at (names_of c.geometry history) n ≤ 1 + MAX_FIELDS
+pub few_words : (c : State) (history : History) (n : ℕ) → size_at (names_of c.geometry history) n ≤ 255
 unfolding size_at refs_at nums_at names_of
 few_words c history n = each ((names_of c.geometry history).bearer n)
   where
-    each : (o : Option ℕ) → 1 + unwrap_or (option_map (names_of c.geometry history).refs o) 0 + unwrap_or (option_map (names_of c.geometry history).nums o) 0 ≤ 1 + MAX_FIELDS
+    each : (o : Option ℕ) → 1 + unwrap_or (option_map (names_of c.geometry history).refs o) 0 + unwrap_or (option_map (names_of c.geometry history).nums o) 0 ≤ 255
     each None = omega arith
     each (Some b) = let few = few_in (after (heap.opening_of c.geometry) history) b in omega arith
 
@@ -168,7 +167,7 @@ module _ (c : State) (history : History) (h : Lawful c history) where
       })
 
   -- its words are few
-  item_few : AtItem c.geometry (words_of c.geometry c.row) (spaces_of c.geometry (words_of c.geometry c.row).cycle) its_shades c.spot h.range → reference_size c.spot.item ≤ 1 + MAX_FIELDS
+  item_few : AtItem c.geometry (words_of c.geometry c.row) (spaces_of c.geometry (words_of c.geometry c.row).cycle) its_shades c.spot h.range → reference_size c.spot.item ≤ 255
   item_few o =
       let same : reference_size c.spot.item ≡ size_at (names_of c.geometry history) (layout.reference_number c.spot.item) = (item_there o).size in
       let few = few_words c history (layout.reference_number c.spot.item) in
@@ -243,7 +242,7 @@ module _ (c : State) (history : History) (h : Lawful c history) where
       let spent : c.spot.spent ≤ 1 + 5 * i + l.stage_rank stage = o.spent in
       let rank = rank_small stage in
       let below : i + 1 < reference_size c.spot.item = o.cell in
-      let few : reference_size c.spot.item ≤ 1 + MAX_FIELDS = item_few o.in_object.at_item in
+      let few : reference_size c.spot.item ≤ 255 = item_few o.in_object.at_item in
       omega arith
 
   register_fits : (s r : ℕ) (stage : Stage) → c.spot.line ≡ line.Register s r stage → RegisterFits c.geometry c.spot stage
@@ -302,12 +301,12 @@ module _ (c : State) (history : History) (h : Lawful c history) where
   line_fits line.Look at = item_names (marks_at line.Look at refl) (here_look at)
   line_fits (line.Cell i stage) at =
       let o = here_cell i stage at in
-      let few : reference_size c.spot.item ≤ 1 + MAX_FIELDS = item_few o.in_object.at_item in
+      let few : reference_size c.spot.item ≤ 255 = item_few o.in_object.at_item in
       (o.cell, omega arith, cell_fits i stage at, cell_few i stage at)
   line_fits line.ObjectTrade at =
       let o = here_object_trade at in
       let spent : c.spot.spent ≤ 1 + 5 * (reference_size c.spot.item - 1) = o.spent in
-      let few : reference_size c.spot.item ≤ 1 + MAX_FIELDS = item_few o.in_object.at_item in
+      let few : reference_size c.spot.item ≤ 255 = item_few o.in_object.at_item in
       let there = range_there o.in_object.at_item.at_range in
       (item_names (marks_at line.ObjectTrade at refl) o.in_object.at_item, omega arith, omega arith)
   line_fits (line.Pass n) at = formed (line.Pass n) at

@@ -1,3 +1,4 @@
+pub mod spots
 pub mod Fitting
 pub mod Collected
 pub mod EachLine

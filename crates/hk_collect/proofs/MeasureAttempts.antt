@@ -30,10 +30,11 @@ use Rattle.hk_core.specs.Lawful.{Lawful}
 use Rattle.hk_core.proofs.Columns.{fired_kept}
 use Rattle.hk_core.proofs.Inside.{shapes_fit}
 use Rattle.hk_core.proofs.kinds.Seats.{kept_means}
-use Rattle.hk_core.proofs.kinds.SpotLines.{AtRegister, AtCell, at_register, at_cell}
-use Rattle.hk_core.proofs.kinds.SpotLoads.{work_at, took_at}
-use Rattle.hk_core.proofs.kinds.SpotLoadsCells.{IsItem, item_known}
-use Rattle.hk_collect.specs.Measure.{frame_events, object_events, in_attempt, FrameUntouched, ObjectUntouched, UntouchedAt, IsUntouched, ClosesAttempt, useful_after, least_useful, CountsAttempt}
+use Rattle.hk_collect.proofs.spots.SpotLines.{AtRegister, AtCell, at_register, at_cell}
+use Rattle.hk_collect.proofs.spots.SpotLoads.{work_at, took_at}
+use Rattle.hk_collect.proofs.spots.SpotLoadsCells.{IsItem, item_known}
+use Rattle.hk_words.specs.Bounds.{frame_events, object_events}
+use Rattle.hk_collect.specs.Measure.{in_attempt, FrameUntouched, ObjectUntouched, UntouchedAt, IsUntouched, ClosesAttempt, useful_after, least_useful, CountsAttempt}
 
 never : {A : Type 0} → true ≡ false → A
 never e = absurd (cc)
@@ -440,11 +441,11 @@ lost_closes_attempt c lost e = each c.spot.line refl (loss_of c lost e)
     each _ at (of_object other _) = record { was_open = rw at (refl); is_closed = closed_after c line.ObjectTrade at (object_trade_outside c.geometry c.spot _) }
 
 pub lost_is_bounded : (c : State) (history : History) (lost : ℕ) → Lawful c history → work_by_collector c ≡ Lost lost
-    → lost ≤ max (frame_events c.geometry) (object_events (reference_size c.spot.item))
+    → lost ≤ max (frame_events c.geometry.registers) (object_events (reference_size c.spot.item))
 unfolding l.most_spent
 lost_is_bounded c history lost h e = each c.spot.line refl (loss_of c lost e)
   where
-    each : (ln : Line) → c.spot.line ≡ ln → IsLoss c.geometry c.spot (found_by_collector c) lost ln → lost ≤ max (frame_events c.geometry) (object_events (reference_size c.spot.item))
+    each : (ln : Line) → c.spot.line ≡ ln → IsLoss c.geometry c.spot (found_by_collector c) lost ln → lost ≤ max (frame_events c.geometry.registers) (object_events (reference_size c.spot.item))
     each _ at (of_frame s other spent) =
         let few : c.spot.spent ≤ 1 + 4 * c.geometry.registers = h.facts.spent_bounded (1 + 4 * c.geometry.registers) (rw at refl) in
         omega arith

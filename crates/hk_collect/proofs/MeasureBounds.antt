@@ -18,9 +18,10 @@ use Rattle.hk_core.specs.Lawful.{Lawful}
 use Rattle.hk_core.proofs.Inside.{shapes_fit}
 use Rattle.hk_core.proofs.kinds.Seats.{kept_means}
 use Rattle.hk_core.proofs.kinds.WriteCell.{reference_parts, size_of_reference, shades_mean}
-use Rattle.hk_core.proofs.kinds.SpotLines.{AtItem, at_object_trade}
-use Rattle.hk_core.proofs.kinds.SpotLoads.{work_at}
-use Rattle.hk_collect.specs.Measure.{frame_events, most_for_sweep, most_in_sweep, most_useful_at, most_useful, cycle_bound, MovesBirth}
+use Rattle.hk_collect.proofs.spots.SpotLines.{AtItem, at_object_trade}
+use Rattle.hk_collect.proofs.spots.SpotLoads.{work_at}
+use Rattle.hk_words.specs.Bounds.{frame_events}
+use Rattle.hk_collect.specs.Measure.{most_for_sweep, most_in_sweep, most_useful_at, most_useful, cycle_bound, MovesBirth}
 use Rattle.hk_collect.proofs.MeasureAttempts.{register_knows, cell_knows}
 
 -- NUMBERS
@@ -160,10 +161,10 @@ module _ (c : State) (history : History) (h : Lawful c history) where
 
   bound_at : (ln : Line) → c.spot.line ≡ ln → most_useful_at c.geometry c.spot ln ≤ cycle_bound c.geometry
   unfolding most_useful_at l.is_resting l.most_spent
-  bound_at line.Rest at = clear_within (frame_events c.geometry * tasks c.geometry) (c.geometry.live + c.geometry.alloc) c.geometry.live c.geometry.alloc (omega arith)
+  bound_at line.Rest at = clear_within (frame_events c.geometry.registers * tasks c.geometry) (c.geometry.live + c.geometry.alloc) c.geometry.live c.geometry.alloc (omega arith)
   bound_at (line.Frame s) at =
       let below : s < tasks c.geometry = fits_at (line.Frame s) at in
-      let most = frames_within (frame_events c.geometry) s (tasks c.geometry) below in
+      let most = frames_within (frame_events c.geometry.registers) s (tasks c.geometry) below in
       omega arith
   bound_at (line.Register s r stage) at =
       let o = register_knows c history h s r stage at in
@@ -171,41 +172,41 @@ module _ (c : State) (history : History) (h : Lawful c history) where
       let within : r < c.geometry.registers = o.register in
       let spent : c.spot.spent ≤ 1 + 4 * r + l.stage_rank stage = o.spent in
       let rank = rank_of_register stage o.staged in
-      register_bound (frame_events c.geometry) c.geometry.registers s (tasks c.geometry) r c.spot.spent c.geometry.live c.geometry.alloc refl below within (omega arith)
+      register_bound (frame_events c.geometry.registers) c.geometry.registers s (tasks c.geometry) r c.spot.spent c.geometry.live c.geometry.alloc refl below within (omega arith)
   bound_at (line.FrameTrade s) at =
       let below : s < tasks c.geometry = fits_at (line.FrameTrade s) at in
-      trade_bound (frame_events c.geometry) c.geometry.registers s (tasks c.geometry) c.spot.spent c.geometry.live c.geometry.alloc refl below
+      trade_bound (frame_events c.geometry.registers) c.geometry.registers s (tasks c.geometry) c.spot.spent c.geometry.live c.geometry.alloc refl below
       (spent_at (line.FrameTrade s) (1 + 4 * c.geometry.registers) at refl)
   bound_at line.Scan at =
-      let most = scan_within (frame_events c.geometry * tasks c.geometry) c.spot.scan c.geometry.live c.geometry.alloc (scan_fits line.Scan at refl) in
+      let most = scan_within (frame_events c.geometry.registers * tasks c.geometry) c.spot.scan c.geometry.live c.geometry.alloc (scan_fits line.Scan at refl) in
       omega arith
   bound_at line.Link at =
-      let most = scan_within (frame_events c.geometry * tasks c.geometry) c.spot.scan c.geometry.live c.geometry.alloc (scan_fits line.Link at refl) in
+      let most = scan_within (frame_events c.geometry.registers * tasks c.geometry) c.spot.scan c.geometry.live c.geometry.alloc (scan_fits line.Link at refl) in
       omega arith
-  bound_at line.Look at = scan_within (frame_events c.geometry * tasks c.geometry) c.spot.scan c.geometry.live c.geometry.alloc (scan_fits line.Look at refl)
+  bound_at line.Look at = scan_within (frame_events c.geometry.registers * tasks c.geometry) c.spot.scan c.geometry.live c.geometry.alloc (scan_fits line.Look at refl)
   bound_at (line.Cell i stage) at =
       let o = cell_knows c history h i stage at in
       let cell : i + 1 < reference_size c.spot.item = o.cell in
       let spent : c.spot.spent ≤ 1 + 5 * i + l.stage_rank stage = o.spent in
       let rank = rank_of_cell stage in
-      cell_bound (frame_events c.geometry * tasks c.geometry) c.spot.scan c.spot.spent (reference_size c.spot.item) c.geometry.live c.geometry.alloc (omega arith) (item_at_cell i stage at) (omega arith)
+      cell_bound (frame_events c.geometry.registers * tasks c.geometry) c.spot.scan c.spot.spent (reference_size c.spot.item) c.geometry.live c.geometry.alloc (omega arith) (item_at_cell i stage at) (omega arith)
   bound_at line.ObjectTrade at =
-      cell_bound (frame_events c.geometry * tasks c.geometry) c.spot.scan c.spot.spent (reference_size c.spot.item) c.geometry.live c.geometry.alloc (omega arith) (item_at_trade at)
+      cell_bound (frame_events c.geometry.registers * tasks c.geometry) c.spot.scan c.spot.spent (reference_size c.spot.item) c.geometry.live c.geometry.alloc (omega arith) (item_at_trade at)
       (spent_at line.ObjectTrade (1 + 5 * (reference_size c.spot.item - 1)) at refl)
   bound_at (line.Pass n) at =
-      let most = pass_within (frame_events c.geometry * tasks c.geometry) n c.geometry.live c.geometry.alloc (fits_at (line.Pass n) at) in
+      let most = pass_within (frame_events c.geometry.registers * tasks c.geometry) n c.geometry.live c.geometry.alloc (fits_at (line.Pass n) at) in
       omega arith
-  bound_at (line.PassHead n) at = pass_within (frame_events c.geometry * tasks c.geometry) n c.geometry.live c.geometry.alloc (fits_at (line.PassHead n) at)
+  bound_at (line.PassHead n) at = pass_within (frame_events c.geometry.registers * tasks c.geometry) n c.geometry.live c.geometry.alloc (fits_at (line.PassHead n) at)
   bound_at (line.Sweep n stage) at =
-      let most = sweep_within (frame_events c.geometry * tasks c.geometry) n c.spot.entries c.geometry.live c.geometry.alloc (fits_at (line.Sweep n stage) at).0 (entries_few n stage at) in
+      let most = sweep_within (frame_events c.geometry.registers * tasks c.geometry) n c.spot.entries c.geometry.live c.geometry.alloc (fits_at (line.Sweep n stage) at).0 (entries_few n stage at) in
       let more = sweep_bounded n stage in
       omega arith
   bound_at (line.Clear i) at =
       let below : i < space_words c.geometry = fits_at (line.Clear i) at in
-      let most = clear_within (frame_events c.geometry * tasks c.geometry) i c.geometry.live c.geometry.alloc (omega arith) in
+      let most = clear_within (frame_events c.geometry.registers * tasks c.geometry) i c.geometry.live c.geometry.alloc (omega arith) in
       omega arith
   bound_at line.Reset at =
-      let most = clear_within (frame_events c.geometry * tasks c.geometry) (c.geometry.live + c.geometry.alloc) c.geometry.live c.geometry.alloc (omega arith) in
+      let most = clear_within (frame_events c.geometry.registers * tasks c.geometry) (c.geometry.live + c.geometry.alloc) c.geometry.live c.geometry.alloc (omega arith) in
       omega arith
 
   pub bound_is_cycle : most_useful c.geometry c.spot ≤ cycle_bound c.geometry

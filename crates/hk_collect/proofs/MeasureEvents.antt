@@ -27,10 +27,10 @@ use Rattle.hk_core.proofs.Inside.{shapes_fit}
 use Rattle.hk_core.proofs.kinds.Seats.{kept_means}
 use Rattle.hk_core.proofs.kinds.LoadRead.{found-cell, some_words}
 use Rattle.hk_core.proofs.kinds.WriteCell.{shades_mean}
-use Rattle.hk_core.proofs.kinds.SpotLines.{AtRange, AtItem, at_link, at_look}
-use Rattle.hk_core.proofs.kinds.SpotLoads.{work_at}
-use Rattle.hk_core.proofs.kinds.SpotLoadsCells.{IsItem, item_known}
-use Rattle.hk_core.proofs.kinds.SpotLoadsRow.{found-reserved, found-frame, found-header, found-mark, space_ends}
+use Rattle.hk_collect.proofs.spots.SpotLines.{AtRange, AtItem, at_link, at_look}
+use Rattle.hk_collect.proofs.spots.SpotLoads.{work_at}
+use Rattle.hk_collect.proofs.spots.SpotLoadsCells.{IsItem, item_known}
+use Rattle.hk_collect.proofs.spots.SpotLoadsRow.{found-reserved, found-frame, found-header, found-mark, space_ends}
 use Rattle.hk_collect.specs.Measure.{most_useful_at, most_useful, NoneInFlight, IsCalm, KeepsMeasure, is_grey}
 use Rattle.hk_collect.proofs.MeasureAttempts.{after_at, work_after, load_kept, register_knows, cell_knows}
 use Rattle.hk_collect.proofs.MeasureBounds.{scan_fits, fits_at, spent_at, entries_few}

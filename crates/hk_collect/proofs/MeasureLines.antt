@@ -14,7 +14,8 @@ use Rattle.hk_core.specs.Step.{reference_size, reserved_fits}
 use Rattle.hk_core.specs.Collect as table
 use Rattle.hk_core.specs.Collect.{took_at_line, work_at_line}
 use Rattle.hk_core.specs.Lines as l
-use Rattle.hk_collect.specs.Measure.{frame_events, most_for_frames, most_for_scan, most_for_pass, most_in_sweep, most_useful_at, most_useful, useful_after, WaitsForNobody}
+use Rattle.hk_words.specs.Bounds.{frame_events}
+use Rattle.hk_collect.specs.Measure.{most_for_frames, most_for_scan, most_for_pass, most_in_sweep, most_useful_at, most_useful, useful_after, WaitsForNobody}
 use Rattle.hk_collect.proofs.MeasureBounds.{frames_step}
 
 -- an event that finds `old` keeps to the measure, and waits for nobody
@@ -97,11 +98,11 @@ module _ (g : Geometry) (t : Spot) (old useful : ℕ) where
   unfolding took_at_line table.frame_trade_took work_at_line table.frame_trade_work most_useful most_useful_at
   frame_trade_counts s below spent few = elim (cases_Bool (nat_eq old t.first)) [
     | inl found ↦ elim (cases_Bool (nat_lt (s + 1) (tasks g))) [
-      | inl more ↦ record { measured = rw (found, more) (done_frame (frame_events g) g.registers s t.spent useful refl spent few); waits_for_nobody = rw found tt }
+      | inl more ↦ record { measured = rw (found, more) (done_frame (frame_events g.registers) g.registers s t.spent useful refl spent few); waits_for_nobody = rw found tt }
       | inr last ↦
           let end : tasks g ≡ s + 1 = let most : tasks g ≤ s + 1 = ltb-false (s + 1) (tasks g) last in omega arith in
-          let done = done_frame (frame_events g) g.registers s t.spent useful refl spent few in
-          let same : frame_events g * tasks g ≡ frame_events g * (s + 1) = ap (λ k. frame_events g * k) end in
+          let done = done_frame (frame_events g.registers) g.registers s t.spent useful refl spent few in
+          let same : frame_events g.registers * tasks g ≡ frame_events g.registers * (s + 1) = ap (λ k. frame_events g.registers * k) end in
           record { measured = rw (found, last) (omega arith); waits_for_nobody = rw found tt }
     ]
     | inr other ↦ record { measured = rw other (lost_again (most_for_frames g s) t.spent useful few); waits_for_nobody = rw other tt }
@@ -113,7 +114,7 @@ module _ (g : Geometry) (t : Spot) (old useful : ℕ) where
     | inl over ↦ record { measured = rw over (rw at few); waits_for_nobody = rw over tt }
     | inr within ↦ elim (cases_Bool (nat_lt t.scan old)) [
       | inl ahead ↦ record { measured = rw (within, ahead) (omega arith); waits_for_nobody = rw within tt }
-      | inr ends ↦ record { measured = rw (within, ends) (pass_begins (frame_events g * tasks g) t.scan g.live useful fits few); waits_for_nobody = rw within tt }
+      | inr ends ↦ record { measured = rw (within, ends) (pass_begins (frame_events g.registers * tasks g) t.scan g.live useful fits few); waits_for_nobody = rw within tt }
     ]
   ]
 
@@ -144,7 +145,7 @@ module _ (g : Geometry) (t : Spot) (old useful : ℕ) where
   pub object_trade_counts : t.spent ≤ 1 + 5 * (reference_size t.item - 1) → useful ≤ most_useful_at g t line.ObjectTrade → Counts g t old line.ObjectTrade useful
   unfolding took_at_line table.object_trade_took work_at_line table.object_trade_work most_useful most_useful_at
   object_trade_counts spent few = elim (cases_Bool (nat_eq old t.first)) [
-    | inl found ↦ record { measured = rw found (done_object (frame_events g * tasks g) t.scan (reference_size t.item) t.spent useful (omega arith) spent few); waits_for_nobody = rw found tt }
+    | inl found ↦ record { measured = rw found (done_object (frame_events g.registers * tasks g) t.scan (reference_size t.item) t.spent useful (omega arith) spent few); waits_for_nobody = rw found tt }
     | inr other ↦ record { measured = rw other (lost_again (most_for_scan g t.scan + 2) t.spent useful few); waits_for_nobody = rw other tt }
   ]
 

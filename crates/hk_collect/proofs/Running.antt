@@ -15,7 +15,8 @@ use Rattle.hk_model.specs.History.{History, Legal, is_question}
 use Rattle.hk_core.specs.declared.flight.Flight.{Flight}
 use Rattle.hk_core.specs.declared.outcome.Fault.{Fault}
 use Rattle.hk_core.specs.State.{State, IsSized, opening, flight_of}
-use Rattle.hk_core.specs.Step.{places_of, next, history_after}
+use Rattle.hk_words.specs.Bounds.{places_of}
+use Rattle.hk_core.specs.Step.{next, history_after}
 use Rattle.hk_core.specs.Begin.{refusal, first_flight, accepted, after_begin, begun_or}
 use Rattle.hk_core.specs.Collect.{next_collected}
 use Rattle.hk_core.specs.Run.{Action, Running, begin, step, collect, act, run, run_from_opening, may_begin, is_idle, is_busy, registers_fit}

@@ -23,7 +23,7 @@ use Rattle.hk_core.specs.Step.{reference_size, next, history_after}
 use Rattle.hk_core.specs.View.{words_of, decoded, raw, word_if, names_of, flight_at}
 use Rattle.hk_core.specs.Colours.{spaces_of, shades_of, is_within}
 use Rattle.hk_core.specs.Lawful.{hands_of}
-use Rattle.hk_core.proofs.kinds.SpotClaim.{own_hand}
+use Rattle.hk_collect.proofs.spots.SpotClaim.{own_hand}
 use Rattle.hk_collect.specs.Used.{Trace, BearsUsed, CollectKeepsLawful, TracedIsRun, TracedKeepsGeometry, OthersAreLate, ReservedWasUsed, HeldWasUsed, CallsReserveUsed, CollectorReservesUsed, gives_young, is_flip, is_grey, next_birth, trace_act, trace_opening, traced}
 use Rattle.hk_collect.proofs.UsedBirth.{about_to_bear}
 use Rattle.hk_collect.proofs.UsedMarks.{zero_not_old}

@@ -30,9 +30,9 @@ use Rattle.hk_core.proofs.Inside.{shapes_fit}
 use Rattle.hk_core.proofs.Rows.{words_some}
 use Rattle.hk_core.proofs.kinds.ClaimWords.{words-claim}
 use Rattle.hk_core.proofs.kinds.Seats.{kept_means}
-use Rattle.hk_core.proofs.kinds.SpotMove.{item_there}
-use Rattle.hk_core.proofs.kinds.SpotMoveRows.{words-move}
-use Rattle.hk_core.proofs.kinds.SpotSweepRow.{words-write_mark, words-empty_header}
+use Rattle.hk_collect.proofs.spots.SpotMove.{item_there}
+use Rattle.hk_collect.proofs.spots.SpotMoveRows.{words-move}
+use Rattle.hk_collect.proofs.spots.SpotSweepRow.{words-write_mark, words-empty_header}
 use Rattle.hk_collect.proofs.UsedCalls.{not_old, used_some}
 use Rattle.hk_collect.proofs.UsedFacts.{MarksUsed, SpotUsed, marks_agree, marks_claim, marks_fewer, marks_place}
 use Rattle.hk_collect.proofs.UsedRows.{Agrees, agrees_fired, agrees_load, agrees_rest, agrees_same, beside_w0, beside_w1, beside_frame, beside_entry, beside_space}

@@ -33,10 +33,10 @@ use Rattle.hk_core.proofs.Inside.{shapes_fit}
 use Rattle.hk_core.proofs.kinds.LoadRead.{kept_number, shown_none, shown_birth, found-cell}
 use Rattle.hk_core.proofs.kinds.Seats.{kept_means}
 use Rattle.hk_core.proofs.kinds.NewHeader.{number_of_reference}
-use Rattle.hk_core.proofs.kinds.SpotLines.{AtItem, AtCell, at_cell}
-use Rattle.hk_core.proofs.kinds.SpotLoads.{work_at}
-use Rattle.hk_core.proofs.kinds.SpotLoadsCells.{IsItem, item_known}
-use Rattle.hk_core.proofs.kinds.SpotLoadsRow.{found-frame, found-register, space_ends}
+use Rattle.hk_collect.proofs.spots.SpotLines.{AtItem, AtCell, at_cell}
+use Rattle.hk_collect.proofs.spots.SpotLoads.{work_at}
+use Rattle.hk_collect.proofs.spots.SpotLoadsCells.{IsItem, item_known}
+use Rattle.hk_collect.proofs.spots.SpotLoadsRow.{found-frame, found-register, space_ends}
 use Rattle.hk_core.proofs.kinds.WriteCell.{shades_mean}
 use Rattle.hk_collect.specs.Used.{Closed, IsUsedWord}
 use Rattle.hk_collect.proofs.UsedCalls.{word_used}

@@ -32,7 +32,7 @@ use Rattle.hk_core.proofs.Actions.{lawful_act_begin}
 use Rattle.hk_core.proofs.OpeningLawful.{opening_lawful}
 use Rattle.hk_core.proofs.Seven.{seat_steps}
 use Rattle.hk_core.proofs.kinds.Effects.{is_heap}
-use Rattle.hk_core.proofs.kinds.SpotFlip.{flipped_spot}
+use Rattle.hk_collect.proofs.spots.SpotFlip.{flipped_spot}
 use Rattle.hk_collect.specs.Used.{Closed, Trace, UsedSince, YoungBorn, CollectKeepsLawful, next_birth, gives_young, is_flip, trace_act, trace_opening, traced}
 use Rattle.hk_collect.proofs.UsedBirth.{about_to_bear, birth_keeps, next_after}
 use Rattle.hk_collect.proofs.UsedCalls.{step_keeps}

@@ -11,7 +11,8 @@ use Rattle.hk_core.specs.declared.spot.Spot.{Spot}
 use Rattle.hk_core.specs.declared.spot.Line.TheVariants.{Pass, PassHead}
 use Rattle.hk_core.specs.Event.{CanFireIf}
 use Rattle.hk_core.specs.State.{State, flight_of}
-use Rattle.hk_core.specs.Step.{places_of, next}
+use Rattle.hk_words.specs.Bounds.{places_of}
+use Rattle.hk_core.specs.Step.{next}
 use Rattle.hk_core.specs.Begin.{refusal}
 use Rattle.hk_core.specs.Collect.{event_by_collector, next_collected, spot_took}
 use Rattle.hk_core.specs.Run.{Action, Running, begin, collect, act, run_from_opening, may_begin}

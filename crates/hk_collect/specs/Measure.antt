@@ -4,6 +4,7 @@
 use Rattle.std.specs.Prelude.{◌≡◌, ◌≢◌, ℕ, ◌+◌, ◌-◌, ◌*◌, ◌<◌, ◌≤◌, max, Bool, true, false, ⊤, Some, if◌then◌else◌}
 use Rattle.hk_words.specs.declared.geometry.Geometry.{Geometry}
 use Rattle.hk_words.specs.declared.call.Call.{Call}
+use Rattle.hk_words.specs.Bounds.{frame_events, object_events, cycle_events}
 use Rattle.hk_words.specs.Geometry.{tasks, numbers, list_length}
 use Rattle.hk_words.specs.Row.{word_of}
 use Rattle.hk_words.specs.Row.Slot.{Header, Frame}
@@ -25,14 +26,6 @@ use Rattle.hk_core.specs.Colours.{spaces_of, grey_by}
 use Rattle.hk_core.specs.Lawful.{Lawful}
 
 -- ATTEMPTS
-
--- the most events of an attempt on a frame: the load of its word, four for each register, and the exchange
-abbrev pub frame_events : Geometry → ℕ
-frame_events g = 2 + 4 * g.registers
-
--- the most events of an attempt on an object of so many words: the load of its header, five for each cell, and the exchange
-abbrev pub object_events : ℕ → ℕ
-object_events words = 2 + 5 * (words - 1)
 
 -- an attempt is open: it began, and its exchange is still to come
 unfoldable pub in_attempt : Line → Bool
@@ -83,7 +76,7 @@ IsUntouched c = UntouchedAt c c.spot.line
 -- so many frames are done; then so many words are scanned; then so many numbers are gone past by the pass, and by the
 -- sweep, which has written so many entries; then so many words are cleared
 abbrev pub most_for_frames : Geometry → (frames : ℕ) → ℕ
-most_for_frames g frames = 1 + frame_events g * frames
+most_for_frames g frames = 1 + frame_events g.registers * frames
 
 abbrev pub most_for_scan : Geometry → (words : ℕ) → ℕ
 most_for_scan g words = most_for_frames g (tasks g) + 5 * words
@@ -129,7 +122,7 @@ most_useful g t = most_useful_at g t t.line
 
 -- the most useful events of a whole cycle
 abbrev pub cycle_bound : Geometry → ℕ
-cycle_bound g = 3 + frame_events g * tasks g + 9 * g.live + 7 * g.alloc
+cycle_bound g = cycle_events g.registers (tasks g) g.live g.alloc
 
 -- the useful events of the cycle after an event, from what they were before it: a flip begins to count anew, and the
 -- events of a lost attempt are taken away again, with the exchange that lost it
@@ -244,7 +237,7 @@ AttemptsAreCounted = (c : State) (useful : ℕ) → least_useful c.spot ≤ usef
 -- the events of a lost attempt are at most those of an attempt on a frame, or on the object that is moved
 abbrev pub LostIsBounded : Type 0
 LostIsBounded = (c : State) (history : History) (lost : ℕ) → Lawful c history → work_by_collector c ≡ Lost lost
-    → lost ≤ max (frame_events c.geometry) (object_events (reference_size c.spot.item))
+    → lost ≤ max (frame_events c.geometry.registers) (object_events (reference_size c.spot.item))
 
 -- and that object is one of the plain heap: a birth bears its number, and has its words
 pub record MovesBirth (c : State) (history : History) (birth : ℕ) : Type 0 where

@@ -7,7 +7,8 @@ use Rattle.hk_words.specs.Layout.{reference_number}
 use Rattle.hk_core.specs.declared.spot.Line.{Line}
 use Rattle.hk_core.specs.declared.spot.Line.TheVariants as line
 use Rattle.hk_core.specs.State.{State, flight_of}
-use Rattle.hk_core.specs.Step.{places_of, next, answer_by}
+use Rattle.hk_words.specs.Bounds.{places_of}
+use Rattle.hk_core.specs.Step.{next, answer_by}
 use Rattle.hk_core.specs.Run.{Action, begin, step, collect, is_busy}
 use Rattle.hk_core.specs.Flights.{in_object}
 use Rattle.hk_core.specs.Inside.{cell_written}

@@ -314,10 +314,10 @@ module _ (c : State) (history : History) (s : ℕ) (below : s < tasks c.geometry
       let w = words_of g c.row in
       let will : f.will_raise x ≡ true = rw (is_new, at, found) refl in
       let some : 0 < count_below (tasks g) (λ t. f.will_raise (flight_at c t)) = count_some (λ t. f.will_raise (flight_at c t)) s (tasks g) below will in
-      let used : w.used + 63 * count_below (tasks g) (λ t. f.will_raise (flight_at c t)) ≤ g.alloc + 63 * tasks g = h.facts.used_stays_bounded in
+      let used : w.used + 255 * count_below (tasks g) (λ t. f.will_raise (flight_at c t)) ≤ g.alloc + 255 * tasks g = h.facts.used_stays_bounded in
       let objects : w.objects + count_below (tasks g) (λ t. f.will_raise (flight_at c t)) ≤ list_length g + tasks g = h.facts.objects_stay_bounded in
       let cycle : w.cycle ≤ last_cycle = h.facts.cycle_fits in
-      let few : size shape ≤ 63 = let fields = shape.few in omega arith in
+      let few : size shape ≤ 255 = let fields = shape.few in omega arith in
       can_raise g c.row h.sized.row (size shape) (omega arith) (omega arith) (omega arith)
 
   new_fires : (dest : ℕ) (shape : Shape) → (flight_at c s).call ≡ call.New dest shape → CanFireIf c.row (table.new_event c.geometry (flight_at c s) dest shape)

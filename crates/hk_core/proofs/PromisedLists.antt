@@ -24,8 +24,7 @@ use Rattle.hk_core.specs.Facts.{IsOwn, IsUnread, own_entry}
 use Rattle.hk_core.specs.Lawful.{Facts}
 use Rattle.hk_core.specs.Stands.{IsUnreadEntry, IsOnNoList, ListsStand}
 use Rattle.hk_core.proofs.kinds.Read.{refuted}
-use Rattle.hk_core.proofs.kinds.WriteCell.{ShadesMean}
-use Rattle.hk_core.proofs.kinds.SpotSweepLines.{kept_marked}
+use Rattle.hk_core.proofs.kinds.WriteCell.{ShadesMean, fresh_when_done}
 use Rattle.hk_core.proofs.PromisedNumbers.{mark_fresh, kept_when_reached, item_null_or_good}
 
 -- ENTRIES OF THE NEXT LIST
@@ -134,7 +133,7 @@ module _ (g : Geometry) (w : Words) (z : Spaces) (sh : Shades) (flight : ℕ →
         | inr before ↦ let mark : w.mark n ≡ w.cycle + 1 = ap w.mark (sym same) ∙ later in omega arith
       ]
       | inr last ↦
-          let marked : w.mark n ≡ w.cycle = kept_marked g w z sh flight begun hand t names contents range h m last.0 n kept in
+          let marked : w.mark n ≡ w.cycle = fresh_when_done w.cycle (l.is_marking t.line) (w.mark n) last.0 (m.kept n kept).is_fresh in
           let low : w.mark n < w.cycle = subst (λ (k : ℕ). w.mark k < w.cycle) same last.1 in
           omega arith
     ];

@@ -12,7 +12,8 @@ use Rattle.hk_model.specs.History.{Entry}
 use Rattle.hk_core.specs.declared.flight.Flight.{Flight}
 use Rattle.hk_core.specs.declared.outcome.Outcome.{Outcome}
 use Rattle.hk_core.specs.Step as table
-use Rattle.hk_core.specs.Step.{places_of, outcome_at, took_of, effect_of, full_to, full_to_all}
+use Rattle.hk_words.specs.Bounds.{places_of}
+use Rattle.hk_core.specs.Step.{outcome_at, took_of, effect_of, full_to, full_to_all}
 use Rattle.hk_core.specs.Replied.{outcome_of}
 use Rattle.hk_core.proofs.kinds.Seats.{moved_on}
 use Rattle.hk_core.proofs.kinds.NewLoads.{new_loaded, new_on, refused}

@@ -19,7 +19,8 @@ use Rattle.hk_core.specs.declared.flight.Flight.{Flight}
 use Rattle.hk_core.specs.declared.outcome.Step.TheVariants.{Going, Ended}
 use Rattle.hk_core.specs.declared.outcome.Outcome.TheVariants.{Done, Full}
 use Rattle.hk_core.specs.State.{State}
-use Rattle.hk_core.specs.Step.{full_to, full_to_all, places_of, outcome_at, step_of, took_of, effect_of, found_by, next, history_after}
+use Rattle.hk_words.specs.Bounds.{places_of}
+use Rattle.hk_core.specs.Step.{full_to, full_to_all, outcome_at, step_of, took_of, effect_of, found_by, next, history_after}
 use Rattle.hk_core.specs.View.{Words, flight_at}
 use Rattle.hk_core.specs.Flights as f
 use Rattle.hk_core.specs.Lawful.{Lawful}

@@ -9,7 +9,8 @@ use Rattle.hk_model.specs.History.{is_question}
 use Rattle.hk_core.specs.declared.flight.Flight.{Flight}
 use Rattle.hk_core.specs.declared.outcome.Fault.{Fault}
 use Rattle.hk_core.specs.State.{State, IsSized, flight_of}
-use Rattle.hk_core.specs.Step.{places_of, answer_by, next}
+use Rattle.hk_words.specs.Bounds.{places_of}
+use Rattle.hk_core.specs.Step.{answer_by, next}
 use Rattle.hk_core.specs.Begin.{refusal, accepted, after_begin, begun_or}
 use Rattle.hk_core.specs.Collect.{next_collected}
 use Rattle.hk_core.specs.Run.{Action, Running, begin, step, collect, act, run, may_begin, is_idle, is_busy, registers_fit}

@@ -2,7 +2,6 @@
 -- changes none of these leaves the fact as it is. Beside what a fact means stands a step that would break without it.
 use Rattle.std.specs.Prelude.{◌≡◌, ◌≢◌, ◌⊎◌, ℕ, ◌+◌, ◌*◌, ◌<◌, ◌≤◌, Bool, true, false, nat_eq, Option, Some, None, if◌then◌else◌}
 use Rattle.hk_words.specs.declared.geometry.Geometry.{Geometry}
-use Rattle.hk_words.specs.declared.shape.TheConstants.{MAX_FIELDS}
 use Rattle.hk_words.specs.Geometry.{tasks, numbers, list_length}
 use Rattle.hk_words.specs.Layout as layout
 use Rattle.hk_words.specs.Calls.{entered, target, RegistersFit}
@@ -11,7 +10,8 @@ use Rattle.hk_core.specs.declared.flight.Flight.{Flight}
 use Rattle.hk_core.specs.declared.spot.Spot.{Spot}
 use Rattle.hk_core.specs.declared.spot.Line.{Line}
 use Rattle.hk_core.specs.Counts.{count_below, sum_below}
-use Rattle.hk_core.specs.Step.{places_of, new_place, side_of}
+use Rattle.hk_words.specs.Bounds.{places_of}
+use Rattle.hk_core.specs.Step.{new_place, side_of}
 use Rattle.hk_core.specs.Begin.{most_calls, has_field, copied}
 use Rattle.hk_core.specs.Collect.{last_cycle}
 use Rattle.hk_core.specs.View.{Names, shown}
@@ -44,11 +44,11 @@ FramesNotAhead g cycle frame_cycle = (s : ℕ) → s < tasks g → frame_cycle s
 abbrev pub ObjectsHaveTwoWords : (objects used : ℕ) → Type 0
 ObjectsHaveTwoWords objects used = 2 * objects ≤ used
 
--- The words used, with the most that each New which will still raise W0 can add, pass the room for allocation by no
--- more than one object a task; likewise the objects made. Without it a raise could leave the bits of a field of W0.
+-- The words used, with the most that each New which will still raise W0 can add (the 255 words of the largest object),
+-- pass the room for allocation by no more than one object a task; likewise the objects made. Without it a raise could leave the bits of a field of W0.
 abbrev pub UsedStaysBounded : Geometry → (used : ℕ) → (flight : ℕ → Flight) → Type 0
 UsedStaysBounded g used flight =
-    used + (1 + MAX_FIELDS) * count_below (tasks g) (λ s. f.will_raise (flight s)) ≤ g.alloc + (1 + MAX_FIELDS) * tasks g
+    used + 255 * count_below (tasks g) (λ s. f.will_raise (flight s)) ≤ g.alloc + 255 * tasks g
 
 abbrev pub ObjectsStayBounded : Geometry → (objects : ℕ) → (flight : ℕ → Flight) → Type 0
 ObjectsStayBounded g objects flight =

@@ -12,7 +12,8 @@ use Rattle.hk_core.specs.declared.outcome.Fault.{Fault}
 use Rattle.hk_core.specs.declared.outcome.Step.TheVariants.{Ended}
 use Rattle.hk_core.specs.declared.outcome.Outcome.TheVariants.{Full}
 use Rattle.hk_core.specs.State.{State, IsSized, flight_of}
-use Rattle.hk_core.specs.Step.{places_of, next, answer_by, history_after}
+use Rattle.hk_words.specs.Bounds.{places_of}
+use Rattle.hk_core.specs.Step.{next, answer_by, history_after}
 use Rattle.hk_core.specs.Begin.{refusal, first_flight, after_begin}
 use Rattle.hk_core.specs.Run.{Action, Running, run, registers_fit}
 use Rattle.hk_core.specs.Fits.{CanStep}

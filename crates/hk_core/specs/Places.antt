@@ -6,7 +6,8 @@ use Rattle.hk_core.specs.declared.flight.Flight.{Flight}
 use Rattle.hk_core.specs.declared.outcome.Step.{Step}
 use Rattle.hk_core.specs.declared.outcome.Step.TheVariants.{Going, Ended}
 use Rattle.hk_core.specs.State.{State, flight_of}
-use Rattle.hk_core.specs.Step.{outcome_at, places_of}
+use Rattle.hk_words.specs.Bounds.{places_of}
+use Rattle.hk_core.specs.Step.{outcome_at}
 
 -- the same call stands at its next place and goes through the same object, and the step answers that it has places left
 pub record GoesOn (before after : Flight) (answer : Step) : Type 0 where

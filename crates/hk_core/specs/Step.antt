@@ -8,6 +8,7 @@ use Rattle.hk_words.specs.declared.call.Call.{Call}
 use Rattle.hk_words.specs.declared.call.Call.TheVariants.{Get, Put, Load as LoadReference, Store, Move, Clear, New, Same, IsNull}
 use Rattle.hk_words.specs.declared.call.Reply.{Reply}
 use Rattle.hk_words.specs.declared.call.Reply.TheVariants.{Unit as NoValue, Num, Full as NoRoom}
+use Rattle.hk_words.specs.Bounds.{places_of}
 use Rattle.hk_words.specs.Shape.{size}
 use Rattle.hk_words.specs.Layout.{reference_number, reference_refs, reference_nums, pack_reference, header_place, pack_header, w0_words, w0_objects, w0_cycle, entering, leaving, raise_by}
 use Rattle.hk_words.specs.Row.{w0_at, w1_at, header_at, mark_at, frame_at, register_at, entry_at, space_at, place_at}
@@ -290,18 +291,6 @@ new_entry g f shape old =
     else None
 
 -- The table: the rows together.
-
--- the number of places of a call's row; a question has none
-abbrev pub places_of : Call → ℕ
-places_of (Get reg field) = 3
-places_of (Put reg field value) = 3
-places_of (Move dest from) = 3
-places_of (Clear dest) = 1
-places_of (LoadReference dest reg field) = 10
-places_of (Store reg field from) = 7
-places_of (New dest shape) = 7
-places_of (Same a b) = 0
-places_of (IsNull reg) = 0
 
 -- the event of a flight at its place, and none at a rest
 unfoldable pub event_at : Geometry → Flight → Call → Option Event

@@ -2,7 +2,7 @@
 ghost use Rattle.std.specs.Prelude.{◌≡◌, ◌+◌, ◌-◌, ◌^◌, ◌<◌, ◌≤◌};
 ghost use Rattle.hk_words.specs.Shape.{size};
 ghost use Rattle.hk_core.specs.Step as table;
-ghost use Rattle.hk_core.specs.Step.{took_of, step_of, outcome_at, places_of, claims, full_to, full_to_all};
+ghost use Rattle.hk_core.specs.Step.{took_of, step_of, outcome_at, claims, full_to, full_to_all};
 ghost use Rattle.hk_core.specs.Fits.{FindsNumber};
 
 use crate::{Flight, Outcome, Step};
@@ -36,23 +36,10 @@ impl Flight {
     fn answer(&self) -> Step
         ensures { result ≡ step_of self.now }
     {
-        if self.place == Flight::places(&self.call) {
+        if self.place == self.call.places() {
             Step::Ended(self.outcome())
         } else {
             Step::Going
-        }
-    }
-
-    /// The number of places of a call; a question has none.
-    fn places(call: &Call) -> u8
-        ensures { result ≡ places_of call.now }
-    {
-        match call {
-            Call::Get { .. } | Call::Put { .. } | Call::Move { .. } => 3,
-            Call::Clear { .. } => 1,
-            Call::Load { .. } => 10,
-            Call::Store { .. } | Call::New { .. } => 7,
-            Call::Same { .. } | Call::IsNull { .. } => 0,
         }
     }
 

@@ -9,5 +9,6 @@ mod registers;
 #[cfg(test)]
 mod tests;
 
+pub use hk_words::Memory;
 pub use laws::{numbers_and_bearers, one_change_a_call, one_more_entry, what_calls_keep};
-pub use plain::{Memory, Plain};
+pub use plain::Plain;

@@ -8,25 +8,9 @@ ghost use Rattle.hk_model.specs.Replies.{said, entering, has_number, has_referen
 
 use crate::object::StoredObject;
 use crate::registers::Registers;
-use hk_words::{Call, REGISTERS, Reply, Shape};
-use std::alloc::{AllocError, AllocFailed, Global};
+use hk_words::{Call, Memory, REGISTERS, Reply, Shape};
+use std::alloc::Global;
 use std::marker::Model;
-
-/// There was no memory for what a call has to keep.
-#[derive(Clone, Copy, Debug, PartialEq, Eq)]
-pub struct Memory;
-
-impl From<AllocError> for Memory {
-    fn from(_error: AllocError) -> Memory {
-        Memory
-    }
-}
-
-impl<T: Drop> From<AllocFailed<T>> for Memory {
-    fn from(_error: AllocFailed<T>) -> Memory {
-        Memory
-    }
-}
 
 /// A heap that never collects: every object that was ever made, in order of birth, and the registers of each task.
 #[derive(Drop)]
@@ -53,21 +37,22 @@ impl Plain {
     ///
     /// [`Memory`] where there is no memory for that.
     pub fn open(alloc: Global, tasks: u8, board: Shape) -> Result<Plain, Memory>
-        ensures heap { IfOk result (λ plain. plain ≡ opening tasks REGISTERS board) }
+        ensures heap { IfOk result (λ plain. plain ≡ opening tasks 8 board) }
         ensures tasks { IfOk result (λ plain. length plain.registers ≡ tasks) }
-        ensures registers { IfOk result (λ plain. (task : ℕ) → task < tasks → register_count plain task ≡ REGISTERS) }
+        ensures registers { IfOk result (λ plain. (task : ℕ) → task < tasks → register_count plain task ≡ 8) }
     {
-        Plain::with_registers(alloc, REGISTERS, tasks, board)
+        Plain::wide(alloc, REGISTERS, tasks, board)
     }
 
     /// The same with so many registers for each task.
-    fn with_registers(alloc: Global, count: u8, tasks: u8, board: Shape) -> Result<Plain, Memory>
-        requires { 0 < count }
-        ensures heap { IfOk result (λ plain. plain ≡ opening tasks count board) }
+    pub fn wide(alloc: Global, registers: u8, tasks: u8, board: Shape) -> Result<Plain, Memory>
+        requires some { 2 ≤ registers }
+        requires few { registers ≤ 32 }
+        ensures heap { IfOk result (λ plain. plain ≡ opening tasks registers board) }
         ensures tasks { IfOk result (λ plain. length plain.registers ≡ tasks) }
-        ensures registers { IfOk result (λ plain. (task : ℕ) → task < tasks → register_count plain task ≡ count) }
+        ensures registers { IfOk result (λ plain. (task : ℕ) → task < tasks → register_count plain task ≡ registers) }
     {
-        let registers = task_registers(alloc, tasks, count)?;
+        let registers = task_registers(alloc, tasks, registers)?;
         let mut objects = Vec::new(alloc);
         objects.push(StoredObject::new(alloc, board)?)?;
         Ok(Plain { objects, registers })

@@ -2,12 +2,10 @@
 use Rattle.std.specs.Prelude.{◌≡◌, ℕ, ◌+◌, ◌*◌, ◌/◌, ◌%◌, ◌||◌, ◌==◌, nat_lt, not, Option, Some, None, if◌then◌else◌}
 use Rattle.hk_words.specs.declared.geometry.Geometry.{Geometry}
 use Rattle.hk_words.specs.declared.geometry.GeoError.{GeoError}
-use Rattle.hk_words.specs.declared.geometry.GeoError.TheVariants.{Odd, Small, Large, Reserve, Tasks, Board}
-use Rattle.hk_words.specs.declared.geometry.TheConstants.{MAX_TASKS, MAX_WORDS, MIN_ALLOC, REGISTERS}
-use Rattle.hk_words.specs.declared.shape.TheConstants.{MAX_FIELDS}
+use Rattle.hk_words.specs.declared.geometry.GeoError.TheVariants.{Odd, Small, Large, Reserve, Tasks, Board, Registers}
 
 -- what a geometry is made of: the words for evacuation, those for allocation and the reserve among them, the
--- high and the low tasks, and the board's reference fields and number fields
+-- high and the low tasks, the board's reference fields and number fields, and the registers of a task
 pub record Sizes : Type 0 where
   pub live : ℕ
   pub alloc : ℕ
@@ -16,19 +14,21 @@ pub record Sizes : Type 0 where
   pub low : ℕ
   pub refs : ℕ
   pub nums : ℕ
+  pub registers : ℕ
 
--- the first reason, in the stated order, why sizes are no geometry
-abbrev pub first_error : Sizes → Option GeoError
-first_error s =
+-- the first reason, in the stated order, why sizes are no geometry whose board has at most so many fields
+abbrev pub first_error : (fields : ℕ) → Sizes → Option GeoError
+first_error fields s =
     if not (s.live % 2 == 0) || not (s.alloc % 2 == 0) then Some Odd
-    else if nat_lt s.live (1 + s.refs + s.nums) || nat_lt s.alloc MIN_ALLOC then Some Small
-    else if nat_lt MAX_WORDS s.live || nat_lt MAX_WORDS s.alloc then Some Large
+    else if nat_lt s.live (1 + s.refs + s.nums) || nat_lt s.alloc 16 then Some Small
+    else if nat_lt 65536 s.live || nat_lt 65536 s.alloc then Some Large
     else if nat_lt s.alloc s.reserve then Some Reserve
-    else if s.high + s.low == 0 || nat_lt MAX_TASKS (s.high + s.low) then Some Tasks
-    else if s.refs + s.nums == 0 || nat_lt MAX_FIELDS (s.refs + s.nums) then Some Board
+    else if s.high + s.low == 0 || nat_lt 31 (s.high + s.low) then Some Tasks
+    else if s.refs + s.nums == 0 || nat_lt fields (s.refs + s.nums) then Some Board
+    else if nat_lt s.registers 2 || nat_lt 32 s.registers then Some Registers
     else None
 
--- a geometry is made of these sizes, with the usual number of registers
+-- a geometry is made of these sizes
 pub record HasSizes (g : Geometry) (s : Sizes) : Type 0 where
   pub live : g.live ≡ s.live
   pub alloc : g.alloc ≡ s.alloc
@@ -37,7 +37,7 @@ pub record HasSizes (g : Geometry) (s : Sizes) : Type 0 where
   pub low : g.low ≡ s.low
   pub refs : g.board.refs ≡ s.refs
   pub nums : g.board.nums ≡ s.nums
-  pub registers : g.registers ≡ REGISTERS
+  pub registers : g.registers ≡ s.registers
 
 -- the tasks, each with a seat of its number
 abbrev pub tasks : Geometry → ℕ

@@ -1,9 +1,9 @@
 ghost use Rattle.std.specs.Prelude.{◌≡◌, ℕ, ◌+◌, ◌*◌, ◌/◌, ◌%◌, ◌<◌, ◌≤◌, MatchResult};
-ghost use Rattle.hk_words.specs.declared.geometry.TheConstants.{MAX_TASKS, MAX_WORDS, MIN_ALLOC, MAX_REGISTERS, MIN_REGISTERS, REGISTERS};
 
 use crate::Shape;
+use crate::shape::{MAX_FIELDS, USUAL_FIELDS};
 
-/// The registers of a task.
+/// The usual number of registers of a task.
 pub const REGISTERS: u8 = 8;
 
 /// The fewest registers that a task can have.
@@ -36,6 +36,8 @@ pub enum GeoError {
     Tasks,
     /// The board has no field, or too many.
     Board,
+    /// A task has fewer than [`MIN_REGISTERS`] registers, or more than [`MAX_REGISTERS`].
+    Registers,
 }
 
 /// The sizes of a heap, in words, and the tasks that use it. Each of the two spaces has `live` words for
@@ -52,21 +54,22 @@ pub struct Geometry {
     pub ghost live_even: { live % 2 ≡ 0 },
     pub ghost alloc_even: { alloc % 2 ≡ 0 },
     pub ghost board_fits: { 1 + board.refs + board.nums ≤ live },
-    pub ghost alloc_enough: { MIN_ALLOC ≤ alloc },
-    pub ghost live_few: { live ≤ MAX_WORDS },
-    pub ghost alloc_few: { alloc ≤ MAX_WORDS },
+    pub ghost alloc_enough: { 16 ≤ alloc },
+    pub ghost live_few: { live ≤ 65536 },
+    pub ghost alloc_few: { alloc ≤ 65536 },
     pub ghost reserve_within: { reserve ≤ alloc },
     pub ghost tasks_some: { 0 < high + low },
-    pub ghost tasks_few: { high + low ≤ MAX_TASKS },
-    pub ghost registers_some: { MIN_REGISTERS ≤ registers },
-    pub ghost registers_few: { registers ≤ MAX_REGISTERS },
+    pub ghost tasks_few: { high + low ≤ 31 },
+    pub ghost registers_some: { 2 ≤ registers },
+    pub ghost registers_few: { registers ≤ 32 },
 }
 
 impl Geometry {
     ghost use Rattle.hk_words.specs.Geometry.{Sizes, first_error, HasSizes, tasks, numbers, row_length};
 
-    /// The geometry of these sizes and tasks, or the first reason in the order of [`GeoError`] why there is none.
-    /// The last two numbers are the reference fields and the number fields of the board.
+    /// The geometry of these sizes and tasks with the usual number of registers, or the first reason in the order of
+    /// [`GeoError`] why there is none. The last two numbers are the reference fields and the number fields of the board, of
+    /// which there are at most [`USUAL_FIELDS`] together.
     pub fn new(
         live: u32,
         alloc: u32,
@@ -76,13 +79,63 @@ impl Geometry {
         refs: u8,
         nums: u8,
     ) -> Result<Geometry, GeoError>
-        ensures { let sizes : Sizes = record { live = live; alloc = alloc; reserve = reserve; high = high; low = low; refs = refs; nums = nums } in
-            MatchResult result (λ g. (first_error sizes ≡ None) × HasSizes g sizes) (λ e. first_error sizes ≡ Some e) }
+        ensures { let sizes : Sizes = record { live = live; alloc = alloc; reserve = reserve; high = high; low = low; refs = refs; nums = nums; registers = 8 } in
+            MatchResult result (λ g. (first_error 62 sizes ≡ None) × HasSizes g sizes) (λ e. first_error 62 sizes ≡ Some e) }
     {
+        Geometry::of(
+            REGISTERS,
+            USUAL_FIELDS,
+            (live, alloc, reserve),
+            (high, low),
+            (refs, nums),
+        )
+    }
+
+    /// The geometry of these sizes and tasks with so many registers for each task, or the first reason in the order of
+    /// [`GeoError`] why there is none. The board has at most [`MAX_FIELDS`] fields.
+    pub fn wide(
+        registers: u8,
+        live: u32,
+        alloc: u32,
+        reserve: u32,
+        high: u8,
+        low: u8,
+        refs: u8,
+        nums: u8,
+    ) -> Result<Geometry, GeoError>
+        ensures { let sizes : Sizes = record { live = live; alloc = alloc; reserve = reserve; high = high; low = low; refs = refs; nums = nums; registers = registers } in
+            MatchResult result (λ g. (first_error 254 sizes ≡ None) × HasSizes g sizes) (λ e. first_error 254 sizes ≡ Some e) }
+    {
+        Geometry::of(
+            registers,
+            MAX_FIELDS,
+            (live, alloc, reserve),
+            (high, low),
+            (refs, nums),
+        )
+    }
+
+    /// The geometry of words for evacuation, for allocation and in reserve, of high and low tasks, and of a board with at
+    /// most so many reference fields and number fields.
+    fn of(
+        registers: u8,
+        fields: u8,
+        words: (u32, u32, u32),
+        tasks: (u8, u8),
+        board: (u8, u8),
+    ) -> Result<Geometry, GeoError>
+        requires fields { fields ≤ 254 }
+        ensures { let sizes : Sizes = record { live = words.0; alloc = words.1; reserve = words.2; high = tasks.0; low = tasks.1; refs = board.0; nums = board.1; registers = registers } in
+            MatchResult result (λ g. (first_error fields sizes ≡ None) × HasSizes g sizes) (λ e. first_error fields sizes ≡ Some e) }
+    {
+        let (live, alloc, reserve) = words;
+        let (high, low) = tasks;
+        let (refs, nums) = board;
+        let board_fields = u16::from(refs) + u16::from(nums);
         if live % 2 != 0 || alloc % 2 != 0 {
             return Err(GeoError::Odd);
         }
-        if live < 1 + u32::from(refs) + u32::from(nums) || alloc < MIN_ALLOC {
+        if live < 1 + u32::from(board_fields) || alloc < MIN_ALLOC {
             return Err(GeoError::Small);
         }
         if live > MAX_WORDS || alloc > MAX_WORDS {
@@ -91,21 +144,24 @@ impl Geometry {
         if reserve > alloc {
             return Err(GeoError::Reserve);
         }
-        let tasks = u16::from(high) + u16::from(low);
-        if tasks == 0 || tasks > u16::from(MAX_TASKS) {
+        let both = u16::from(high) + u16::from(low);
+        if both == 0 || both > u16::from(MAX_TASKS) {
             return Err(GeoError::Tasks);
         }
-        let Some(board) = Shape::new(refs, nums) else {
+        if board_fields == 0 || board_fields > u16::from(fields) {
             return Err(GeoError::Board);
-        };
+        }
+        if registers < MIN_REGISTERS || registers > MAX_REGISTERS {
+            return Err(GeoError::Registers);
+        }
         Ok(Geometry {
             live,
             alloc,
             reserve,
             high,
             low,
-            registers: REGISTERS,
-            board,
+            registers,
+            board: Shape { refs, nums },
         })
     }
 
@@ -276,6 +332,35 @@ mod tests {
     }
 
     #[test]
+    fn wide(rt: HostRuntime) {
+        use GeoError::{Board, Large, Odd, Registers, Reserve, Small, Tasks};
+        for (registers, sizes, tasks, (refs, nums), error) in [
+            (2, (512, 512, 300), (1, 0), (2, 2), None),
+            (32, (512, 512, 300), (1, 0), (2, 2), None),
+            (32, (256, 16, 0), (0, 31), (254, 0), None),
+            (2, (256, 16, 0), (0, 31), (100, 154), None),
+            (1, (512, 512, 300), (1, 0), (2, 2), Some(Registers)),
+            (0, (512, 512, 300), (1, 0), (2, 2), Some(Registers)),
+            (33, (512, 512, 300), (1, 0), (2, 2), Some(Registers)),
+            (33, (256, 16, 0), (1, 0), (254, 1), Some(Board)),
+            (8, (512, 16, 0), (1, 0), (0, 0), Some(Board)),
+            (1, (512, 16, 0), (32, 0), (0, 0), Some(Tasks)),
+            (1, (512, 16, 17), (32, 0), (0, 0), Some(Reserve)),
+            (1, (65_538, 16, 17), (32, 0), (0, 0), Some(Large)),
+            (1, (254, 16, 17), (32, 0), (254, 0), Some(Small)),
+            (1, (255, 16, 17), (32, 0), (254, 0), Some(Odd)),
+        ] {
+            let (live, alloc, reserve) = sizes;
+            let (high, low) = tasks;
+            assert_eq!(rt;
+                Geometry::wide(registers, live, alloc, reserve, high, low, refs, nums).err(),
+                error,
+                "{registers} {sizes:?} {tasks:?} {refs} {nums}"
+            );
+        }
+    }
+
+    #[test]
     fn readers(rt: HostRuntime) -> Result<(), Fail> {
         let g = Geometry::new(256, 2048, 64, 3, 2, 5, 1)?;
         assert_eq!(rt; (g.live(), g.alloc(), g.reserve()), (256, 2048, 64));
@@ -293,6 +378,8 @@ mod tests {
                 "{live} {alloc}"
             );
         }
+        let g = Geometry::wide(32, 65_536, 65_536, 16, 16, 15, 1, 0)?;
+        assert_eq!(rt; (g.registers(), g.words()), (32, 525_313));
         Ok(())
     }
 }

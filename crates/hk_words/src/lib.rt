@@ -2,16 +2,21 @@
 //! words that the heap's row consists of. Nothing here takes memory.
 #![tactic(auto)]
 
+mod bounds;
 mod call;
 mod geometry;
+mod memory;
 mod packing;
 mod row;
 mod shape;
+mod sizes;
 
+pub use bounds::{MOST_PLACES, cycle_events, frame_events, object_events};
 pub use call::{Call, Reply, call_laws};
 pub use geometry::{
     GeoError, Geometry, MAX_REGISTERS, MAX_TASKS, MAX_WORDS, MIN_ALLOC, MIN_REGISTERS, REGISTERS,
 };
+pub use memory::Memory;
 pub use packing::{
     ENTER, LEAVE, frame_accessors, frame_blackened, frame_cycle, frame_laws, frame_version,
     header_accessors, header_laws, header_moved, header_place, header_version, pack_frame,
@@ -19,4 +24,5 @@ pub use packing::{
     reference_nums, reference_refs, w0_cycle, w0_laws, w0_objects, w0_words,
 };
 pub use row::row_laws;
-pub use shape::{MAX_FIELDS, Shape};
+pub use shape::{MAX_FIELDS, Shape, USUAL_FIELDS};
+pub use sizes::one_geometry;

@@ -1,8 +1,10 @@
 ghost use Rattle.std.specs.Prelude.{◌≡◌, ℕ, ◌+◌, ◌<◌, ◌≤◌, ◌↔◌, IsNone, IfSome};
-ghost use Rattle.hk_words.specs.declared.shape.TheConstants.{MAX_FIELDS};
 
 /// The greatest number of fields that an object has.
-pub const MAX_FIELDS: u8 = 62;
+pub const MAX_FIELDS: u8 = 254;
+
+/// The greatest number of fields that an object has where there are the usual number of registers.
+pub const USUAL_FIELDS: u8 = 62;
 
 /// How many reference fields and how many number fields an object has: at least one field, and no more than
 /// [`MAX_FIELDS`] of both kinds together.
@@ -11,7 +13,7 @@ pub struct Shape {
     pub refs: u8,
     pub nums: u8,
     pub ghost some: { 0 < refs + nums },
-    pub ghost few: { refs + nums ≤ MAX_FIELDS },
+    pub ghost few: { refs + nums ≤ 254 },
 }
 
 impl Shape {
@@ -66,6 +68,9 @@ mod tests {
             (62, 0, 63),
             (0, 62, 63),
             (31, 31, 63),
+            (254, 0, 255),
+            (0, 254, 255),
+            (127, 127, 255),
         ] {
             let shape = Shape::new(refs, nums).ok_or("a shape")?;
             assert_eq!(rt;
@@ -74,15 +79,7 @@ mod tests {
                 "of {refs} and {nums}"
             );
         }
-        for (refs, nums) in [
-            (0, 0),
-            (63, 0),
-            (0, 63),
-            (62, 1),
-            (31, 32),
-            (255, 0),
-            (255, 255),
-        ] {
+        for (refs, nums) in [(0, 0), (255, 0), (0, 255), (254, 1), (127, 128), (255, 255)] {
             assert!(rt; Shape::new(refs, nums).is_none(), "of {refs} and {nums}");
         }
         Ok(())

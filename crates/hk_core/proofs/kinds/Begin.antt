@@ -15,7 +15,7 @@ use Rattle.hk_core.specs.declared.spot.Spot.{Spot}
 use Rattle.hk_core.specs.declared.outcome.Fault.TheVariants.{Spent, Nil, Field}
 use Rattle.hk_core.specs.declared.outcome.Fault.{Fault}
 use Rattle.hk_core.specs.Begin.{most_calls, copied, has_field, register_word, entered_word, copied_word, refusal, first_flight, accepted, after_begin, begun_or}
-use Rattle.hk_core.specs.Step.{places_of}
+use Rattle.hk_words.specs.Bounds.{places_of}
 use Rattle.hk_core.specs.Counts.{count_below, sum_below}
 use Rattle.hk_core.specs.View.{Words, Names, Contents, words_of, decoded, flight_at, begun_at, names_of, contents_of}
 use Rattle.hk_core.specs.Flights as f

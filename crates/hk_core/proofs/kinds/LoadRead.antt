@@ -25,7 +25,8 @@ use Rattle.hk_core.specs.declared.spot.Spot.{Spot}
 use Rattle.hk_core.specs.declared.spot.Line.{Line}
 use Rattle.hk_core.specs.Begin.{copied, has_field}
 use Rattle.hk_core.specs.Event.{fired_if, learnt}
-use Rattle.hk_core.specs.Step.{places_of, reference_cell, read_cell, load_event, load_took, load_entry_of, event_at, event_of, took_at, took_of, effect_at, effect_of}
+use Rattle.hk_words.specs.Bounds.{places_of}
+use Rattle.hk_core.specs.Step.{reference_cell, read_cell, load_event, load_took, load_entry_of, event_at, event_of, took_at, took_of, effect_at, effect_of}
 use Rattle.hk_core.specs.View.{Words, Names, Contents, shown, refs_at, nums_at, size_at, reference_at, words_of, decoded, names_of, contents_of}
 use Rattle.hk_core.specs.Flights as f
 use Rattle.hk_core.specs.Flights.{Hand, hand_of_flight}

@@ -17,7 +17,8 @@ use Rattle.hk_core.specs.declared.spot.Spot.{Spot}
 use Rattle.hk_core.specs.declared.spot.Line.{Line}
 use Rattle.hk_core.specs.Begin.{copied}
 use Rattle.hk_core.specs.Event.{fired, fired_if, learnt}
-use Rattle.hk_core.specs.Step.{places_of, write_register, load_event, load_took, load_entry_of, event_at, event_of, took_at, took_of, effect_at, effect_of}
+use Rattle.hk_words.specs.Bounds.{places_of}
+use Rattle.hk_core.specs.Step.{write_register, load_event, load_took, load_entry_of, event_at, event_of, took_at, took_of, effect_at, effect_of}
 use Rattle.hk_core.specs.View.{Words, Names, Contents, shown, words_of}
 use Rattle.hk_core.specs.Flights as f
 use Rattle.hk_core.specs.Flights.{Hand, hand_of_flight}

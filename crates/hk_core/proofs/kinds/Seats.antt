@@ -16,7 +16,8 @@ use Rattle.hk_core.specs.declared.spot.Spot.{Spot}
 use Rattle.hk_core.specs.declared.spot.Line.{Line}
 use Rattle.hk_core.specs.Begin.{has_field, copied}
 use Rattle.hk_core.specs.Collect.{current_space}
-use Rattle.hk_core.specs.Step.{new_place, places_of, reserved_fits}
+use Rattle.hk_words.specs.Bounds.{places_of}
+use Rattle.hk_core.specs.Step.{new_place, reserved_fits}
 use Rattle.hk_core.specs.State.{idle}
 use Rattle.hk_core.specs.Counts.{any_below}
 use Rattle.hk_core.specs.View.{Words, Names, Contents, shown}

@@ -85,7 +85,8 @@ BytesCallFor bytes status.NotBuilt text = IsNotBuilt bytes text
 BytesCallFor bytes status.Done text = IsReport bytes text
 BytesCallFor bytes other text = ⊥
 
--- WHAT THE WORDS AND THE BYTES CALL FOR. Words other than the one word `run` call for the usage line, whatever the bytes
+-- WHAT THE WORDS AND THE BYTES CALL FOR: one end at most, and one text (the law `one_end_and_one_text`). Words other than the
+-- one word `run` call for the usage line, whatever the bytes
 abbrev pub CallsFor : List (String Global) → (bytes : List ℕ) → Status → (text : List ℕ) → Type 0
 CallsFor words bytes status.Usage text = (¬ (IsRun words)) × (text ≡ usage_line)
 CallsFor words bytes other text = IsRun words × BytesCallFor bytes other text

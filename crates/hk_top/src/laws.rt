@@ -6,8 +6,8 @@ ghost use Rattle.hk_admit.specs.declared.checked.Admitted.{Admitted};
 ghost use Rattle.hk_top.specs.Jobs.{KeepsSchedule};
 ghost use Rattle.hk_top.specs.Tool.{is_unbuilt, CallsFor};
 
-/// The words and the bytes of an input call for one end of the program at most, and for one text: whatever two calls
-/// for them are met, the status is the same, and so is each byte that is to be written.
+/// The words and the bytes of an input call for one end of the program at most, and for one text: two of which both are
+/// called for are the same status, and the same bytes to be written.
 pub fn one_end_and_one_text()
     ensures status { (words : List (String Global)) (bytes : List ℕ) (one other : Status) (text text' : List ℕ)
         → CallsFor words bytes one text → CallsFor words bytes other text' → one ≡ other }

@@ -144,8 +144,8 @@ fn run_bytes<K: Sink>(alloc: Global, bytes: &[u8], sink: &mut K) -> Status
 
 /// Does what the words ask for. For the one word `run` it reads the input, a task sheet, to its end, admits it, runs it,
 /// and writes the report. What is refused gets one line. Wrong words are refused before anything is read; nothing is
-/// written before the input was read. Memory is taken for the input, the sheet and the opening of the run, none while the
-/// run goes on.
+/// written before the input was read, and where a read fails nothing is written at all. Memory is taken for the input,
+/// the sheet and the opening of the run, none while the run goes on.
 pub fn run_tool<S: Source, K: Sink>(
     alloc: Global,
     words: &[String],

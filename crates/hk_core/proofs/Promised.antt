@@ -17,11 +17,7 @@ use Rattle.hk_core.proofs.PromisedNumbers.{ShadesSay, shades_say, no_number_no_p
 use Rattle.hk_core.proofs.PromisedLists.{lists_stand}
 use Rattle.hk_core.proofs.PromisedWords.{ranges_stand, space_stands}
 use Rattle.hk_core.proofs.PromisedColours.{black_stands, reads_stand, clean_when_settled}
-
--- the words of the object that a number bears
-size_borne : (names : Names) (n b : ℕ) → names.bearer n ≡ Some b → size_at names n ≡ 1 + names.refs b + names.nums b
-unfolding size_at refs_at nums_at
-size_borne names n b e = rw e refl
+use Rattle.hk_core.proofs.Shared.{size_borne}
 
 module _ (g : Geometry) (w : Words) (z : Spaces) (sh : Shades) (flight : ℕ → Flight) (begun : ℕ → ℕ) (hand : ℕ → Hand) (t : Spot)
     (names : Names) (contents : Contents) (range : ℕ → Option ℕ) (h : Facts g w z sh flight begun hand t names contents range)

@@ -24,10 +24,6 @@ pub after-push : (start : Heap) (history : History) (e : Entry) → after start 
 unfolding after
 after-push start history e = fold_push after_entry start history e
 
-pub after_entry-done : (h : Heap) (e : Entry) → is_refused e ≡ false → after_entry h e ≡ heap_after h e.seat e.call
-unfolding after_entry
-after_entry-done h e r = rw r refl
-
 pub after_entry-refused : (h : Heap) (e : Entry) → is_refused e ≡ true → after_entry h e ≡ h
 unfolding after_entry
 after_entry-refused h e r = rw r refl
@@ -89,9 +85,6 @@ numbers-push_other history e b =
     rw (filter-append is_birth history (e ∷ []), b, append-nil) refl
 
 -- an entry that made an object made one, and no other entry did
-
-is_birth_of_new : (call : Call) (reply : Reply) → (is_new call && is_done reply) ≡ true → (is_new call ≡ true) × (is_done reply ≡ true)
-is_birth_of_new call reply b = elim (is_new call) as (λ v. (v && is_done reply) ≡ true → (v ≡ true) × (is_done reply ≡ true)) [ true ↦ λ e. (refl, e) | false ↦ λ e. absurd (cc e) ] b
 
 pub born-heap_after_other : (h : Heap) (seat : ℕ) (call : Call) → is_new call ≡ false → born (heap_after h seat call) ≡ born h
 unfolding heap_after

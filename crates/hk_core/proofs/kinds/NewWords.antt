@@ -56,15 +56,6 @@ objects_fit g objects flight s below raises h =
     let some : 0 < count_below (tasks g) (λ t. f.will_raise (flight t)) = count_some (λ t. f.will_raise (flight t)) s (tasks g) below raises in
     omega arith
 
--- so W0 stays a word
-pub raise_fits : (word used objects cycle q : ℕ) → IsW0 word used objects cycle → used + q < 2 ^ words_bits → objects + 1 < 2 ^ objects_bits → fact.CycleFits cycle
-    → word + raise_by q < 2 ^ 64
-raise_fits word used objects cycle q found words more cycles =
-    let a : w0_words word ≡ used = found.words in
-    let b : w0_objects word ≡ objects = found.objects in
-    let c : w0_cycle word ≡ cycle = found.cycle in
-    omega arith
-
 -- the place of a new object is one of the spaces, and fits its field
 pub new_place_within : (g : Geometry) (x : Flight) → f.words_before x < g.alloc → (0 < new_place g x) × (new_place g x ≤ 2 * space_words g)
 new_place_within g x few = by_side (side_of x) (f.words_before x) (omega arith) few

@@ -1,11 +1,11 @@
 -- The word at the place that a claim in hand has still to link lies in no kept object.
-use Rattle.std.proofs.Common.{◌≡◌, ℕ, ◌+◌, ◌-◌, ◌<◌, ◌≤◌, true, false, inl, inr, sym, ◌∙◌, ap, arith, Option, Some, None}
+use Rattle.std.proofs.Common.{◌≡◌, ℕ, ◌+◌, ◌-◌, ◌<◌, ◌≤◌, true, false, inl, inr, sym, ◌∙◌, ap, arith, Some}
 use Rattle.std.proofs.lemmas.Bool.{cases_Bool, cases_eq}
 use Rattle.hk_words.specs.Geometry.{tasks}
 use Rattle.hk_words.specs.Layout as layout
 use Rattle.hk_model.specs.History.{History}
 use Rattle.hk_core.specs.State.{State}
-use Rattle.hk_core.specs.View.{Names, words_of, names_of, flight_at, size_at}
+use Rattle.hk_core.specs.View.{words_of, names_of, flight_at}
 use Rattle.hk_core.specs.Flights.{to_link}
 use Rattle.hk_core.specs.Inside.{kept_in, size_in}
 use Rattle.hk_core.specs.Colours.{spaces_of, shades_of, Covers}

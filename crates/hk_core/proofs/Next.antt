@@ -1,11 +1,10 @@
 -- A step of a seat keeps a lawful state lawful, where all facts hold after it. The places of every call are put together
 -- here in one way: a place shows its event, the flight after it and its entry by the tables, what the words say after the
 -- event, that the history after it is legal, and that all facts hold.
-use Rattle.std.proofs.Common.{◌≡◌, ◌≢◌, ℕ, ◌<◌, true, [], ◌∷◌, ◌++◌, List, length, length-set, refl, ◌∙◌, ap, arith, Option, Some, None}
+use Rattle.std.proofs.Common.{◌≡◌, ◌≢◌, ℕ, ◌<◌, true, [], ◌++◌, List, length, length-set, refl, ◌∙◌, ap, arith, Option, Some, None}
 use Rattle.std.specs.Prelude.{option_to_list}
 use Rattle.hk_words.specs.Geometry.{tasks}
 use Rattle.hk_model.specs.View.{upd}
-use Rattle.hk_model.proofs.Updates.{upd_other}
 use Rattle.hk_model.specs.Heap.{opening_of}
 use Rattle.hk_model.specs.History.{Entry, History, Legal}
 use Rattle.hk_core.specs.declared.event.Event.{Event}

@@ -1,11 +1,11 @@
 -- A lawful state keeps all its promises.
-use Rattle.std.proofs.Common.{◌≡◌, ◌≢◌, ℕ, ◌+◌, refl, sym, ◌∙◌, ap, arith, Option, Some}
+use Rattle.std.proofs.Common.{◌≡◌, ◌≢◌, ℕ, ◌+◌, sym, ◌∙◌, ap, arith, Option, Some}
 use Rattle.hk_words.specs.declared.geometry.Geometry.{Geometry}
 use Rattle.hk_model.specs.History.{History}
 use Rattle.hk_core.specs.declared.flight.Flight.{Flight}
 use Rattle.hk_core.specs.declared.spot.Spot.{Spot}
 use Rattle.hk_core.specs.State.{State}
-use Rattle.hk_core.specs.View.{Words, Names, Contents, refs_at, nums_at, size_at, words_of, names_of, contents_of, flight_at, begun_at}
+use Rattle.hk_core.specs.View.{Words, Names, Contents, words_of, names_of, contents_of, flight_at, begun_at}
 use Rattle.hk_core.specs.Flights.{Hand}
 use Rattle.hk_core.specs.Colours.{Spaces, spaces_of, Shades, shades_of, Apart, IsKeptBirth}
 use Rattle.hk_core.specs.Lawful.{Facts, Lawful, hands_of}

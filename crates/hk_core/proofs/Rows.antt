@@ -6,13 +6,12 @@ use Rattle.hk_words.specs.declared.geometry.Geometry.{Geometry}
 use Rattle.hk_words.specs.Geometry.{tasks, numbers, space_words}
 use Rattle.hk_words.specs.Layout as layout
 use Rattle.hk_words.specs.Row.{w0_at, header_at, frame_at, space_at}
-use Rattle.hk_model.specs.View.{upd}
 use Rattle.hk_model.specs.History.{Entry, History}
 use Rattle.hk_core.specs.declared.event.Event.{Event}
 use Rattle.hk_core.specs.declared.event.Event.TheVariants as event
 use Rattle.hk_core.specs.declared.flight.Flight.{Flight}
 use Rattle.hk_core.specs.declared.spot.Spot.{Spot}
-use Rattle.hk_core.specs.Event.{fired, fired_if, learnt, old_of}
+use Rattle.hk_core.specs.Event.{learnt, old_of}
 use Rattle.hk_core.specs.State.{State, idle}
 use Rattle.hk_core.specs.Step as table
 use Rattle.hk_core.specs.Step.{number_cell, event_of, took_of, effect_of, next, history_after}
@@ -20,7 +19,7 @@ use Rattle.hk_core.specs.View.{Words, Names, Contents, decoded, words_of, names_
 use Rattle.hk_core.specs.Flights as f
 use Rattle.hk_core.specs.Colours.{shades_of}
 use Rattle.hk_core.specs.Lawful.{FactsOf, Lawful}
-use Rattle.hk_core.proofs.Columns.{raw_w0, raw_header, raw_space, fired_if_some, fired_if_none, words_some}
+use Rattle.hk_core.proofs.Columns.{raw_w0, raw_header, raw_space, words_some}
 use Rattle.hk_core.proofs.Next.{DoesPlace, StepsTo, steps_to_silent}
 use Rattle.hk_core.proofs.kinds.Seats.{FlightsFacts, moved_on, kept_means}
 use Rattle.hk_core.proofs.kinds.Enter as enter

@@ -6,7 +6,7 @@ use Rattle.hk_words.specs.declared.shape.Shape.{Shape}
 use Rattle.hk_words.specs.declared.call.Call.{Call}
 use Rattle.hk_words.specs.declared.call.Call.TheVariants.{Get, Put, Load, Store, Move, Clear, New, Same, IsNull}
 use Rattle.hk_words.specs.Calls.{RegistersFit}
-use Rattle.hk_model.specs.Heap.{Object, Heap, IsHeap, HoldsBoard, KeepsTasks, born, register, register_count, of_object, refs, nums, link, value, made, first_registers, opening}
+use Rattle.hk_model.specs.Heap.{Object, Heap, IsHeap, HoldsBoard, KeepsTasks, born, register, register_count, of_object, refs, nums, link, made, first_registers, opening}
 use Rattle.hk_model.specs.Replies.{entering, has_number, has_reference, heap_after, with_register, with_link, with_value, with_object}
 use Rattle.hk_model.proofs.Lists.{length-changed_at, measure-changed_at, get_or-set_cases, get_or-changed_row_cases, read-changed_at_same, read-changed_at_other}
 use Rattle.hk_model.proofs.Views.{get_or-replicate_same, register-with_register_elsewhere, born-with_link, born-with_value, born-with_object, register-with_link, register-with_value, register-with_object, of_object-with_link, of_object-with_value, of_object-with_object, link-with_object, registers-with_link, registers-with_value, registers-with_object}

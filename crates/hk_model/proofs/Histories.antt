@@ -1,5 +1,5 @@
 -- Histories with one entry more.
-use Rattle.std.proofs.Common.{◌≡◌, ◌≢◌, ◌⊎◌, ◌↔◌, inl, inr, ℕ, zero, suc, ◌+◌, ◌<◌, true, false, ◌&&◌, nat_eq, refl, sym, ◌∙◌, ap, arith, List, [], ◌∷◌, ◌++◌, length, map, filter, get_or, Option, Some, None, if◌then◌else◌, length-append, append-nil, eq-eqb, ne_eqb, add-zero, subst}
+use Rattle.std.proofs.Common.{◌≡◌, ◌≢◌, ◌⊎◌, ◌↔◌, inl, inr, ℕ, zero, suc, ◌+◌, ◌<◌, true, false, nat_eq, refl, sym, ◌∙◌, ap, arith, List, [], ◌∷◌, ◌++◌, length, map, filter, get_or, Option, Some, None, if◌then◌else◌, length-append, append-nil, eq-eqb, ne_eqb, add-zero, subst}
 use Rattle.std.proofs.lemmas.Bool.{cases_lt}
 use Rattle.std.proofs.lemmas.Bool.Decides.{eqb_tells}
 use Rattle.std.proofs.lemmas.List.{map-append}
@@ -11,7 +11,7 @@ use Rattle.hk_words.specs.declared.call.Call.TheVariants.{Get, Put, Load, Store,
 use Rattle.hk_words.specs.declared.call.Reply.{Reply}
 use Rattle.hk_words.specs.declared.call.Reply.TheVariants.{Unit as Done, Num, Yes, No, Nil, Field, Full}
 use Rattle.hk_model.specs.Heap.{Heap, IsHeap, born, register, link}
-use Rattle.hk_model.specs.History.{Entry, History, is_new, is_done, is_full, is_birth, is_refused, after_entry, after, EntryLegal, Legal, of_seat, births, numbers, number_of, last_place, bearer}
+use Rattle.hk_model.specs.History.{Entry, History, is_new, is_full, is_birth, is_refused, after_entry, after, EntryLegal, Legal, of_seat, births, numbers, number_of, last_place, bearer}
 use Rattle.hk_model.specs.Replies.{has_number, has_reference, reply_of, heap_after, with_register, with_link, with_value, with_object}
 use Rattle.hk_model.specs.Laws.{IsLastBirth}
 use Rattle.hk_model.specs.View.{upd}

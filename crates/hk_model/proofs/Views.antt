@@ -4,7 +4,7 @@ use Rattle.std.proofs.lemmas.Bool.{cases_eq, cases_lt}
 use Rattle.std.proofs.lemmas.List.{get_or-replicate, length-replicate}
 use Rattle.std.proofs.Math.ListN.{get_or-eq_default}
 use Rattle.hk_words.specs.declared.shape.Shape.{Shape}
-use Rattle.hk_model.specs.Heap.{Object, Heap, born, register, register_count, of_object, refs, nums, link, value, made}
+use Rattle.hk_model.specs.Heap.{Object, Heap, born, register, register_count, of_object, link, value, made}
 use Rattle.hk_model.specs.Replies.{with_register, with_link, with_value, with_object}
 use Rattle.hk_model.specs.View.{upd, upd2}
 use Rattle.hk_model.proofs.Lists.{get_or-changed_at_same, get_or-changed_row_other, length-changed_at, read-changed_at_kept, read-changed_at_other, read-changed_at_same, read-push_before, read-push_last, read_past}

@@ -19,7 +19,7 @@ use Rattle.hk_core.specs.declared.spot.Line.TheVariants as line
 use Rattle.hk_core.specs.Collect.{current_space}
 use Rattle.hk_core.specs.Counts.{count_below}
 use Rattle.hk_core.specs.Step.{new_place, reference_size}
-use Rattle.hk_core.specs.View.{Words, Names, Contents, refs_at, nums_at, size_at, reference_at}
+use Rattle.hk_core.specs.View.{Words, Names, Contents, reference_at}
 use Rattle.hk_core.specs.Flights as f
 use Rattle.hk_core.specs.Flights.{Hand, no_claim, to_reserve, to_link}
 use Rattle.hk_core.specs.Lines as l
@@ -33,7 +33,7 @@ use Rattle.hk_core.proofs.Counts.{count_kept}
 use Rattle.hk_core.proofs.kinds.Read.{ShapesFit}
 use Rattle.hk_core.proofs.kinds.WriteCell.{ShadesMean, some_words, not_grey, IsMoving, CellFacts, cell_words, attempt_moves, loaded_moves, cleared_marks, reference_parts, size_of_reference}
 use Rattle.hk_core.proofs.kinds.Reserve.{marking_is_busy, grey_is_marking}
-use Rattle.hk_core.proofs.Shared.{never_both, one_value, size_borne, size_some}
+use Rattle.hk_core.proofs.Shared.{never_both, one_value, size_borne}
 
 -- what a link asks of whoever holds the claim: the reference is that of the object of its number, and the current space is one
 -- of the two of the geometry

@@ -6,7 +6,7 @@ use Rattle.std.specs.Prelude.{nat_eq}
 use Rattle.hk_words.specs.declared.geometry.Geometry.{Geometry}
 use Rattle.hk_words.specs.declared.call.Call.TheVariants as call
 use Rattle.hk_words.specs.declared.call.Reply.TheVariants as reply
-use Rattle.hk_words.specs.Geometry.{tasks, numbers, space_words}
+use Rattle.hk_words.specs.Geometry.{tasks, space_words}
 use Rattle.hk_words.specs.Calls.{RegistersFit}
 use Rattle.hk_words.specs.Layout as layout
 use Rattle.hk_words.specs.Row.{space_at}

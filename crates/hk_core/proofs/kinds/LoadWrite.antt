@@ -1,6 +1,6 @@
 -- A Load writes the reference that it has read into its register. The plain heap has it there since the read, so only
 -- the word changes, and from now on the word shows the plain heap's register.
-use Rattle.std.proofs.Common.{◌≡◌, ◌≢◌, ℕ, ◌<◌, ◌≤◌, Bool, true, false, List, length, inl, inr, refl, sym, ◌∙◌, ap, arith, Option, Some, None}
+use Rattle.std.proofs.Common.{◌≡◌, ◌≢◌, ℕ, ◌<◌, ◌≤◌, true, false, List, length, inl, inr, refl, sym, ◌∙◌, ap, arith, Option, Some, None}
 use Rattle.std.proofs.lemmas.Bool.{cases_eq, cases_lt, and_right, not_from_false, eq-eqb, ne_eqb}
 use Rattle.std.specs.Prelude.{nat_eq, not}
 use Rattle.hk_words.specs.declared.geometry.Geometry.{Geometry}
@@ -14,7 +14,6 @@ use Rattle.hk_model.proofs.Updates.{upd2_same, upd2_other}
 use Rattle.hk_core.specs.declared.event.Event.TheVariants as event
 use Rattle.hk_core.specs.declared.flight.Flight.{Flight}
 use Rattle.hk_core.specs.declared.spot.Spot.{Spot}
-use Rattle.hk_core.specs.declared.spot.Line.{Line}
 use Rattle.hk_core.specs.Begin.{copied}
 use Rattle.hk_core.specs.Event.{fired, fired_if, learnt}
 use Rattle.hk_words.specs.Bounds.{places_of}

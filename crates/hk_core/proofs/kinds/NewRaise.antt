@@ -28,7 +28,7 @@ use Rattle.hk_core.proofs.Counts.{count_less}
 use Rattle.hk_core.proofs.kinds.Seats.{FlightsFacts, flights_upd, pass_upd, hands_upd, shades_upd}
 use Rattle.hk_core.proofs.kinds.WriteCell.{SpacesApart}
 use Rattle.hk_core.proofs.kinds.NewFlight.{MakingFacts, MakesWell, MakeApartIf, SameCounts, CountFacts, counts_set, settled_set, making_set, well_of, apart_of}
-use Rattle.hk_core.proofs.kinds.NewFlight.{new_inside, new_before_object, new_has_item, new_hand, new_holds_back, new_in_frame, new_before_frame, new_will_raise, new_has_raised, new_is_making, new_has_number, new_has_header, new_has_size, new_flight_facts}
+use Rattle.hk_core.proofs.kinds.NewFlight.{new_inside, new_before_object, new_has_item, new_hand, new_holds_back, new_in_frame, new_before_frame, new_will_raise, new_is_making, new_has_number, new_has_header, new_has_size, new_flight_facts}
 use Rattle.hk_core.proofs.Shared.{refuted}
 
 -- WHERE THE WORDS OF A NEW ARE

@@ -1,6 +1,6 @@
 -- What each place of a New does to a lawful state: its event, the flight and the entry by the tables, what the words say
 -- after the event, that the history after it is legal, and that all facts hold.
-use Rattle.std.proofs.Common.{◌≡◌, ℕ, ◌+◌, ◌<◌, ◌≤◌, Bool, true, false, [], ◌∷◌, ◌++◌, List, ◌≢◌, inl, inr, refl, ◌∙◌, ap, arith, Option, Some, None}
+use Rattle.std.proofs.Common.{◌≡◌, ℕ, ◌+◌, ◌<◌, ◌≤◌, Bool, true, false, ◌++◌, List, ◌≢◌, inl, inr, refl, ◌∙◌, ap, arith, Option, Some, None}
 use Rattle.std.proofs.lemmas.Bool.{cases_Bool, cases_eq, and_parts, not-true}
 use Rattle.std.specs.Prelude.{not, ◌&&◌, option_to_list}
 use Rattle.hk_words.specs.declared.geometry.Geometry.{Geometry}
@@ -19,7 +19,7 @@ use Rattle.hk_model.specs.History.{Entry, History, Legal}
 use Rattle.hk_core.specs.declared.event.Event.{Event}
 use Rattle.hk_core.specs.declared.event.Event.TheVariants as event
 use Rattle.hk_core.specs.declared.flight.Flight.{Flight}
-use Rattle.hk_core.specs.Event.{fired, fired_if, learnt, old_of}
+use Rattle.hk_core.specs.Event.{fired_if, learnt, old_of}
 use Rattle.hk_core.specs.State.{State, idle}
 use Rattle.hk_core.specs.Step.{event_of, took_of, effect_of, full_to, full_to_all, side_of, new_place, new_reference}
 use Rattle.hk_core.specs.View.{Words, words_of, names_of, contents_of, flight_at, begun_at}

@@ -4,7 +4,7 @@ use Rattle.hk_words.specs.declared.geometry.Geometry.{Geometry}
 use Rattle.hk_words.specs.declared.shape.Shape.{Shape}
 use Rattle.hk_words.specs.Geometry.{tasks, numbers, space_words, row_length}
 use Rattle.hk_words.specs.Shape.{size}
-use Rattle.hk_words.specs.Layout.{IsW0, w0_words, w0_objects, w0_cycle, raise_by, pack_header, words_bits, objects_bits, place_bits}
+use Rattle.hk_words.specs.Layout.{raise_by, pack_header, words_bits, objects_bits, place_bits}
 use Rattle.hk_words.specs.Row.{word_of, w0_at, header_at, place_at}
 use Rattle.hk_words.specs.Row.Slot.{W0, Header}
 use Rattle.hk_model.specs.View.{upd}

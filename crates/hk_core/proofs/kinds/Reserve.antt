@@ -14,7 +14,7 @@ use Rattle.hk_core.specs.declared.spot.Line.{Line}
 use Rattle.hk_core.specs.declared.spot.Line.TheVariants as line
 use Rattle.hk_core.specs.Counts.{count_below}
 use Rattle.hk_core.specs.Step.{reference_size, reserved_fits}
-use Rattle.hk_core.specs.View.{Words, Names, Contents, size_at, reference_at}
+use Rattle.hk_core.specs.View.{Words, Names, Contents, reference_at}
 use Rattle.hk_core.specs.Flights as f
 use Rattle.hk_core.specs.Flights.{Hand, no_claim, to_reserve, to_link}
 use Rattle.hk_core.specs.Lines as l
@@ -26,7 +26,7 @@ use Rattle.hk_core.proofs.Waiting.{linking_else, reserving_not_linking}
 use Rattle.hk_core.proofs.Update.{upd_cases}
 use Rattle.hk_core.proofs.Counts.{count_less}
 use Rattle.hk_core.proofs.kinds.WriteCell.{ShadesMean, some_words}
-use Rattle.hk_core.proofs.Shared.{never_both, one_value, size_some}
+use Rattle.hk_core.proofs.Shared.{never_both, one_value}
 
 -- the words after a reserve of so many words, and the ranges; the claim in hand after it
 abbrev pub reserve_words : Words → ℕ → Words

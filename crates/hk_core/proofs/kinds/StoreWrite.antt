@@ -24,7 +24,7 @@ use Rattle.hk_core.specs.declared.spot.Line.{Line}
 use Rattle.hk_core.specs.Begin.{copied, has_field}
 use Rattle.hk_core.specs.Event.{fired_if, learnt}
 use Rattle.hk_core.specs.Step.{reference_cell, write_cell, store_event, store_took, store_entry, event_at, event_of, took_at, took_of, effect_at, effect_of}
-use Rattle.hk_core.specs.View.{Words, Names, Contents, shown, refs_at, nums_at, size_at, words_of, names_of, contents_of}
+use Rattle.hk_core.specs.View.{Words, Names, Contents, shown, words_of, names_of, contents_of}
 use Rattle.hk_core.specs.Flights as f
 use Rattle.hk_core.specs.Flights.{Hand, hand_of_flight}
 use Rattle.hk_core.specs.Colours.{Spaces, spaces_of, Shades, shades_of, held_by, IsKeptBirth, IsNullOrKept}

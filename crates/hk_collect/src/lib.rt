@@ -12,6 +12,7 @@ mod laws;
 mod measure;
 #[cfg(test)]
 mod measured;
+mod owned;
 mod used;
 #[cfg(test)]
 mod walk;
@@ -25,4 +26,5 @@ pub use laws::{
     runs_are_lawful, runs_give_fresh_numbers,
 };
 pub use measure::{measured_cycle, untouched_attempts};
+pub use owned::OwnedHeap;
 pub use used::reserved_was_used;

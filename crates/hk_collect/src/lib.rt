@@ -2,20 +2,14 @@
 #![tactic(auto)]
 
 mod collector;
-#[cfg(test)]
-mod cycles;
 mod decide;
 mod follow;
-#[cfg(test)]
-mod lawful;
 mod laws;
 mod measure;
-#[cfg(test)]
-mod measured;
 mod owned;
-mod used;
 #[cfg(test)]
-mod walk;
+mod tests;
+mod used;
 
 pub use collector::{advance, step};
 pub use decide::event;

@@ -331,9 +331,6 @@ module _ (c : State) (history : History) (useful : ℕ) (h : Lawful c history) (
   unfolding l.most_spent
   object_spent at = spent_at c history h line.ObjectTrade (1 + 5 * (reference_size c.spot.item - 1)) at refl
 
-  busy_at_scan : (ln : Line) → c.spot.line ≡ ln → l.is_resting ln ≡ false → l.is_resting c.spot.line ≡ false
-  busy_at_scan ln at busy = ap l.is_resting at ∙ busy
-
   -- the scan: the pass begins where all that is reserved was scanned
   scan_keeps : c.spot.line ≡ line.Scan → KeepsMeasure c useful
   unfolding event_at_line table.scan_event l.is_resting l.hand_of_spot l.hand_at_line

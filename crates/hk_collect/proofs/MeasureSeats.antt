@@ -76,10 +76,6 @@ calm_each g w w' cycle marks places = record {
 calm_same : (g : Geometry) (w w' : Words) → w'.cycle ≡ w.cycle → w'.mark ≡ w.mark → w'.place ≡ w.place → Calmly g w w'
 calm_same g w w' cycle marks places = calm_each g w w' cycle (λ n within. ap (λ (column : ℕ → ℕ). column n) marks) (λ n within. ap (λ (column : ℕ → ℕ). column n) places)
 
--- a number whose mark isn't the cycle, or whose place isn't in the old space, isn't grey
-unmarked_light : (g : Geometry) (w : Words) (n : ℕ) → w.mark n ≢ w.cycle → is_grey_by g w n ≡ false
-unmarked_light g w n other = rw (ne_eqb (w.mark n) w.cycle other) refl
-
 below_light : (g : Geometry) (w : Words) (n : ℕ) → w.place n < (spaces_of g w.cycle).old → is_grey_by g w n ≡ false
 below_light g w n below = elim (cases_Bool (is_grey_by g w n)) [
   | inl grey ↦

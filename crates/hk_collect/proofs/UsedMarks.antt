@@ -31,7 +31,7 @@ use Rattle.hk_core.proofs.Rows.{words_some}
 use Rattle.hk_core.proofs.kinds.ClaimWords.{words-claim}
 use Rattle.hk_core.proofs.kinds.Seats.{kept_means}
 use Rattle.hk_collect.proofs.spots.SpotMove.{item_there}
-use Rattle.hk_collect.proofs.spots.SpotMoveRows.{words-move}
+use Rattle.hk_collect.proofs.spots.SpotWords.{words-move}
 use Rattle.hk_collect.proofs.spots.SpotSweepRow.{words-write_mark, words-empty_header}
 use Rattle.hk_collect.proofs.UsedCalls.{not_old, used_some}
 use Rattle.hk_collect.proofs.UsedFacts.{MarksUsed, SpotUsed, marks_agree, marks_claim, marks_fewer, marks_place}

@@ -27,7 +27,7 @@ use Rattle.hk_core.specs.Facts.{HoldsRange, FoundRoom}
 use Rattle.hk_core.specs.Lawful.{Facts, FactsOf, hands_of}
 use Rattle.hk_core.proofs.kinds.Read.{ShapesFit}
 use Rattle.hk_core.proofs.kinds.WriteCell.{ShadesMean, IsGreyIn, IsMoving, CellFacts, cell_words, shades_mean, shades_cell, cleared_marks, reference_parts, size_of_reference}
-use Rattle.hk_core.proofs.kinds.Reserve.{size_some, marking_is_busy}
+use Rattle.hk_core.proofs.kinds.Reserve.{marking_is_busy}
 use Rattle.hk_core.proofs.kinds.NewRaise.{making_has_room}
 use Rattle.hk_collect.proofs.spots.Spots.{WorkFacts, GoesMarking, work_facts, marking_on, on_spot}
 use Rattle.hk_collect.proofs.spots.SpotLines.{AtItem, InObject, AtCell, at_cell, cell_works, object_trade_works}
@@ -66,9 +66,6 @@ module _ (g : Geometry) (w : Words) (z : Spaces) (sh : Shades) (flight : ℕ →
     (m : ShadesMean g w z sh flight t.line names) (fit : ShapesFit names) (marks : l.is_marking t.line ≡ true) (o : AtItem g w z sh t range) where
   pub busy : l.is_resting t.line ≡ false
   busy = marking_is_busy t.line marks
-
-  pub some_words : (j : ℕ) → 0 < sh.size j
-  some_words j = let e = m.size j in let some = size_some names j in omega arith
 
   -- a number whose place is in the current space isn't grey
   not_grey : (j y : ℕ) → w.place j ≡ z.current + y → y < z.live → sh.grey j ≢ true

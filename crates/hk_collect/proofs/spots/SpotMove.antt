@@ -38,7 +38,7 @@ use Rattle.hk_core.proofs.kinds.LoadRead.{ColoursMean, colours_mean, kept_number
 use Rattle.hk_core.proofs.kinds.Reserve.{size_some}
 use Rattle.hk_core.proofs.kinds.NewRaise.{making_has_room}
 use Rattle.hk_collect.proofs.spots.Spots.{WorkFacts, GoesMarking, hands_kept, shades_kept, work_facts, marking_on, on_spot}
-use Rattle.hk_collect.proofs.spots.SpotLines.{AtItem, AtObjectTrade, at_object_trade, look_works, scan_works}
+use Rattle.hk_collect.proofs.spots.SpotLines.{AtItem, AtObjectTrade, at_object_trade, scan_works}
 use Rattle.hk_collect.proofs.spots.SpotCopy.{IsSpaceOf, spaces_are, moving, item_shows, item_grey}
 
 -- CALLS INSIDE AN OBJECT
@@ -560,17 +560,9 @@ trade_marks : (ln : Line) → ln ≡ line.ObjectTrade → l.is_marking ln ≡ tr
 unfolding l.is_marking
 trade_marks ln e = ap l.is_marking e
 
-look_marks : l.is_marking line.Look ≡ true
-unfolding l.is_marking
-look_marks = refl
-
 scan_marks : l.is_marking line.Scan ≡ true
 unfolding l.is_marking
 scan_marks = refl
-
-lost_hand : (t : Spot) → t.line ≡ line.ObjectTrade → l.hand_of_spot (record t { line = line.Look }) ≡ l.hand_of_spot t
-unfolding l.hand_of_spot l.hand_at_line
-lost_hand t e = sym (ap (l.hand_at_line t) e)
 
 left_hand : (t : Spot) → t.line ≡ line.ObjectTrade → l.hand_of_spot (scanning t t.scan) ≡ l.hand_of_spot t
 unfolding l.hand_of_spot l.hand_at_line
@@ -604,23 +596,6 @@ module _ (g : Geometry) (w : Words) (flight : ℕ → Flight) (begun : ℕ → �
       let z = spaces_of g w.cycle in
       let sh = shades_of g w flight t.line names in
       at_object_trade g w z sh flight t names range (work_facts g w z sh flight begun (hands_of g flight t) t names contents range h line.ObjectTrade at)
-
-  -- where another word is there, the attempt was in vain
-  pub object_trade_lost : FactsOf g w flight begun (record t { line = line.Look }) names contents range
-  object_trade_lost =
-      let z = spaces_of g w.cycle in
-      let sh = shades_of g w flight t.line names in
-      let other = record t { line = line.Look } in
-      let item : AtItem g w z sh t range = trading.in_object.at_item in
-      let goes : GoesMarking t other = record { from = trade_marks t.line at; to = look_marks; cycle = refl; scan = refl; entries = refl } in
-      let works : WorkFacts g w z sh flight other names range line.Look =
-      look_works g w z sh flight other names range (record {
-        at_range = record { all_black = item.at_range.all_black; found = item.at_range.found };
-        some = item.some;
-        linked = item.linked;
-      }) in
-      on_spot g w flight begun t other names contents range (lost_hand t at) (goes.to ∙ sym goes.from) h
-      (marking_on g w z sh flight begun (hands_of g flight t) t names contents range h other goes works)
 
   left_to_scan : FactsOf g w flight begun (scanning t t.scan) names contents range
   left_to_scan =

@@ -74,9 +74,6 @@ pub record HandFacts (g : Geometry) (w : Words) (z : Spaces) (sh : Shades) (hand
 
 module _ (g : Geometry) (w : Words) (z : Spaces) (sh : Shades) (flight : ℕ → Flight) (begun : ℕ → ℕ) (hand : ℕ → Hand) (t : Spot)
     (names : Names) (contents : Contents) (range : ℕ → Option ℕ) (h : Facts g w z sh flight begun hand t names contents range) where
-  pub spot_facts : SpotFacts g w z sh flight hand t names range
-  spot_facts = assumption
-
   pub hand_facts : HandFacts g w z sh hand range
   hand_facts = assumption
 

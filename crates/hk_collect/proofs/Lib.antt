@@ -1,3 +1,4 @@
+mod Cases
 pub mod spots
 pub mod Fitting
 pub mod Collected

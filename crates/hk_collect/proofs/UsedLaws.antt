@@ -29,9 +29,7 @@ use Rattle.hk_collect.proofs.UsedBirth.{about_to_bear}
 use Rattle.hk_collect.proofs.UsedMarks.{zero_not_old}
 use Rattle.hk_collect.proofs.UsedReserves.{call_reserves, line_reserves}
 use Rattle.hk_collect.proofs.UsedTrace.{InUse, in_use_traced}
-
-never : {A : Type 0} → false ≡ true → A
-never e = absurd (cc)
+use Rattle.hk_collect.proofs.Cases.{never}
 
 -- TRACED RUNS ARE RUNS
 

@@ -41,6 +41,7 @@ use Rattle.hk_core.proofs.kinds.WriteCell.{shades_mean}
 use Rattle.hk_collect.specs.Used.{Closed, IsUsedWord}
 use Rattle.hk_collect.proofs.UsedCalls.{word_used}
 use Rattle.hk_collect.proofs.UsedFacts.{grey_of, MarksUsed, SpotUsed}
+use Rattle.hk_collect.proofs.Cases.{never, none}
 
 -- a call that holds a register back is inside its frame, unless it rests
 back_in_frame : (x : Flight) (r : ℕ) → f.is_resting x ≡ false → f.holds_back x r ≡ true → f.in_frame x ≡ true
@@ -76,12 +77,6 @@ back_is_busy x r step back = each x.call step back
     each (call.New dest shape) o e = absurd (cc)
     each (call.Same a b) o e = absurd (cc)
     each (call.IsNull reg) o e = absurd (cc)
-
-none : {A B : Type 0} (x : B) → None ≡ Some x → A
-none x e = absurd (cc)
-
-never : {A : Type 0} → false ≡ true → A
-never e = absurd (cc)
 
 no_accessors : (b : Bool) → ◌≡◌ {A = ℕ} (if b then 1 else 0) 0 → b ≡ false
 no_accessors true e = absurd (omega arith)

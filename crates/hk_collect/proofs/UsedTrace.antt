@@ -1,7 +1,6 @@
 -- The facts of a traced run hold from the opening state on, whatever the actions.
 use Rattle.std.proofs.Common.{◌≡◌, ℕ, ◌+◌, ◌<◌, ◌≤◌, Bool, true, false, inl, inr, refl, sym, ◌∙◌, ap, arith, List, [], ◌∷◌, ◌++◌, Option, Some, None}
 use Rattle.std.proofs.lemmas.Bool.{cases_Bool, cases_eq, and_parts, and_left, and_right, ltb-true, ne_eqb, not-true}
-use Rattle.std.proofs.lemmas.Bool.Decides.{nat_tests}
 use Rattle.std.proofs.lemmas.List.Elements.{Contains-push_cases}
 use Rattle.std.specs.Prelude.{nat_eq, nat_lt, not, ◌&&◌, fold, Contains, option_to_list, if◌then◌else◌}
 use Rattle.hk_words.specs.declared.geometry.Geometry.{Geometry}
@@ -42,9 +41,8 @@ use Rattle.hk_collect.proofs.UsedMarks.{collector_keeps, zero_not_old}
 use Rattle.hk_collect.proofs.UsedRows.{Agrees, agrees_fired, beside_w0}
 use Rattle.hk_collect.proofs.UsedSpot.{spot_stands}
 use Rattle.hk_collect.proofs.UsedTables.{bears_effect, born_rises, line_cycle, no_flip, rest_flips, rests_or_not}
-
-never : {A : Type 0} → false ≡ true → A
-never e = absurd (cc)
+use Rattle.hk_collect.proofs.Cases.{in_flight, never}
+use Rattle.std.proofs.lemmas.List.{append-nil}
 
 -- the facts of a traced run, of what the row and the spot say
 pub record Uses (g : Geometry) (w : Words) (t : Spot) (history at_flip : History) (young : List ℕ) : Type 0 where
@@ -59,18 +57,14 @@ UsesOf c history at_flip young = Uses c.geometry (words_of c.geometry c.row) c.s
 
 -- HISTORIES
 
-append_nil : {A : Type 0} (xs : List A) → xs ++ [] ≡ xs
-append_nil [] = refl
-append_nil (x ∷ xs) = ap (λ ys. x ∷ ys) (append_nil xs)
-
 -- the plain heap after one entry more, or none
 closed_longer : (g : Geometry) (history : History) (used : ℕ → Type 0) (o : Option Entry) → used (next_birth g history) → Closed (after (opening_of g) history) used
     → Closed (after (opening_of g) (history ++ option_to_list o)) used
-closed_longer g history used None is h = rw (append_nil history) h
+closed_longer g history used None is h = rw (append-nil history) h
 closed_longer g history used (Some e) is h = rw (after-push (opening_of g) history e) (closed_entry (after (opening_of g) history) used e is h)
 
 next_rises : (g : Geometry) (history : History) (o : Option Entry) → next_birth g history ≤ next_birth g (history ++ option_to_list o)
-next_rises g history None = rw (append_nil history) (omega arith)
+next_rises g history None = rw (append-nil history) (omega arith)
 next_rises g history (Some e) = rw (after-push (opening_of g) history e) (born_rises (after (opening_of g) history) e)
 
 -- THE OPENING STATE
@@ -310,9 +304,6 @@ in_use_begin r seat call o = record {
     by_test : (test : Bool) → (let k : Running = if test then record r.running { core = after_begin r.running.core seat call } else r.running in UsesOf k.core k.history r.at_flip r.young)
     by_test true = begun_uses r.running.core seat call r.running.history r.at_flip r.young o.uses
     by_test false = o.uses
-
-in_flight : (place : ℕ) → nat_eq place 0 ≡ false → 1 ≤ place
-in_flight place e = grind (arith, nat_tests)
 
 in_use_step : (r : Trace) (seat : ℕ) → InUse r → InUse (trace_act r (step seat))
 unfolding trace_act act flight_at

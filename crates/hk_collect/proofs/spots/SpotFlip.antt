@@ -30,6 +30,7 @@ use Rattle.hk_collect.proofs.spots.SpotSweepCounts.{count_listed}
 use Rattle.hk_collect.proofs.spots.SpotSweepLines.{kept_marked, kept_current, none_reserves}
 use Rattle.hk_collect.proofs.spots.Spots.{hands_kept}
 use Rattle.hk_core.proofs.kinds.WriteCell.{ShadesMean, shades_mean}
+use Rattle.hk_collect.proofs.Cases.{never, no_such, none}
 
 -- THE WORDS, THE SPACES AND THE SHADES AFTER THE FLIP
 
@@ -79,15 +80,6 @@ kept_again g cycle held bearer place mark empty n =
 -- words lie in a space wherever the spaces are turned
 turned_current : (z : Spaces) (place size : ℕ) → InCurrent z place size → InOld (turned z) place size
 turned_current z place size o = record { after = o.after; before = o.before }
-
-no_range : {A : Type 0} (o : Option ℕ) (n : ℕ) → o ≡ None → o ≡ Some n → A
-no_range o n none some = absurd (cc)
-
-never : {A : Type 0} → false ≡ true → A
-never e = absurd (cc)
-
-none : {A B : Type 0} (x : B) → None ≡ Some x → A
-none x e = absurd (cc)
 
 room_raised : (x : Flight) → f.has_room x ≡ true → f.has_raised x ≡ true
 unfolding f.has_room
@@ -231,9 +223,9 @@ module _ (g : Geometry) (w : Words) (z : Spaces) (sh : Shades) (flight : ℕ →
         let moved : fact.MovedStandsInRange z' false sh.kept w.place range = λ e n x kept there b. not_in_old n kept (omega arith) (omega arith) in
         let free : fact.FreeIsZero z' sh.kept w.place sh.size w.cell = λ i b o. old_is_zero (z.live + i) (omega arith) in
         let unreserved : fact.UnreservedIsZero z' false sh.size w.cell range = λ e x b o. old_is_zero x (omega arith) in
-        let below : fact.RangesBelowMoved z' (w.cycle + 1) 0 sh.kept w.place w.mark sh.size range = λ x n e b. no_range (range x) n (no_ranges x) e in
-        let grey : fact.RangesAboveGrey 0 sh.kept grey' range = λ x n e b. no_range (range x) n (no_ranges x) e in
-        let linked : fact.RangesLinked z' sh.size w.cell (reference_at names) range = λ x n e b. no_range (range x) n (no_ranges x) e in
+        let below : fact.RangesBelowMoved z' (w.cycle + 1) 0 sh.kept w.place w.mark sh.size range = λ x n e b. no_such (range x) n (no_ranges x) e in
+        let grey : fact.RangesAboveGrey 0 sh.kept grey' range = λ x n e b. no_such (range x) n (no_ranges x) e in
+        let linked : fact.RangesLinked z' sh.size w.cell (reference_at names) range = λ x n e b. no_such (range x) n (no_ranges x) e in
         let scan : fact.ScanBounded z' false 0 w.reserved = λ e. (omega arith, omega arith) in
         let few : fact.MarksFew g (line.Frame 0) (w.cycle + 1) w.reserved w.mark hand = λ e.
         let count : count_below (numbers g) (λ n. nat_eq (w.mark n) (w.cycle + 1)) ≤ list_length g =
@@ -242,7 +234,7 @@ module _ (g : Geometry) (w : Words) (z : Spaces) (sh : Shades) (flight : ℕ →
         omega arith in
         let claims : fact.ClaimsUnreserved g (w.cycle + 1) grey' range hand = λ k item c b e. absurd (none_in_hand k item c b e) in
         let links : fact.ClaimsUnlinked g z' (w.cycle + 1) grey' sh.size w.cell range hand = λ k item c offset b e.
-        let o = h.claims_unlinked k item c offset b e in no_range (range offset) _ (no_ranges offset) o.has_range in
+        let o = h.claims_unlinked k item c offset b e in no_such (range offset) _ (no_ranges offset) o.has_range in
         let unread : fact.UnreadFree g (w.cycle + 1) 0 w.accessors w.place w.version w.mark next = λ j a b. entry_free j b in
         let distinct : fact.UnreadDistinct g 0 next = λ i j a b c. let o = all_written in h.written_distinct i j b (omega arith) in
         let read : fact.OwnEntriesRead g 0 next w.entry flight = λ s j b making a c same.
@@ -320,7 +312,7 @@ module _ (g : Geometry) (w : Words) (z : Spaces) (sh : Shades) (flight : ℕ →
           claims_unreserved = claims;
           claims_unlinked = links;
           grey_waits = λ n b e. absurd (both_ways _ (none_grey n b) e);
-          unlinked_waits = λ x n e. no_range (range x) n (no_ranges x) e;
+          unlinked_waits = λ x n e. no_such (range x) n (no_ranges x) e;
           claims_apart = h.claims_apart;
           unread_free = unread;
           unread_distinct = distinct;

@@ -16,6 +16,7 @@ use Rattle.hk_core.specs.Lines as l
 use Rattle.hk_core.specs.Colours.{Spaces, Shades, IsGood, IsNullOrMarked}
 use Rattle.hk_core.specs.Facts.{FrameBehind, ObjectBehind, IsSettled}
 use Rattle.hk_collect.proofs.spots.Spots.{WorkFacts}
+use Rattle.hk_collect.proofs.Cases.{never, none}
 
 -- THE RECORDS
 
@@ -89,12 +90,6 @@ pub record AtPass (g : Geometry) (w : Words) (sh : Shades) (flight : ℕ → Fli
   pub meets : ((m : ℕ) × (n ≤ m) × (m < numbers g) × (sh.grey m ≡ true)) ⊎ IsSettled g w.cycle sh.white sh.grey w.register flight
 
 -- FROM WORKFACTS, AND BACK
-
-never : {A : Type 0} → false ≡ true → A
-never e = absurd (cc)
-
-none : {A B : Type 0} (x : B) → None ≡ Some x → A
-none x e = absurd (cc)
 
 is_some : {B : Type 0} (P : B → Type 0) (x y : B) → Some x ≡ Some y → P x → P y
 is_some P x y e p = let same : x ≡ y = cc in subst P same p

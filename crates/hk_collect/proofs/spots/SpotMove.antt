@@ -21,7 +21,7 @@ use Rattle.hk_core.specs.declared.spot.Line.TheVariants as line
 use Rattle.hk_core.specs.Collect.{current_space, next_list, moved_to, moved_number}
 use Rattle.hk_core.specs.Counts.{count_below}
 use Rattle.hk_core.specs.Step.{new_place, reference_size}
-use Rattle.hk_core.specs.View.{Words, Names, Contents, shown, refs_at, nums_at, size_at, reference_at}
+use Rattle.hk_core.specs.View.{Words, Names, Contents, shown, refs_at, size_at, reference_at}
 use Rattle.hk_core.specs.Flights as f
 use Rattle.hk_core.specs.Flights.{Hand}
 use Rattle.hk_core.specs.Lines as l
@@ -40,6 +40,7 @@ use Rattle.hk_core.proofs.kinds.NewRaise.{making_has_room}
 use Rattle.hk_collect.proofs.spots.Spots.{WorkFacts, GoesMarking, hands_kept, shades_kept, work_facts, marking_on, on_spot}
 use Rattle.hk_collect.proofs.spots.SpotLines.{AtItem, AtObjectTrade, at_object_trade, scan_works}
 use Rattle.hk_collect.proofs.spots.SpotCopy.{IsSpaceOf, spaces_are, moving, item_shows, item_grey}
+use Rattle.hk_collect.proofs.Cases.{never, no_such, refs_borne, size_borne, untrue}
 
 -- CALLS INSIDE AN OBJECT
 
@@ -89,28 +90,11 @@ is_inside_of x n inside e = and_from _ _ inside (eq-eqb _ _ e)
 
 -- WORDS AND PLACES
 
-no_range : {A : Type 0} (o : Option ℕ) (n : ℕ) → o ≡ None → o ≡ Some n → A
-no_range o n none some = absurd (cc)
-
 one_number : (o : Option ℕ) (m n : ℕ) → o ≡ Some m → o ≡ Some n → m ≡ n
 one_number o m n a b = cc
 
-never : {A : Type 0} → false ≡ true → A
-never e = absurd (cc)
-
-marks_on : {A : Type 0} → true ≡ false → A
-marks_on e = absurd (cc)
-
 none_there : {B : Type 0} (n : ℕ) → None ≡ Some n → B
 none_there n e = absurd (cc)
-
-size_borne : (names : Names) (n b : ℕ) → names.bearer n ≡ Some b → size_at names n ≡ 1 + names.refs b + names.nums b
-unfolding size_at refs_at nums_at
-size_borne names n b e = rw e refl
-
-refs_borne : (names : Names) (n b : ℕ) → names.bearer n ≡ Some b → refs_at names n ≡ names.refs b
-unfolding refs_at
-refs_borne names n b e = rw e refl
 
 -- the words of a New are in the area for allocation of a space
 new_apart : (live alloc side words size other offset len : ℕ) → side < 2 → other < 2 → words + size ≤ alloc → offset + len ≤ live
@@ -346,7 +330,7 @@ module _ (g : Geometry) (w : Words) (z : Spaces) (sh : Shades) (flight : ℕ →
           let other : j ≢ n = λ e. differ (own_range x (there ∙ ap Some e)) in
           let ends : x + sh.size j ≤ scan = old.ends in
           record { is_kept = old.is_kept; is_claimed = old.is_claimed; stands = other_place j other ∙ old.stands; ends = omega arith }
-      | inr above ↦ no_range (range x) j (h.ranges_apart scan n x o.has_range (omega arith) lower) there
+      | inr above ↦ no_such (range x) j (h.ranges_apart scan n x o.has_range (omega arith) lower) there
     ]
   ]
 
@@ -431,7 +415,7 @@ module _ (g : Geometry) (w : Words) (z : Spaces) (sh : Shades) (flight : ℕ →
     where
       by_link : IsNullOrKept sh.kept names (contents.link b i) → w.cell (w.place n + 1 + i) ≡ layout.pack_reference (names.number child) (names.refs child) (names.nums child)
           → IsNullOrMarked w.cycle w.mark (w.cell (w.place n + 1 + i)) → sh.white (names.number child) ≡ false
-      by_link (inl none) shows past = no_range (contents.link b i) child none there
+      by_link (inl none) shows past = no_such (contents.link b i) child none there
       by_link (inr (birth, is, kept)) shows past =
           let same : birth ≡ child = one_number (contents.link b i) birth child is there in
           let number = kept_number g w (held_by g flight) line.Scan names sh m.kept child (w.cell (w.place n + 1 + i)) (rw (← same) kept) shows in
@@ -482,7 +466,7 @@ module _ (g : Geometry) (w : Words) (z : Spaces) (sh : Shades) (flight : ℕ →
         | inl (_, u) ↦ never (sym u ∙ e)
         | inr (_, u) ↦ h.grey_waits k below (sym u ∙ e)
       ] in
-      let k7 : fact.SettledFromSweep line.Scan (fact.IsSettled g w.cycle sh.white (upd sh.grey n false) w.register flight) = λ e. marks_on e in
+      let k7 : fact.SettledFromSweep line.Scan (fact.IsSettled g w.cycle sh.white (upd sh.grey n false) w.register flight) = λ e. untrue e in
       assumption
 
 -- WHAT MANY FACTS READ

@@ -1,6 +1,6 @@
 -- The end of the cycle: no word is reserved any more, and the collector rests. Each range belongs to a kept object that stands in
 -- it, so the words of the area for evacuation that lie in no kept object are those that lie in no range.
-use Rattle.std.proofs.Common.{◌≡◌, ℕ, ◌+◌, ◌<◌, ◌≤◌, true, false, refl, sym, ◌∙◌, ap, subst, arith, Option, Some, None}
+use Rattle.std.proofs.Common.{◌≡◌, ℕ, ◌+◌, ◌<◌, ◌≤◌, refl, sym, ◌∙◌, ap, subst, arith, Option, Some, None}
 use Rattle.std.proofs.lemmas.Bool.{both_ways}
 use Rattle.hk_words.specs.declared.geometry.Geometry.{Geometry}
 use Rattle.hk_words.specs.Geometry.{list_length, space_words}
@@ -19,16 +19,11 @@ use Rattle.hk_collect.proofs.spots.SpotClear.{ClearingLine, reset_line}
 use Rattle.hk_collect.proofs.spots.SpotSweepLines.{sweep_spot, range_moved}
 use Rattle.hk_collect.proofs.spots.Spots.{SpotFacts, hands_kept, shades_kept}
 use Rattle.hk_core.proofs.kinds.WriteCell.{ShadesMean, shades_mean}
+use Rattle.hk_collect.proofs.Cases.{none, untrue}
 
 -- no range
 abbrev pub no_ranges : ℕ → Option ℕ
 no_ranges x = None
-
-never : {A : Type 0} → true ≡ false → A
-never e = absurd (cc)
-
-none : {A : Type 0} (n : ℕ) → None ≡ Some n → A
-none n e = absurd (cc)
 
 module _ (g : Geometry) (w : Words) (z : Spaces) (sh : Shades) (flight : ℕ → Flight) (begun : ℕ → ℕ) (hand : ℕ → Hand) (t : Spot)
     (names : Names) (contents : Contents) (range : ℕ → Option ℕ) (h : Facts g w z sh flight begun hand t names contents range)
@@ -57,8 +52,8 @@ module _ (g : Geometry) (w : Words) (z : Spaces) (sh : Shades) (flight : ℕ →
       sweep_spot g w' z sh flight hand t' names no_ranges refl (record {
         spot_knows_cycle = h.spot_knows_cycle;
         marks_above_are_written = λ n within above. let o = h.marks_above_are_written n within above in let b : o.0 < l.marked g t t.line = o.1 in (o.0, omega arith, o.2);
-        moved_stands_in_range = λ e. never e;
-        unreserved_is_zero = λ e. never e;
+        moved_stands_in_range = λ e. untrue e;
+        unreserved_is_zero = λ e. untrue e;
         unused_is_zero = λ rests x b free. h.unreserved_is_zero here.is_busy x b (λ y n there fits covers.
             let o = stands y n there in
             let place : w.place n ≡ z.current + y = o.stands in
@@ -69,7 +64,7 @@ module _ (g : Geometry) (w : Words) (z : Spaces) (sh : Shades) (flight : ℕ →
         nothing_reserved_at_rest = λ e. refl;
         ranges_below_moved = λ x n e. none n e;
         ranges_above_grey = λ x n e. none n e;
-        scan_bounded = λ e. never e;
+        scan_bounded = λ e. untrue e;
         marks_few = λ e. absurd (cc);
         written_numbers = λ j b. h.written_numbers j (omega arith);
         written_distinct = λ j k a b. h.written_distinct j k a (omega arith);

@@ -31,13 +31,11 @@ use Rattle.hk_collect.proofs.spots.SpotSweepLines.{sweep_spot, kept_marked, quie
 use Rattle.hk_collect.proofs.spots.SpotSweepRead.{GoesSweeping, goes_to_number, goes_to_clear, room_for}
 use Rattle.hk_collect.proofs.spots.Spots.{SpotFacts, hands_kept}
 use Rattle.hk_core.proofs.kinds.WriteCell.{ShadesMean, shades_mean}
+use Rattle.hk_collect.proofs.Cases.{not_so}
 
 -- the words after the header of a number was emptied
 abbrev pub emptied_words : Words → ℕ → Words
 emptied_words w n = record w { accessors = upd w.accessors n 0; place = upd w.place n 0; version = upd w.version n 0 }
-
-not_so : {A : Type 0} (b : Bool) → b ≡ false → b ≡ true → A
-not_so b off on = absurd (cc)
 
 -- a call that is inside an object goes through it
 inside_names : (x : Flight) (k : ℕ) → f.is_inside x k ≡ true → (f.in_object x ≡ true) × (layout.reference_number x.entered ≡ k)

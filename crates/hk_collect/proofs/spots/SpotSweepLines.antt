@@ -31,6 +31,7 @@ use Rattle.hk_core.proofs.kinds.WriteCell.{ShadesMean, fresh_when_done}
 use Rattle.hk_core.proofs.kinds.LoadRead.{some_words}
 use Rattle.hk_collect.proofs.spots.Spots.{SpotFacts}
 use Rattle.hk_collect.proofs.spots.SpotSweepCounts.{count_none}
+use Rattle.hk_collect.proofs.Cases.{no_such, not_so, untrue}
 
 -- LINES
 
@@ -49,22 +50,19 @@ pub record QuietLine (g : Geometry) (t : Spot) (ln : Line) : Type 0 where
   pub unspent : l.most_spent g t ln ≡ None
   pub no_hand : l.hand_at_line t ln ≡ no_claim
 
-marks_not : {A : Type 0} → true ≡ false → A
-marks_not e = absurd (cc)
-
 pub quiet_line : (g : Geometry) (t : Spot) (ln : Line) → l.is_marking ln ≡ false → QuietLine g t ln
 unfolding l.is_marking l.has_reference l.frames_done l.frame_attempt l.register_in_work l.cell_to_write l.is_at_range l.has_item l.object_attempt l.cell_loaded l.passing l.most_spent l.hand_at_line
 quiet_line g t line.Rest e = record { no_reference = refl; no_frames = refl; no_frame_attempt = refl; no_register = refl; no_write = refl; at_no_range = refl; no_item = refl; no_object_attempt = refl; no_cell = refl; not_passing = refl; unspent = refl; no_hand = refl }
-quiet_line g t (line.Frame s) e = marks_not e
-quiet_line g t (line.Register s r stage) e = marks_not e
-quiet_line g t (line.FrameTrade s) e = marks_not e
-quiet_line g t line.Scan e = marks_not e
-quiet_line g t line.Link e = marks_not e
-quiet_line g t line.Look e = marks_not e
-quiet_line g t (line.Cell i stage) e = marks_not e
-quiet_line g t line.ObjectTrade e = marks_not e
-quiet_line g t (line.Pass n) e = marks_not e
-quiet_line g t (line.PassHead n) e = marks_not e
+quiet_line g t (line.Frame s) e = untrue e
+quiet_line g t (line.Register s r stage) e = untrue e
+quiet_line g t (line.FrameTrade s) e = untrue e
+quiet_line g t line.Scan e = untrue e
+quiet_line g t line.Link e = untrue e
+quiet_line g t line.Look e = untrue e
+quiet_line g t (line.Cell i stage) e = untrue e
+quiet_line g t line.ObjectTrade e = untrue e
+quiet_line g t (line.Pass n) e = untrue e
+quiet_line g t (line.PassHead n) e = untrue e
 quiet_line g t (line.Sweep n stage) e = record { no_reference = refl; no_frames = refl; no_frame_attempt = refl; no_register = refl; no_write = refl; at_no_range = refl; no_item = refl; no_object_attempt = refl; no_cell = refl; not_passing = refl; unspent = refl; no_hand = refl }
 quiet_line g t (line.Clear i) e = record { no_reference = refl; no_frames = refl; no_frame_attempt = refl; no_register = refl; no_write = refl; at_no_range = refl; no_item = refl; no_object_attempt = refl; no_cell = refl; not_passing = refl; unspent = refl; no_hand = refl }
 quiet_line g t line.Reset e = record { no_reference = refl; no_frames = refl; no_frame_attempt = refl; no_register = refl; no_write = refl; at_no_range = refl; no_item = refl; no_object_attempt = refl; no_cell = refl; not_passing = refl; unspent = refl; no_hand = refl }
@@ -90,13 +88,6 @@ pub record SweepFacts (g : Geometry) (w : Words) (z : Spaces) (sh : Shades) (fli
   pub swept_marked : fact.SweptMarked w.cycle w.mark t.line
   pub spot_formed : fact.SpotFormed g t
   pub settled : IsSettled g w.cycle sh.white sh.grey w.register flight
-
--- there is none, where a table says so
-no_such : {A B : Type 0} (o : Option B) (x : B) → o ≡ None → o ≡ Some x → A
-no_such o x none some = absurd (cc)
-
-not_so : {A : Type 0} (b : Bool) → b ≡ false → b ≡ true → A
-not_so b off on = absurd (both_ways b off on)
 
 -- they give all facts that read the spot
 pub sweep_spot : (g : Geometry) (w : Words) (z : Spaces) (sh : Shades) (flight : ℕ → Flight) (hand : ℕ → Hand) (t : Spot) (names : Names) (range : ℕ → Option ℕ)

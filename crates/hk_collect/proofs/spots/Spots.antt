@@ -25,6 +25,7 @@ use Rattle.hk_core.specs.Facts as fact
 use Rattle.hk_core.specs.Facts.{FrameBehind, ObjectBehind, IsSettled}
 use Rattle.hk_core.specs.Lawful.{Facts, FactsOf, hands_of}
 use Rattle.hk_core.proofs.Update.{upd_cases}
+use Rattle.hk_collect.proofs.Cases.{never}
 
 -- THE FACTS THAT READ THE SPOT
 
@@ -140,9 +141,6 @@ pub record MarkingLine (g : Geometry) (t : Spot) (ln : Line) : Type 0 where
   pub cleared : l.cleared g ln ≡ 0
   pub no_entries : (length cycle entries : ℕ) (mark next : ℕ → ℕ) → l.InStep length cycle entries mark next ln → entries ≡ 0
   pub in_step : (length cycle entries : ℕ) (mark next : ℕ → ℕ) → entries ≡ 0 → l.InStep length cycle entries mark next ln
-
-never : {A : Type 0} → false ≡ true → A
-never e = absurd (cc)
 
 pub marking_line : (g : Geometry) (t : Spot) (ln : Line) → l.is_marking ln ≡ true → MarkingLine g t ln
 unfolding l.is_marking l.is_resting l.is_sweeping_or_marking l.sweeping l.written l.marked l.emptied l.cleared

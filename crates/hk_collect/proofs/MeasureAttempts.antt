@@ -34,7 +34,8 @@ use Rattle.hk_collect.proofs.spots.SpotLines.{AtRegister, AtCell, at_register, a
 use Rattle.hk_collect.proofs.spots.SpotLoads.{work_at, took_at}
 use Rattle.hk_collect.proofs.spots.SpotLoadsCells.{IsItem, item_known}
 use Rattle.hk_words.specs.Bounds.{frame_events, object_events}
-use Rattle.hk_collect.specs.Measure.{in_attempt, FrameUntouched, ObjectUntouched, UntouchedAt, IsUntouched, ClosesAttempt, useful_after, least_useful, CountsAttempt}
+use Rattle.hk_collect.specs.Runs.{in_attempt}
+use Rattle.hk_collect.specs.Measure.{FrameUntouched, ObjectUntouched, UntouchedAt, IsUntouched, ClosesAttempt, useful_after, least_useful, CountsAttempt}
 use Rattle.hk_collect.proofs.Cases.{untrue}
 
 -- THE EVENT AND THE SPOT AT A LINE

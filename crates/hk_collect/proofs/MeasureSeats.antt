@@ -45,7 +45,8 @@ use Rattle.hk_core.proofs.kinds.Reserve.{reserve_words}
 use Rattle.hk_core.proofs.kinds.NewRaise.{raised_words}
 use Rattle.hk_core.proofs.kinds.NewWords.{headed_words, words-raise, words-new_header, used_fits, objects_fit, new_place_fits}
 use Rattle.hk_core.proofs.kinds.WriteCell.{shades_mean}
-use Rattle.hk_collect.specs.Measure.{is_grey_by, IsCalm, KeepsCalm, SeatsKeepCalm}
+use Rattle.hk_collect.specs.Runs.{is_grey_by}
+use Rattle.hk_collect.specs.Measure.{IsCalm, KeepsCalm, SeatsKeepCalm}
 use Rattle.hk_collect.proofs.MeasureAttempts.{word_kept}
 use Rattle.hk_collect.proofs.MeasureBounds.{fits_at}
 

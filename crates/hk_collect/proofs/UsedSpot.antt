@@ -40,7 +40,8 @@ use Rattle.hk_collect.proofs.spots.SpotLoadsRow.{found-frame, found-register, sp
 use Rattle.hk_core.proofs.kinds.WriteCell.{shades_mean}
 use Rattle.hk_collect.specs.Used.{Closed, IsUsedWord}
 use Rattle.hk_collect.proofs.UsedCalls.{word_used}
-use Rattle.hk_collect.proofs.UsedFacts.{grey_of, MarksUsed, SpotUsed}
+use Rattle.hk_collect.specs.Runs.{is_grey_by}
+use Rattle.hk_collect.proofs.UsedFacts.{grey_claimed, MarksUsed, SpotUsed}
 use Rattle.hk_collect.proofs.Cases.{never, none}
 
 -- a call that holds a register back is inside its frame, unless it rests
@@ -171,8 +172,8 @@ module _ (c : State) (history : History) (h : Lawful c history) (used : ℕ → 
         ] in
         let within : k < numbers g = (kept_means g now (flight_at c) t.line names k both.0).within in
         let number : moved_number t ≡ k = number_of_reference g names k t.item within shows in
-        let grey : grey_of g now k ≡ true = both.1 in
-        let is = marks.grey k within grey in
+        let grey : is_grey_by g now k ≡ true = both.1 in
+        let is = marks.grey k within (grey_claimed g now k grey) in
         let same : Some is.0 ≡ Some b = sym is.1 ∙ ap borne (sym number) ∙ bears in
         let one : is.0 ≡ b = cc in
         rw (← one) is.2

@@ -242,7 +242,7 @@ reserve_on : DealsOn stage.Reserve stage.Tie
 unfolding l.stage_rank l.written_at
 reserve_on = record { before = at_reserve; after = at_tie; rank = refl; of_register = tt; of_cell = tt; unwritten = λ i j e. absurd (cc) }
 
-no_read_work : {A : Type 0} → l.is_in_work stage.Read ≡ true → A
+pub no_read_work : {A : Type 0} → l.is_in_work stage.Read ≡ true → A
 unfolding l.is_in_work
 no_read_work e = absurd (cc)
 
@@ -250,15 +250,15 @@ no_write_work : {A : Type 0} → l.is_in_work stage.Write ≡ true → A
 unfolding l.is_in_work
 no_write_work e = absurd (cc)
 
-read_rank : l.stage_rank stage.Read ≡ 0
+pub read_rank : l.stage_rank stage.Read ≡ 0
 unfolding l.stage_rank
 read_rank = refl
 
-write_rank : l.stage_rank stage.Write ≡ 4
+pub write_rank : l.stage_rank stage.Write ≡ 4
 unfolding l.stage_rank
 write_rank = refl
 
-loaded_now : (i : ℕ) → l.loaded_at i stage.Write ≡ Some i
+pub loaded_now : (i : ℕ) → l.loaded_at i stage.Write ≡ Some i
 unfolding l.loaded_at
 loaded_now i = refl
 

@@ -32,6 +32,7 @@ use Rattle.hk_collect.proofs.spots.Spots.{WorkFacts, GoesMarking, work_facts, ma
 use Rattle.hk_collect.proofs.spots.SpotLines.{AtItem, InObject, AtCell, at_cell, cell_works, object_trade_works}
 use Rattle.hk_collect.proofs.Cases.{no_such, size_borne}
 use Rattle.std.proofs.lemmas.Bool.{ltb-false}
+use Rattle.hk_collect.proofs.spots.SpotClaim.{no_read_work, read_rank, write_rank, loaded_now}
 
 -- THE OBJECT THAT IS MOVED
 
@@ -266,10 +267,6 @@ copied_marks t i = by_last (nat_lt (i + 2) (reference_size t.item))
     by_last true = refl
     by_last false = refl
 
-no_work : {A : Type 0} → l.is_in_work stage.Read ≡ true → A
-unfolding l.is_in_work
-no_work e = absurd (cc)
-
 none_written : {A : Type 0} (i j : ℕ) → l.written_at i stage.Read ≡ Some j → A
 unfolding l.written_at
 none_written i j e = absurd (cc)
@@ -278,21 +275,9 @@ none_loaded : {A : Type 0} (i j : ℕ) → l.loaded_at i stage.Read ≡ Some j �
 unfolding l.loaded_at
 none_loaded i j e = absurd (cc)
 
-loaded_now : (i : ℕ) → l.loaded_at i stage.Write ≡ Some i
-unfolding l.loaded_at
-loaded_now i = refl
-
 written_now : (i : ℕ) → l.written_at i stage.Write ≡ Some i
 unfolding l.written_at
 written_now i = refl
-
-read_rank : l.stage_rank stage.Read ≡ 0
-unfolding l.stage_rank
-read_rank = refl
-
-write_rank : l.stage_rank stage.Write ≡ 4
-unfolding l.stage_rank
-write_rank = refl
 
 -- the cell that was written is past
 cell_past : (g : Geometry) (w : Words) (z : Spaces) (sh : Shades) (t : Spot) (names : Names) (range : ℕ → Option ℕ) (i : ℕ) → AtCell g w z sh t names range i stage.Write
@@ -330,7 +315,7 @@ copied_works g w z sh flight t names range i o written = by_last (nat_lt (i + 2)
           in_object = cell_past g w z sh t names range i o written;
           cell = omega arith;
           staged = tt;
-          good = λ e. no_work e;
+          good = λ e. no_read_work e;
           claimed = λ j e. none_written (i + 1) j e;
           loaded = λ j e. none_loaded (i + 1) j e;
           spent = omega arith;

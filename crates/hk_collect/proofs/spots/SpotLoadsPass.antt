@@ -145,4 +145,3 @@ module _ (g : Geometry) (w : Words) (flight : ℕ → Flight) (begun : ℕ → �
         by_test true stays next e = refuted (is_old g t old) moved stays
         by_test false new true e = to_next (inr at) (moved_not_grey n old h place moved) more
         by_test false new false e = refuted (nat_lt (n + 1) (numbers g)) e (lt-ltb (n + 1) (numbers g) more)
-

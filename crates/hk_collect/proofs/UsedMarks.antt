@@ -120,13 +120,6 @@ module _ (c : State) (history : History) (h : Lawful c history) (used : ℕ → 
 
     -- THE EXCHANGE OF A HEADER
 
-    place_few : c.spot.line ≡ line.ObjectTrade → c.spot.scan < c.geometry.live + c.geometry.alloc
-    unfolding l.is_resting
-    place_few at =
-        let bounded = h.facts.scan_bounded (ap l.is_resting at) in
-        let low : c.spot.scan ≤ c.geometry.live = bounded.1 in
-        omega (arith, c.geometry.alloc_enough)
-
     -- the object that is moved was claimed
     item_claimed : c.spot.line ≡ line.ObjectTrade → claimed_of c.geometry now (moved_number c.spot) ≡ true
     unfolding shades_of l.has_item l.is_at_range

@@ -3,6 +3,7 @@ pub mod OpeningHeap
 pub mod OpeningRow
 mod OpeningFacts
 pub mod OpeningLawful
+pub mod Shared
 pub mod Update
 pub mod Waiting
 pub mod Counts

@@ -1,4 +1,4 @@
-mod Cases
+mod Small
 pub mod spots
 pub mod Fitting
 pub mod Collected

@@ -22,7 +22,8 @@ use Rattle.hk_collect.proofs.spots.SpotLoads.{work_at}
 use Rattle.hk_words.specs.Bounds.{frame_events}
 use Rattle.hk_collect.specs.Measure.{most_for_sweep, most_in_sweep, most_useful_at, most_useful, cycle_bound, MovesBirth}
 use Rattle.hk_collect.proofs.MeasureAttempts.{register_knows, cell_knows}
-use Rattle.hk_collect.proofs.Cases.{a_birth, size_borne}
+use Rattle.hk_core.proofs.Shared.{size_borne}
+use Rattle.hk_collect.proofs.Small.{a_birth}
 
 -- NUMBERS
 

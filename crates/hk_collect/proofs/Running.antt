@@ -35,7 +35,7 @@ use Rattle.hk_core.proofs.Unused.{number_is_fresh}
 use Rattle.hk_core.proofs.kinds.Enter.{object_of}
 use Rattle.hk_collect.specs.Runs.{StandsAt, entered_number, written_by, IsStepInside}
 use Rattle.hk_collect.proofs.EachLine.{collects, lawful_collected}
-use Rattle.hk_collect.proofs.Cases.{in_flight}
+use Rattle.hk_collect.proofs.Small.{in_flight}
 
 -- LAWFUL RUNS
 

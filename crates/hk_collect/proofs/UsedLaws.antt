@@ -28,7 +28,7 @@ use Rattle.hk_collect.proofs.UsedFacts.{grey_claimed}
 use Rattle.hk_collect.proofs.UsedMarks.{zero_not_old}
 use Rattle.hk_collect.proofs.UsedReserves.{call_reserves, line_reserves}
 use Rattle.hk_collect.proofs.UsedTrace.{InUse, in_use_traced}
-use Rattle.hk_collect.proofs.Cases.{never}
+use Rattle.hk_core.proofs.Shared.{never}
 
 -- TRACED RUNS ARE RUNS
 

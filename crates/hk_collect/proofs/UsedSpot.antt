@@ -42,7 +42,7 @@ use Rattle.hk_collect.specs.Used.{Closed, IsUsedWord}
 use Rattle.hk_collect.proofs.UsedCalls.{word_used}
 use Rattle.hk_collect.specs.Runs.{is_grey_by}
 use Rattle.hk_collect.proofs.UsedFacts.{grey_claimed, MarksUsed, SpotUsed}
-use Rattle.hk_collect.proofs.Cases.{never, none}
+use Rattle.hk_core.proofs.Shared.{never, never_some}
 
 -- a call that holds a register back is inside its frame, unless it rests
 back_in_frame : (x : Flight) (r : ℕ) → f.is_resting x ≡ false → f.holds_back x r ≡ true → f.in_frame x ≡ true
@@ -100,7 +100,7 @@ module _ (c : State) (history : History) (h : Lawful c history) (used : ℕ → 
   -- no attempt and no reference
   idle : (u : Spot) → l.frame_attempt c.geometry u.line ≡ None → l.has_reference u.line ≡ false → Stands u
   idle u no_attempt no_reference = record {
-    attempt = λ s passed r at seat reg. none (s, passed) (sym no_attempt ∙ at);
+    attempt = λ s passed r at seat reg. never_some (sym no_attempt ∙ at);
     in_work = λ deals. never (sym no_reference ∙ deals);
   }
 
@@ -116,7 +116,7 @@ module _ (c : State) (history : History) (h : Lawful c history) (used : ℕ → 
 
   at_cell_of : (u : Spot) → l.frame_attempt c.geometry u.line ≡ None → (l.has_reference u.line ≡ true → IsUsedWord borne used u.cell) → Stands u
   at_cell_of u no_attempt deals = record {
-    attempt = λ s passed r at seat reg. none (s, passed) (sym no_attempt ∙ at);
+    attempt = λ s passed r at seat reg. never_some (sym no_attempt ∙ at);
     in_work = deals;
   }
 

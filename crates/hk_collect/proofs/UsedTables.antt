@@ -27,7 +27,7 @@ use Rattle.hk_core.specs.Collect.{last_cycle}
 use Rattle.hk_core.specs.Step as seat
 use Rattle.hk_core.specs.Flights as f
 use Rattle.hk_collect.specs.Used.{is_flip}
-use Rattle.hk_collect.proofs.Cases.{never}
+use Rattle.hk_core.proofs.Shared.{never}
 use Rattle.std.proofs.lemmas.List.{append-nil}
 
 -- BIRTHS

@@ -46,7 +46,8 @@ use Rattle.hk_collect.proofs.UsedMarks.{collector_keeps, zero_not_claimed}
 use Rattle.hk_collect.proofs.UsedRows.{Agrees, agrees_fired, beside_w0}
 use Rattle.hk_collect.proofs.UsedSpot.{spot_stands}
 use Rattle.hk_collect.proofs.UsedTables.{bears_effect, born_rises, line_cycle, no_flip, rest_flips, rests_or_not}
-use Rattle.hk_collect.proofs.Cases.{in_flight, never}
+use Rattle.hk_core.proofs.Shared.{never}
+use Rattle.hk_collect.proofs.Small.{in_flight}
 use Rattle.std.proofs.lemmas.List.{append-nil}
 
 -- the facts of a traced run, of what the row and the spot say

@@ -23,7 +23,7 @@ use Rattle.hk_core.proofs.kinds.LoadRead.{some_words}
 use Rattle.hk_collect.proofs.spots.SpotSweepLines.{quiet_line, sweep_spot, kept_current}
 use Rattle.hk_collect.proofs.spots.Spots.{SpotFacts, hands_kept, shades_kept}
 use Rattle.hk_core.proofs.kinds.WriteCell.{ShadesMean, shades_mean}
-use Rattle.hk_collect.proofs.Cases.{no_such, not_so, size_borne}
+use Rattle.hk_core.proofs.Shared.{never_both, refuted, size_borne}
 
 -- what the tables say of a line on which the collector clears the old space, and after that
 pub record ClearingLine (g : Geometry) (t : Spot) (ln : Line) : Type 0 where
@@ -92,7 +92,7 @@ module _ (g : Geometry) (w : Words) (z : Spaces) (sh : Shades) (flight : ℕ →
         marks_above_are_written = rw marked h.marks_above_are_written;
         moved_stands_in_range = rw busy h.moved_stands_in_range;
         unreserved_is_zero = λ e x b none. zero _ (h.unreserved_is_zero here.is_busy x b none);
-        unused_is_zero = λ e. not_so _ next.is_busy e;
+        unused_is_zero = λ e. refuted _ next.is_busy e;
         cleared_is_zero = λ j b. elim (cases_lt j i) [
           | inl below ↦ zero _ (h.cleared_is_zero j (omega arith))
           | inr last ↦ elim (upd_cases w.cell p 0 (z.old + j)) [ inl (same, u) ↦ u | inr (differ, u) ↦ absurd (differ (omega arith)) ]
@@ -101,13 +101,13 @@ module _ (g : Geometry) (w : Words) (z : Spaces) (sh : Shades) (flight : ℕ →
         ranges_below_moved = h.ranges_below_moved;
         ranges_above_grey = h.ranges_above_grey;
         scan_bounded = rw busy h.scan_bounded;
-        marks_few = λ e. not_so _ next.sweeps_no_more e;
+        marks_few = λ e. refuted _ next.sweeps_no_more e;
         written_numbers = rw written h.written_numbers;
         written_distinct = rw written h.written_distinct;
         written_marked = rw marked h.written_marked;
         written_empty = rw emptied h.written_empty;
         sweep_in_step = next.in_step (list_length g) w.cycle t.entries w.mark (w.entry (next_list w.cycle)) e;
-        swept_marked = λ n k e. no_such _ n next.sweeps_none e;
+        swept_marked = λ n k e. never_both _ n next.sweeps_none e;
         spot_formed = fits;
         settled = h.settled_from_sweep here.quiet;
       })

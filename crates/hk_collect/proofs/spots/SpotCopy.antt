@@ -30,7 +30,7 @@ use Rattle.hk_core.proofs.kinds.Reserve.{marking_is_busy}
 use Rattle.hk_core.proofs.kinds.NewRaise.{making_has_room}
 use Rattle.hk_collect.proofs.spots.Spots.{WorkFacts, GoesMarking, work_facts, marking_on, on_spot}
 use Rattle.hk_collect.proofs.spots.SpotLines.{AtItem, InObject, AtCell, at_cell, cell_works, object_trade_works}
-use Rattle.hk_collect.proofs.Cases.{no_such, size_borne}
+use Rattle.hk_core.proofs.Shared.{never_both, size_borne}
 use Rattle.std.proofs.lemmas.Bool.{ltb-false}
 use Rattle.hk_collect.proofs.spots.SpotClaim.{no_read_work, read_rank, write_rank, loaded_now}
 
@@ -183,7 +183,7 @@ module _ (g : Geometry) (w : Words) (z : Spaces) (sh : Shades) (flight : ℕ →
   not_link : (x j : ℕ) → range x ≡ Some j → z.current + x ≢ z.current + t.scan + 1 + i
   not_link x j there e =
       let size : reference_size t.item ≡ sh.size (layout.reference_number t.item) = own.size in
-      no_such (range x) j (h.ranges_apart t.scan (layout.reference_number t.item) x own.has_range (omega arith) (omega arith)) there
+      never_both (range x) j (h.ranges_apart t.scan (layout.reference_number t.item) x own.has_range (omega arith) (omega arith)) there
 
   copy_links : fact.LinksShown sh.kept names w.place (upd w.cell (z.current + t.scan + 1 + i) v) contents.link
   copy_links j b kept borne k below =

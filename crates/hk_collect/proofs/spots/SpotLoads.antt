@@ -19,7 +19,7 @@ use Rattle.hk_core.specs.Facts.{FrameBehind}
 use Rattle.hk_core.specs.Lawful.{FactsOf, hands_of}
 use Rattle.hk_collect.proofs.spots.Spots.{WorkFacts, on_spot, work_facts, marking_on}
 use Rattle.hk_collect.proofs.spots.SpotLines.{AtFrame, InFrame, AtRegister, AtFrameTrade, at_frame, at_register, at_frame_trade, frame_works, register_works, frame_trade_works}
-use Rattle.hk_collect.proofs.Cases.{never}
+use Rattle.hk_core.proofs.Shared.{never}
 
 -- GOING ON
 

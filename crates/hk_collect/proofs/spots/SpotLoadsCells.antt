@@ -23,8 +23,8 @@ use Rattle.hk_core.proofs.kinds.WriteCell.{reference_parts, size_of_reference}
 use Rattle.hk_core.proofs.kinds.ReserveSeats.{BearersHaveFields, two_words}
 use Rattle.hk_collect.proofs.spots.SpotLines.{AtItem, InObject, AtCell, AtObjectTrade, at_look, at_cell, at_object_trade, look_works, cell_works}
 use Rattle.hk_collect.proofs.spots.SpotLoads.{work_at, goes_on, took_at}
-use Rattle.hk_collect.proofs.Cases.{a_birth, never, none, refs_borne}
-use Rattle.hk_core.proofs.Shared.{refuted}
+use Rattle.hk_core.proofs.Shared.{never, never_some, refuted}
+use Rattle.hk_collect.proofs.Small.{a_birth, refs_borne}
 
 -- THE OBJECT THAT IS MOVED
 
@@ -134,8 +134,8 @@ module _ (g : Geometry) (w : Words) (flight : ℕ → Flight) (begun : ℕ → �
             cell = omega arith;
             staged = tt;
             good = λ e. never e;
-            claimed = λ j e. none j e;
-            loaded = λ j e. none j e;
+            claimed = λ j e. never_some e;
+            loaded = λ j e. never_some e;
             spent = omega arith;
           }))
 
@@ -206,7 +206,7 @@ module _ (g : Geometry) (w : Words) (flight : ℕ → Flight) (begun : ℕ → �
             cell = o.cell;
             staged = tt;
             good = λ e. good;
-            claimed = λ j e. none j e;
+            claimed = λ j e. never_some e;
             loaded = λ j e same. let here : i ≡ j = cc in ap (λ j. w.cell (moved_from t + 1 + j)) here;
             spent = omega arith;
           }))

@@ -35,12 +35,12 @@ use Rattle.hk_core.proofs.kinds.Seats.{NewsFacts, own_not_kept, headless_not_kep
 use Rattle.hk_core.proofs.kinds.Read.{ShapesFit}
 use Rattle.hk_core.proofs.kinds.WriteCell.{ShadesMean, SpacesApart, IsGreyIn, IsMoving, shades_mean, reference_parts}
 use Rattle.hk_core.proofs.kinds.LoadRead.{ColoursMean, colours_mean, kept_number, shown_birth}
-use Rattle.hk_core.proofs.Shared.{size_some}
 use Rattle.hk_core.proofs.kinds.NewRaise.{making_has_room}
 use Rattle.hk_collect.proofs.spots.Spots.{WorkFacts, GoesMarking, hands_kept, shades_kept, work_facts, marking_on, on_spot}
 use Rattle.hk_collect.proofs.spots.SpotLines.{AtItem, AtObjectTrade, at_object_trade, scan_works}
 use Rattle.hk_collect.proofs.spots.SpotCopy.{IsSpaceOf, spaces_are, moving, item_shows, item_grey}
-use Rattle.hk_collect.proofs.Cases.{never, no_such, refs_borne, size_borne, untrue}
+use Rattle.hk_core.proofs.Shared.{never, never_both, never_false, size_borne, size_some}
+use Rattle.hk_collect.proofs.Small.{refs_borne}
 
 -- CALLS INSIDE AN OBJECT
 
@@ -330,7 +330,7 @@ module _ (g : Geometry) (w : Words) (z : Spaces) (sh : Shades) (flight : ℕ →
           let other : j ≢ n = λ e. differ (own_range x (there ∙ ap Some e)) in
           let ends : x + sh.size j ≤ scan = old.ends in
           record { is_kept = old.is_kept; is_claimed = old.is_claimed; stands = other_place j other ∙ old.stands; ends = omega arith }
-      | inr above ↦ no_such (range x) j (h.ranges_apart scan n x o.has_range (omega arith) lower) there
+      | inr above ↦ never_both (range x) j (h.ranges_apart scan n x o.has_range (omega arith) lower) there
     ]
   ]
 
@@ -415,7 +415,7 @@ module _ (g : Geometry) (w : Words) (z : Spaces) (sh : Shades) (flight : ℕ →
     where
       by_link : IsNullOrKept sh.kept names (contents.link b i) → w.cell (w.place n + 1 + i) ≡ layout.pack_reference (names.number child) (names.refs child) (names.nums child)
           → IsNullOrMarked w.cycle w.mark (w.cell (w.place n + 1 + i)) → sh.white (names.number child) ≡ false
-      by_link (inl none) shows past = no_such (contents.link b i) child none there
+      by_link (inl none) shows past = never_both (contents.link b i) child none there
       by_link (inr (birth, is, kept)) shows past =
           let same : birth ≡ child = one_number (contents.link b i) birth child is there in
           let number = kept_number g w (held_by g flight) line.Scan names sh m.kept child (w.cell (w.place n + 1 + i)) (rw (← same) kept) shows in
@@ -466,7 +466,7 @@ module _ (g : Geometry) (w : Words) (z : Spaces) (sh : Shades) (flight : ℕ →
         | inl (_, u) ↦ never (sym u ∙ e)
         | inr (_, u) ↦ h.grey_waits k below (sym u ∙ e)
       ] in
-      let k7 : fact.SettledFromSweep line.Scan (fact.IsSettled g w.cycle sh.white (upd sh.grey n false) w.register flight) = λ e. untrue e in
+      let k7 : fact.SettledFromSweep line.Scan (fact.IsSettled g w.cycle sh.white (upd sh.grey n false) w.register flight) = λ e. never_false e in
       assumption
 
 -- WHAT MANY FACTS READ

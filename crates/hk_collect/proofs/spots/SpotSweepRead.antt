@@ -27,7 +27,8 @@ use Rattle.hk_collect.proofs.spots.SpotSweepCounts.{count_listed, count_covers}
 use Rattle.hk_collect.proofs.spots.SpotSweepLines.{sweep_spot, quiet_line, none_reserves, none_counted}
 use Rattle.hk_collect.proofs.spots.Spots.{SpotFacts, on_spot}
 use Rattle.hk_core.proofs.kinds.WriteCell.{ShadesMean, shades_mean}
-use Rattle.hk_collect.proofs.Cases.{is_at, none, not_so}
+use Rattle.hk_core.proofs.Shared.{never_some, refuted}
+use Rattle.hk_collect.proofs.Small.{is_at}
 
 -- THE SWEEP FINDS ENOUGH
 
@@ -132,7 +133,7 @@ module _ (g : Geometry) (w : Words) (t : Spot) where
         cleared = refl;
         in_step = full;
         fits = omega arith;
-        swept = λ k j e. none k e;
+        swept = λ k j e. never_some e;
       }
 
 -- THE LOAD
@@ -160,9 +161,9 @@ module _ (g : Geometry) (w : Words) (z : Spaces) (sh : Shades) (flight : ℕ →
             (q.0, omega arith, q.2);
         moved_stands_in_range = λ e. h.moved_stands_in_range busy;
         unreserved_is_zero = λ e. h.unreserved_is_zero busy;
-        unused_is_zero = λ e. not_so _ o.is_busy e;
+        unused_is_zero = λ e. refuted _ o.is_busy e;
         cleared_is_zero = λ i below. absurd (omega arith);
-        nothing_reserved_at_rest = λ e. not_so _ o.is_busy e;
+        nothing_reserved_at_rest = λ e. refuted _ o.is_busy e;
         ranges_below_moved = h.ranges_below_moved;
         ranges_above_grey = h.ranges_above_grey;
         scan_bounded = λ e. h.scan_bounded busy;

@@ -25,7 +25,8 @@ use Rattle.hk_core.specs.Lawful.{Facts, FactsOf, hands_of}
 use Rattle.hk_core.proofs.kinds.NewRaise.{making_raised}
 use Rattle.hk_collect.proofs.spots.SpotSweepLines.{sweep_spot}
 use Rattle.hk_collect.proofs.spots.Spots.{SpotFacts, hands_kept, shades_kept}
-use Rattle.hk_collect.proofs.Cases.{is_at, untrue}
+use Rattle.hk_core.proofs.Shared.{never_false}
+use Rattle.hk_collect.proofs.Small.{is_at}
 
 -- a New that has loaded its entry makes an object
 numbered_at : (call : Call) (place : ℕ) → f.is_new_at 5 6 call place ≡ true → f.is_new_at 4 6 call place ≡ true
@@ -129,9 +130,9 @@ module _ (g : Geometry) (w : Words) (z : Spaces) (sh : Shades) (flight : ℕ →
             (o.0, omega arith, old_entry o.0 (omega arith) ∙ o.2);
         moved_stands_in_range = λ e. h.moved_stands_in_range busy;
         unreserved_is_zero = λ e. h.unreserved_is_zero busy;
-        unused_is_zero = λ e. untrue (sym e);
+        unused_is_zero = λ e. never_false (sym e);
         cleared_is_zero = λ i d. absurd (omega arith);
-        nothing_reserved_at_rest = λ e. untrue (sym e);
+        nothing_reserved_at_rest = λ e. never_false (sym e);
         ranges_below_moved = h.ranges_below_moved;
         ranges_above_grey = h.ranges_above_grey;
         scan_bounded = λ e. h.scan_bounded busy;

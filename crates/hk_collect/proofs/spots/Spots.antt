@@ -25,7 +25,7 @@ use Rattle.hk_core.specs.Facts as fact
 use Rattle.hk_core.specs.Facts.{FrameBehind, ObjectBehind, IsSettled}
 use Rattle.hk_core.specs.Lawful.{Facts, FactsOf, hands_of}
 use Rattle.hk_core.proofs.Update.{upd_cases}
-use Rattle.hk_collect.proofs.Cases.{never}
+use Rattle.hk_core.proofs.Shared.{never}
 
 -- THE FACTS THAT READ THE SPOT
 

@@ -17,6 +17,8 @@ const HEAP: HeapKeys = HeapKeys {
     rate: 11,
     refs: 2,
     nums: 3,
+    registers: 8,
+    fields: 62,
 };
 
 /// A name.
@@ -29,7 +31,7 @@ fn name(alloc: Global, text: &str) -> Result<Name, AllocError>
 
 /// A periodic high task.
 fn periodic(alloc: Global) -> Result<High, Fail>
-    ensures { IfOk result (λ task. IsHigh 40 task × (task.name ≡ codes "pump")) }
+    ensures { IfOk result (λ task. IsHigh 40 heap task × (task.name ≡ codes "pump")) }
 {
     Ok(High {
         name: name(alloc, "pump")?,
@@ -37,8 +39,10 @@ fn periodic(alloc: Global) -> Result<High, Fail>
             cost: 2,
             period: 10,
             deadline: 9,
+            jitter: 8,
         },
         words: 7,
+        lag: 5,
         arrivals: Arrivals::Every { first: 3, step: 12 },
         script: hk_script::parse(alloc, b"work 1\n  out   v0 # a comment\n")?,
     })
@@ -46,7 +50,7 @@ fn periodic(alloc: Global) -> Result<High, Fail>
 
 /// A low task with two arrivals.
 fn listed(alloc: Global) -> Result<Low, Fail>
-    ensures { IfOk result (λ task. IsLow 40 task × (task.name ≡ codes "log_2")) }
+    ensures { IfOk result (λ task. IsLow 40 heap task × (task.name ≡ codes "log_2")) }
 {
     Ok(Low {
         name: name(alloc, "log_2")?,

@@ -83,6 +83,7 @@ fn geometry_word(error: GeoError) -> &'static str {
         GeoError::Reserve => "reserve",
         GeoError::Tasks => "tasks",
         GeoError::Board => "board",
+        GeoError::Registers => "registers",
     }
 }
 
@@ -509,7 +510,7 @@ fn refuses_other_kinds_3(rt: HostRuntime) -> Result<(), Fail> {
 /// A number is at an end of its range, or past it.
 const RANGES_1: &[Case] = &[
     (&[("version = 1", "version = 0")], "range version"),
-    (&[("version = 1", "version = 2")], "range version"),
+    (&[("version = 1", "version = 3")], "range version"),
     (&[("ticks = 100", "ticks = 0")], "range ticks"),
     (&[("ticks = 100", "ticks = 16777217")], "range ticks"),
     (&[("live = 62", "live = -1")], "range heap.live"),

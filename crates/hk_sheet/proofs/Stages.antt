@@ -23,9 +23,9 @@ staged document second heap ticks keys highs lows second_is heap_is ticks_is key
     fault_of-in_order document ∙ sym (λ i. stages document (second_is i) (heap_is i) (ticks_is i) (keys_is i) (highs_is i) (lows_is i))
 
 -- the heap that was read of its table
-pub heap_is : (document : Members) (second : Bool) (heap : Members) (keys : HeapKeys) → second ≡ is_second document → heap ≡ table_at (codes "heap") document → keys ≡ heap_in second heap → keys ≡ heap_of document
+pub keys_by_table : (document : Members) (second : Bool) (heap : Members) (keys : HeapKeys) → second ≡ is_second document → heap ≡ table_at (codes "heap") document → keys ≡ heap_in second heap → keys ≡ heap_of document
 unfolding heap_of
-heap_is document second heap keys second_is heap_is keys_are = keys_are ∙ (λ i. heap_in (second_is i) (heap_is i))
+keys_by_table document second heap keys second_is heap_is keys_are = keys_are ∙ (λ i. heap_in (second_is i) (heap_is i))
 
 -- the sheet by what was read of these tables
 pub sheet_read : (document : Members) (ticks : ℕ) (highs lows : List Members) (keys : HeapKeys) (high : List High) (low : List Low)

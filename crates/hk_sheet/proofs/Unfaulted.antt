@@ -201,16 +201,16 @@ low_unfaulted : (path : List ℕ) (ticks : ℕ) (heap : HeapKeys) (task : Low) �
 low_unfaulted path ticks heap task is = low_fields path task.name task.arrivals task.script ticks is.arrivals
 
 -- the version is 1 or 2
-version_from : (second : Bool) → let version = if second then 2 else 1 in (1 ≤ version) × (version ≤ 2)
-version_from true = (omega arith, omega arith)
-version_from false = (omega arith, omega arith)
+version_from : (second : Bool) → IsFrom 1 2 (if second then 2 else 1)
+version_from true = record { at_least = omega arith; at_most = omega arith }
+version_from false = record { at_least = omega arith; at_most = omega arith }
 
 -- the document's own table
 top_unfaulted : (sheet : Sheet) → IsSheet sheet → fault_of_table [] top_rules (document_of sheet) ≡ None
 unfolding top_rules document_of
 top_unfaulted sheet is =
     table_unfaulted [] top_rules (document_of sheet) refl
-    (also (key_number [] (codes "version") (document_of sheet) 1 2 (version_of sheet.heap) refl (version_from (is_wide sheet.heap)).0 (version_from (is_wide sheet.heap)).1)
+    (also (key_number [] (codes "version") (document_of sheet) 1 2 (version_of sheet.heap) refl (version_from (is_wide sheet.heap)).at_least (version_from (is_wide sheet.heap)).at_most)
     (also (key_number [] (codes "ticks") (document_of sheet) 1 16777216 sheet.ticks refl is.ticks.at_least is.ticks.at_most)
     (also (key_fits [] (codes "heap") (document_of sheet) one_table (table (heap_entries sheet.heap)) refl refl)
     (also (key_may_fit [] (codes "high") (document_of sheet) tables (array (items_of (map high_data sheet.high))) refl (tables_fit high_entries sheet.high))
@@ -262,11 +262,11 @@ low_listed heap task is = ap (λ (t : Low). t.arrivals) (low_again heap task is)
 
 high_text_by : (name : List ℕ) (timing : Timing) (words lag : ℕ) (arrives : Arrivals) (script : List Statement)
     → text_at (codes "script") (high_entries (record { name = name; timing = timing; words = words; lag = lag; arrivals = arrives; script = script })) ≡ text_of script
-high_text_by name timing words (Every first step) script = refl
-high_text_by name timing words (arrivals.List ticks) script = refl
+high_text_by name timing words lag (Every first step) script = refl
+high_text_by name timing words lag (arrivals.List ticks) script = refl
 
 high_text : (task : High) → text_at (codes "script") (high_entries task) ≡ text_of task.script
-high_text task = high_text_by task.name task.timing task.words task.arrivals task.script
+high_text task = high_text_by task.name task.timing task.words task.lag task.arrivals task.script
 
 low_text_by : (name : List ℕ) (arrives : Arrivals) (script : List Statement) → text_at (codes "script") (low_entries (record { name = name; arrivals = arrives; script = script })) ≡ text_of script
 low_text_by name (Every first step) script = refl

@@ -5,7 +5,7 @@ use Rattle.hk_sheet.specs.Code.{seen}
 use Rattle.hk_sheet.specs.Reading.{heap_of}
 use Rattle.hk_sheet.specs.Faults.{fault_of_geometry}
 use Rattle.hk_sheet.proofs.FaultOrder.{skip, stop}
-use Rattle.hk_sheet.proofs.Stages.{staged, heap_is, sheet_read}
+use Rattle.hk_sheet.proofs.Stages.{staged, keys_by_table, sheet_read}
 use Rattle.hk_sheet.proofs.Validity.{heap_right}
 use Rattle.hk_sheet.proofs.reader.sheet_from.Goals as goal
 
@@ -54,28 +54,28 @@ returns-in_err-check_low_arrivals c =
 pub returns-in_err-high : goal.returns-in_err-high
 returns-in_err-high c =
     let p = err_from_is_err_and c.from_residual-in_err-high.result c.from_residual-in_err-high.ensures.1 in
-    let keys = heap_is (table_view c.args.document.now) c.is_second-second.result (table_view c.args.heap.now) c.heap_in-keys.result c.is_second-second.ensures c.requires.heap c.heap_in-keys.ensures in
+    let keys = keys_by_table (table_view c.args.document.now) c.is_second-second.result (table_view c.args.heap.now) c.heap_in-keys.result c.is_second-second.ensures c.requires.heap c.heap_in-keys.ensures in
     let whole = staged (table_view c.args.document.now) c.is_second-second.result (table_view c.args.heap.now) c.number_at-ticks.result c.heap_in-keys.result (seen c.args.highs.now) (seen c.args.lows.now) c.is_second-second.ensures c.requires.heap c.number_at-ticks.ensures.value keys c.requires.highs c.requires.lows in
     rw (p.1, p.2) (λ other. whole ∙ skip c.requires.top ∙ skip c.in_ok-check_heap.ensures ∙ skip c.in_ok-check_highs.ensures ∙ skip c.in_ok-check_lows.ensures ∙ skip c.in_ok-check_task_names.ensures ∙ skip c.in_ok-check_high_arrivals.ensures ∙ skip c.in_ok-check_low_arrivals.ensures ∙ stop _ (c.in_err-high.ensures other))
 
 pub returns-in_err-low : goal.returns-in_err-low
 returns-in_err-low c =
     let p = err_from_is_err_and c.from_residual-in_err-low.result c.from_residual-in_err-low.ensures.1 in
-    let keys = heap_is (table_view c.args.document.now) c.is_second-second.result (table_view c.args.heap.now) c.heap_in-keys.result c.is_second-second.ensures c.requires.heap c.heap_in-keys.ensures in
+    let keys = keys_by_table (table_view c.args.document.now) c.is_second-second.result (table_view c.args.heap.now) c.heap_in-keys.result c.is_second-second.ensures c.requires.heap c.heap_in-keys.ensures in
     let whole = staged (table_view c.args.document.now) c.is_second-second.result (table_view c.args.heap.now) c.number_at-ticks.result c.heap_in-keys.result (seen c.args.highs.now) (seen c.args.lows.now) c.is_second-second.ensures c.requires.heap c.number_at-ticks.ensures.value keys c.requires.highs c.requires.lows in
     rw (p.1, p.2) (λ other. whole ∙ skip c.requires.top ∙ skip c.in_ok-check_heap.ensures ∙ skip c.in_ok-check_highs.ensures ∙ skip c.in_ok-check_lows.ensures ∙ skip c.in_ok-check_task_names.ensures ∙ skip c.in_ok-check_high_arrivals.ensures ∙ skip c.in_ok-check_low_arrivals.ensures ∙ skip c.in_ok-high.ensures.0 ∙ stop _ (c.in_err-low.ensures other))
 
 pub returns-in_err-check_geometry : goal.returns-in_err-check_geometry
 returns-in_err-check_geometry c =
     let p = err_from_is_err_and c.from_residual-in_err-check_geometry.result c.from_residual-in_err-check_geometry.ensures.1 in
-    let keys = heap_is (table_view c.args.document.now) c.is_second-second.result (table_view c.args.heap.now) c.heap_in-keys.result c.is_second-second.ensures c.requires.heap c.heap_in-keys.ensures in
+    let keys = keys_by_table (table_view c.args.document.now) c.is_second-second.result (table_view c.args.heap.now) c.heap_in-keys.result c.is_second-second.ensures c.requires.heap c.heap_in-keys.ensures in
     let whole = staged (table_view c.args.document.now) c.is_second-second.result (table_view c.args.heap.now) c.number_at-ticks.result c.heap_in-keys.result (seen c.args.highs.now) (seen c.args.lows.now) c.is_second-second.ensures c.requires.heap c.number_at-ticks.ensures.value keys c.requires.highs c.requires.lows in
     let sheet = sheet_read (table_view c.args.document.now) c.number_at-ticks.result (seen c.args.highs.now) (seen c.args.lows.now) c.heap_in-keys.result c.in_ok-high.high c.in_ok-low.low c.number_at-ticks.ensures.value c.requires.highs c.requires.lows keys c.in_ok-high.ensures.1 c.in_ok-low.ensures.1 in
     rw (p.1, p.2) (λ other. whole ∙ skip c.requires.top ∙ skip c.in_ok-check_heap.ensures ∙ skip c.in_ok-check_highs.ensures ∙ skip c.in_ok-check_lows.ensures ∙ skip c.in_ok-check_task_names.ensures ∙ skip c.in_ok-check_high_arrivals.ensures ∙ skip c.in_ok-check_low_arrivals.ensures ∙ skip c.in_ok-high.ensures.0 ∙ skip c.in_ok-low.ensures.0 ∙ ap fault_of_geometry (sym sheet) ∙ c.in_err-check_geometry.ensures other)
 
 pub returns : goal.returns
 returns c =
-    let keys = heap_is (table_view c.args.document.now) c.is_second-second.result (table_view c.args.heap.now) c.heap_in-keys.result c.is_second-second.ensures c.requires.heap c.heap_in-keys.ensures in
+    let keys = keys_by_table (table_view c.args.document.now) c.is_second-second.result (table_view c.args.heap.now) c.heap_in-keys.result c.is_second-second.ensures c.requires.heap c.heap_in-keys.ensures in
     let whole = staged (table_view c.args.document.now) c.is_second-second.result (table_view c.args.heap.now) c.number_at-ticks.result c.heap_in-keys.result (seen c.args.highs.now) (seen c.args.lows.now) c.is_second-second.ensures c.requires.heap c.number_at-ticks.ensures.value keys c.requires.highs c.requires.lows in
     let sheet = sheet_read (table_view c.args.document.now) c.number_at-ticks.result (seen c.args.highs.now) (seen c.args.lows.now) c.heap_in-keys.result c.in_ok-high.high c.in_ok-low.low c.number_at-ticks.ensures.value c.requires.highs c.requires.lows keys c.in_ok-high.ensures.1 c.in_ok-low.ensures.1 in
     (whole ∙ skip c.requires.top ∙ skip c.in_ok-check_heap.ensures ∙ skip c.in_ok-check_highs.ensures ∙ skip c.in_ok-check_lows.ensures ∙ skip c.in_ok-check_task_names.ensures ∙ skip c.in_ok-check_high_arrivals.ensures ∙ skip c.in_ok-check_low_arrivals.ensures ∙ skip c.in_ok-high.ensures.0 ∙ skip c.in_ok-low.ensures.0 ∙ ap fault_of_geometry (sym sheet) ∙ c.in_ok-check_geometry.ensures, sheet)

@@ -25,6 +25,4 @@ pub use sheet::{
 };
 
 #[cfg(test)]
-mod printing_tests;
-#[cfg(test)]
 mod tests;

@@ -3,6 +3,7 @@ use Rattle.std.specs.Prelude.{ℕ, List, [], ◌∷◌}
 use Rattle.std.specs.Coded.{×_prop}
 use Rattle.std.proofs.Props.{props}
 use Rattle.hk_rta.specs.declared.Timing.{Timing}
+use Rattle.hk_script.specs.declared.limits.Limits.{Limits}
 use Rattle.hk_script.specs.declared.statement.Statement.{Statement}
 use Rattle.hk_script.specs.declared.statement.Statement.TheVariants as statement
 use Rattle.hk_script.specs.declared.statement.Test.{Test}
@@ -30,18 +31,18 @@ AreDistinct-prop : (names : List (List ℕ)) → IsProp (AreDistinct names)
 AreDistinct-prop [] = Prim.hlevel props
 AreDistinct-prop (name ∷ rest) = ×_prop (Prim.hlevel props) (AreDistinct-prop rest)
 
-IsTest-prop : (t : Test) → IsProp (IsTest t)
-IsTest-prop (test.Less left right) = Prim.hlevel props
-IsTest-prop (test.Equal left right) = Prim.hlevel props
-IsTest-prop (test.Null reg) = Prim.hlevel props
-IsTest-prop (test.Same left right) = Prim.hlevel props
+IsTest-prop : (limits : Limits) (t : Test) → IsProp (IsTest limits t)
+IsTest-prop limits (test.Less left right) = Prim.hlevel props
+IsTest-prop limits (test.Equal left right) = Prim.hlevel props
+IsTest-prop limits (test.Null reg) = Prim.hlevel props
+IsTest-prop limits (test.Same left right) = Prim.hlevel props
 
-IsStatement-prop : (s : Statement) → IsProp (IsStatement s)
-IsStatement-prop (statement.If t) = IsTest-prop t
-IsStatement-prop s = Prim.hlevel props
+IsStatement-prop : (limits : Limits) (s : Statement) → IsProp (IsStatement limits s)
+IsStatement-prop limits (statement.If t) = IsTest-prop limits t
+IsStatement-prop limits s = Prim.hlevel props
 
-IsScript-prop : (script : List Statement) → IsProp (IsScript script)
-IsScript-prop script = Prim.hlevel (props, IsStatement-prop)
+IsScript-prop : (limits : Limits) (script : List Statement) → IsProp (IsScript limits script)
+IsScript-prop limits script = Prim.hlevel (props, IsStatement-prop)
 
 IsSheet-prop : (sheet : Sheet) → IsProp (IsSheet sheet)
 IsSheet-prop sheet = Prim.hlevel (props, AreArrivals-prop, AreDistinct-prop, IsScript-prop)

@@ -3,11 +3,11 @@ use Rattle.std.specs.Prelude.{ℕ, List, [], ◌∷◌}
 use Rattle.std.specs.Coded.{×_prop}
 use Rattle.std.proofs.Props.{props}
 use Rattle.hk_rta.specs.declared.Timing.{Timing}
-use Rattle.hk_script.specs.declared.limits.Limits.{Limits}
 use Rattle.hk_script.specs.declared.statement.Statement.{Statement}
 use Rattle.hk_script.specs.declared.statement.Statement.TheVariants as statement
 use Rattle.hk_script.specs.declared.statement.Test.{Test}
 use Rattle.hk_script.specs.declared.statement.Test.TheVariants as test
+use Rattle.hk_script.specs.Limits.{limits_of}
 use Rattle.hk_script.specs.Blocks.{IsScript}
 use Rattle.hk_script.specs.Spelling.{IsTest, IsStatement}
 use Rattle.hk_sheet.specs.declared.arrivals.Arrivals.{Arrivals}
@@ -31,18 +31,18 @@ AreDistinct-prop : (names : List (List ℕ)) → IsProp (AreDistinct names)
 AreDistinct-prop [] = Prim.hlevel props
 AreDistinct-prop (name ∷ rest) = ×_prop (Prim.hlevel props) (AreDistinct-prop rest)
 
-IsTest-prop : (limits : Limits) (t : Test) → IsProp (IsTest limits t)
-IsTest-prop limits (test.Less left right) = Prim.hlevel props
-IsTest-prop limits (test.Equal left right) = Prim.hlevel props
-IsTest-prop limits (test.Null reg) = Prim.hlevel props
-IsTest-prop limits (test.Same left right) = Prim.hlevel props
+IsTest-prop : (fields registers : ℕ) (t : Test) → IsProp (IsTest (limits_of fields registers) t)
+IsTest-prop fields registers (test.Less left right) = Prim.hlevel props
+IsTest-prop fields registers (test.Equal left right) = Prim.hlevel props
+IsTest-prop fields registers (test.Null reg) = Prim.hlevel props
+IsTest-prop fields registers (test.Same left right) = Prim.hlevel props
 
-IsStatement-prop : (limits : Limits) (s : Statement) → IsProp (IsStatement limits s)
-IsStatement-prop limits (statement.If t) = IsTest-prop limits t
-IsStatement-prop limits s = Prim.hlevel props
+IsStatement-prop : (fields registers : ℕ) (s : Statement) → IsProp (IsStatement (limits_of fields registers) s)
+IsStatement-prop fields registers (statement.If t) = IsTest-prop fields registers t
+IsStatement-prop fields registers s = Prim.hlevel props
 
-IsScript-prop : (limits : Limits) (script : List Statement) → IsProp (IsScript limits script)
-IsScript-prop limits script = Prim.hlevel (props, IsStatement-prop)
+IsScript-prop : (fields registers : ℕ) (script : List Statement) → IsProp (IsScript (limits_of fields registers) script)
+IsScript-prop fields registers script = Prim.hlevel (props, IsStatement-prop)
 
 IsSheet-prop : (sheet : Sheet) → IsProp (IsSheet sheet)
 IsSheet-prop sheet = Prim.hlevel (props, AreArrivals-prop, AreDistinct-prop, IsScript-prop)

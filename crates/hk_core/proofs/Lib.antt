@@ -1,8 +1,9 @@
 mod OpeningTables
-mod OpeningHeap
-mod OpeningRow
+pub mod OpeningHeap
+pub mod OpeningRow
 mod OpeningFacts
 pub mod OpeningLawful
+pub mod Shared
 pub mod Update
 pub mod Waiting
 pub mod Counts

@@ -1,11 +1,11 @@
-//! Walks of the machine: rows worked out by hand, and a long random one beside the heap that never collects.
-ghost use Rattle.std.specs.Prelude.{◌≡◌, ℕ, ◌<◌, length, IfOk};
+//! Walks of the heap, beside the heap that never collects.
+ghost use Rattle.std.specs.Prelude.{◌≡◌, ℕ, ◌<◌, length};
 ghost use Rattle.hk_words.specs.Calls.{RegistersFit};
 ghost use Rattle.hk_words.specs.declared.geometry.TheConstants.{REGISTERS};
 ghost use Rattle.hk_model.specs.Heap.{register_count};
 
-use crate::Work;
-use crate::lawful::Machine;
+use super::aids::{DONE, Draws, begin, flight, is_null, make, same, step, whole};
+use crate::{OwnedHeap, Work};
 use hk_core::{Fault, Flight, Memory, Outcome, Step};
 use hk_model::Plain;
 use hk_words::{Call, Geometry, REGISTERS, Reply, Shape};
@@ -38,102 +38,25 @@ impl Mirror {
 #[test]
 fn full(rt: HostRuntime) -> Result<(), Fail> {
     let g = Geometry::new(8, 16, 8, 1, 1, 1, 0)?;
-    let mut machine = Machine::open(rt.alloc(), g)?;
-    let shape = Shape::new(1, 0).ok_or("a shape")?;
-    let make = Call::New { dest: 1, shape };
+    let mut heap = OwnedHeap::open(rt.alloc(), g)?;
+    let make = make(1)?;
     for (seat, words) in [(1, 8), (0, 16)] {
         for _ in 0..4 {
-            assert_eq!(rt;
-                machine.whole(&rt, seat, make),
-                Some((7, Outcome::Done(Reply::Unit)))
-            );
+            assert_eq!(rt; whole(&rt, &mut heap, seat, make), Some((7, DONE)));
         }
         assert_eq!(rt;
-            machine.whole(&rt, seat, make),
+            whole(&rt, &mut heap, seat, make),
             Some((7, Outcome::Full { words }))
         );
     }
     Ok(())
 }
 
-/// Numbers drawn one after another from a state.
-#[derive(Drop)]
-struct Draws {
-    state: u64,
-}
-
-impl Draws {
-    fn below(&mut self, bound: u64) -> u64
-        requires { 0 < bound }
-        ensures { result < bound }
-    {
-        self.state = self
-            .state
-            .wrapping_mul(6_364_136_223_846_793_005)
-            .wrapping_add(1_442_695_040_888_963_407);
-        (self.state >> 33) % bound
-    }
-
-    /// A register to write, and one to read.
-    fn dest(&mut self) -> u8 {
-        1 + self.below(3) as u8
-    }
-
-    fn reg(&mut self) -> u8 {
-        self.below(4) as u8
-    }
-
-    fn field(&mut self) -> u8 {
-        self.below(2) as u8
-    }
-
-    /// One of the first so many kinds of calls: the first four go through no reference cell and make nothing.
-    fn call(&mut self, kinds: u64) -> Call
-        requires { 0 < kinds }
-    {
-        match self.below(kinds) {
-            0 => Call::Get {
-                reg: self.reg(),
-                field: self.field(),
-            },
-            1 => Call::Put {
-                reg: self.reg(),
-                field: self.field(),
-                value: self.below(1000),
-            },
-            2 => Call::Move {
-                dest: self.dest(),
-                from: self.reg(),
-            },
-            3 => Call::Clear { dest: self.dest() },
-            4 => Call::Load {
-                dest: self.dest(),
-                reg: self.reg(),
-                field: self.field(),
-            },
-            5 => Call::Store {
-                reg: self.reg(),
-                field: self.field(),
-                from: self.reg(),
-            },
-            _ => self.make(),
-        }
-    }
-
-    fn make(&mut self) -> Call {
-        let dest = self.dest();
-        match Shape::new(self.below(3) as u8, 1 + self.below(2) as u8) {
-            Some(shape) => Call::New { dest, shape },
-            None => Call::Clear { dest },
-        }
-    }
-}
-
-/// A machine of three seats, the plain heap beside it, and what the plain heap answered to each call in flight at its
+/// A heap of three seats, the plain heap beside it, and what the plain heap answered to each call in flight at its
 /// effect; and how often the spaces were flipped, a copy was lost, a call was done and a New found no room.
 #[derive(Drop)]
 struct Walk {
-    machine: Machine,
+    heap: OwnedHeap,
     mirror: Mirror,
     answered: [Option<Reply>; 3],
     flips: u32,
@@ -175,7 +98,7 @@ fn begin_some(
     seat: u8,
     call: Call,
 ) -> Result<(), Memory> {
-    let Err(fault) = walk.machine.begin(rt, seat, call) else {
+    let Err(fault) = begin(rt, &mut walk.heap, seat, call) else {
         return Ok(());
     };
     let reply = mirrored(rt, alloc, walk, seat, call)?;
@@ -195,14 +118,15 @@ fn begin_some(
 fn compare(rt: &impl Abort, alloc: Global, walk: &mut Walk, seat: u8) -> Result<(), Memory> {
     for reg in 0..4 {
         let other = (reg + 1) % 4;
-        let null = mirrored(rt, alloc, walk, seat, Call::IsNull { reg })? == Reply::Yes;
-        let same = mirrored(rt, alloc, walk, seat, Call::Same { a: reg, b: other })? == Reply::Yes;
+        let plain_null = mirrored(rt, alloc, walk, seat, Call::IsNull { reg })? == Reply::Yes;
+        let plain_same = mirrored(rt, alloc, walk, seat, Call::Same { a: reg, b: other })?
+            == Reply::Yes;
         assert!(rt;
-            walk.machine.is_null(rt, seat, reg) == null,
+            is_null(rt, &walk.heap, seat, reg) == plain_null,
             "null otherwise than on the plain heap"
         );
         assert!(rt;
-            walk.machine.same(rt, seat, reg, other) == same,
+            same(rt, &walk.heap, seat, reg, other) == plain_same,
             "the same otherwise than on the plain heap"
         );
     }
@@ -223,7 +147,7 @@ fn step_some(
         walk.answered[seat as usize] = Some(mirrored(rt, alloc, walk, seat, flight.call)?);
     }
     let answered = walk.answered[seat as usize];
-    match walk.machine.step(rt, seat) {
+    match step(rt, &mut walk.heap, seat) {
         Step::Going => {}
         Step::Ended(outcome) => {
             walk.answered[seat as usize] = None;
@@ -257,7 +181,7 @@ fn ended(rt: &impl Abort, walk: &mut Walk, outcome: Outcome, answered: Option<Re
 /// The walk before its first action.
 fn walk_of(alloc: Global, g: Geometry) -> Result<Walk, Memory> {
     Ok(Walk {
-        machine: Machine::open(alloc, g)?,
+        heap: OwnedHeap::open(alloc, g)?,
         mirror: Mirror::open(alloc, g.board())?,
         answered: [None; 3],
         flips: 0,
@@ -278,7 +202,7 @@ fn act(
 ) -> Result<(), Memory>
     requires { 0 < kinds }
 {
-    let flight = walk.machine.flight(rt, seat);
+    let flight = flight(rt, &walk.heap, seat);
     if flight.place == 0 {
         let call = draws.call(kinds);
         begin_some(rt, alloc, walk, seat, call)
@@ -298,7 +222,7 @@ fn act_or_collect(
     if seat < 3 {
         return act(rt, alloc, walk, draws, seat, 7);
     }
-    match walk.machine.collect() {
+    match walk.heap.collect() {
         Work::Flipped => walk.flips = walk.flips.wrapping_add(1),
         Work::Lost(_) => walk.lost = walk.lost.wrapping_add(1),
         _ => {}
@@ -311,7 +235,7 @@ fn replies_of_the_plain_heap(rt: HostRuntime) -> Result<(), Fail> {
     for number in 1..4 {
         let g = Geometry::new(64, 64, 16, 2, 1, 2, 1)?;
         let mut walk = walk_of(rt.alloc(), g)?;
-        let mut draws = Draws { state: number };
+        let mut draws = Draws::new(number);
         for _ in 0..20_000 {
             act_or_collect(&rt, rt.alloc(), &mut walk, &mut draws)?;
         }
@@ -331,7 +255,7 @@ fn many_cycles(rt: HostRuntime) -> Result<(), Fail> {
     let mut whole: u32 = 0;
     for number in 1..101 {
         let mut walk = walk_of(rt.alloc(), g)?;
-        let mut draws = Draws { state: number };
+        let mut draws = Draws::new(number);
         for _ in 0..5_000 {
             act_or_collect(&rt, rt.alloc(), &mut walk, &mut draws)?;
         }
@@ -347,7 +271,7 @@ fn replies_without_a_collector(rt: HostRuntime) -> Result<(), Fail> {
     for (kinds, actions, fills) in [(4, 2_000, false), (7, 5_000, true)] {
         let g = Geometry::new(64, 64, 16, 2, 1, 2, 1)?;
         let mut walk = walk_of(rt.alloc(), g)?;
-        let mut draws = Draws { state: kinds };
+        let mut draws = Draws::new(kinds);
         for _ in 0..actions {
             let seat = draws.below(3) as u8;
             act(&rt, rt.alloc(), &mut walk, &mut draws, seat, kinds)?;
@@ -372,10 +296,10 @@ fn call_among_events(
     let call = draws.call(7);
     begin_some(rt, alloc, walk, seat, call)?;
     for turn in 0..events.max(10) {
-        if turn < events && walk.machine.collect() == Work::Flipped {
+        if turn < events && walk.heap.collect() == Work::Flipped {
             walk.flips = walk.flips.wrapping_add(1);
         }
-        let flight = walk.machine.flight(rt, seat);
+        let flight = flight(rt, &walk.heap, seat);
         if flight.place > 0 {
             step_some(rt, alloc, walk, &flight)?;
         }
@@ -389,7 +313,7 @@ fn call_among_events(
 fn calls_among_events(rt: HostRuntime) -> Result<(), Fail> {
     let g = Geometry::new(64, 64, 16, 2, 1, 2, 1)?;
     let mut walk = walk_of(rt.alloc(), g)?;
-    let mut draws = Draws { state: 11 };
+    let mut draws = Draws::new(11);
     for _ in 0..250 {
         for seat in 0..2 {
             call_among_events(&rt, rt.alloc(), &mut walk, &mut draws, seat, 4)?;

@@ -19,3 +19,4 @@ pub mod Runs
 pub mod Needs
 pub mod Left
 pub mod Trees
+pub mod Courses

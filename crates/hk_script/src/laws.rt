@@ -1,6 +1,6 @@
 //! What holds of all texts and scripts. These functions take no time; their clauses are the laws.
 
-ghost use Rattle.std.specs.Prelude.{◌≡◌, ◌↔◌, ℕ, ◌+◌, ◌<◌, ◌≤◌, List, length, Ok, Some, None, IfSome};
+ghost use Rattle.std.specs.Prelude.{◌≡◌, ◌↔◌, ℕ, ◌+◌, ◌<◌, ◌≤◌, List, length, replicate, Ok, Some, None, IfSome};
 ghost use Rattle.hk_words.specs.declared.call.Reply.{Reply};
 ghost use Rattle.hk_script.specs.declared.limits.Limits.{Limits};
 ghost use Rattle.hk_script.specs.declared.statement.Statement.{Statement};
@@ -15,6 +15,7 @@ ghost use Rattle.hk_script.specs.Runs.{AreReplies, taken, taken_by, need_ticks, 
 ghost use Rattle.hk_script.specs.Left.{ticks_left, words_left};
 ghost use Rattle.hk_script.specs.Needs.{NeedFits};
 ghost use Rattle.hk_script.specs.Trees.{Tree, IsTreeOf, tree_ticks, tree_words, IsGreatestMade};
+ghost use Rattle.hk_script.specs.Courses.{does, Follows};
 
 /// A text spells one script at most.
 pub fn one_script()
@@ -47,6 +48,14 @@ pub fn costs_of_blocks()
     ensures largest { (script : List Statement) → IsGreatestMade script (largest_of script) }
     ensures told { (cost amount : ℕ) → (told cost ≡ Some amount) ↔ ((cost ≡ amount) × (cost ≤ 16777216)) }
     ensures untold { (cost : ℕ) → (told cost ≡ None) ↔ (16777216 < cost) }
+{}
+
+/// A walk of a script does what its tree says, whatever the replies: it wants what each statement wants, in order, does
+/// the part of an `if` that the test picks, and the block of a `repeat` so many times, with a test before each turn and a
+/// last one; and then it is at its end.
+pub fn walks_of_blocks()
+    ensures { (limits : Limits) (script : List Statement) (tree : Tree) (job : ℕ) → IsScript limits script → IsTreeOf script tree
+        → Follows script (started job) (does job tree (replicate 8 0)) }
 {}
 
 /// What a walk wants keeps the limits of its script.

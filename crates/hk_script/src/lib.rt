@@ -22,7 +22,7 @@ pub use costs::{MAX_COST, cost, largest, words};
 pub use error::ScriptError;
 pub use laws::{
     costs_of_blocks, needs_fit, one_script, one_tree, printed_again, walks_fall, walks_fit,
-    walks_within_cost, wider_limits,
+    walks_of_blocks, walks_within_cost, wider_limits,
 };
 pub use parsing::{parse, parse_in};
 pub use printing::print;

@@ -8,6 +8,7 @@ use Rattle.hk_words.specs.Calls.{RegistersFit}
 use Rattle.hk_model.specs.Heap.{Heap, IsHeap, HoldsBoard, born, register, refs, nums, link, value, opening}
 use Rattle.hk_model.specs.Replies.{reply_of, heap_after}
 use Rattle.hk_model.specs.History.{Entry, History, after_entry, after, EntryLegal, Legal, is_birth, numbers, number_of, bearer}
+use Rattle.hk_model.specs.Reach.{Live}
 use Rattle.hk_model.specs.View.{upd, upd2, view_of}
 
 -- the heap after a history with one more entry is the heap after that entry
@@ -38,6 +39,13 @@ CallsKeepBoard = (tasks count : ℕ) (h : Heap) (seat : ℕ) (call : Call) → R
 -- no call finds the heap full
 abbrev pub NeverFull : Type 0
 NeverFull = (h : Heap) (seat : ℕ) (call : Call) → reply_of h seat call ≢ Full
+
+-- so many words of a heap are live, and no other number
+abbrev pub SomeLive : Type 0
+SomeLive = (tasks count : ℕ) (h : Heap) → IsHeap tasks count h → (words : ℕ) × Live tasks count h words
+
+abbrev pub OneLive : Type 0
+OneLive = (tasks count : ℕ) (h : Heap) (some other : ℕ) → Live tasks count h some → Live tasks count h other → some ≡ other
 
 -- after a legal history that began with the board alone there are as many numbers as objects
 abbrev pub AsManyNumbers : Type 0

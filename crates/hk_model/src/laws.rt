@@ -1,4 +1,4 @@
-ghost use Rattle.hk_model.specs.Laws.{AfterGrows, LegalGrows, OpeningIsHeap, CallsKeepHeap, HistoriesKeepHeap, OpeningHoldsBoard, CallsKeepBoard, NeverFull, AsManyNumbers, BearerIsLast, NoBearer, BirthGivesNumber, OthersGiveNone, PutEffect, StoreEffect, LoadEffect, MoveEffect, ClearEffect, NewEffect};
+ghost use Rattle.hk_model.specs.Laws.{AfterGrows, LegalGrows, OpeningIsHeap, CallsKeepHeap, HistoriesKeepHeap, OpeningHoldsBoard, CallsKeepBoard, NeverFull, SomeLive, OneLive, AsManyNumbers, BearerIsLast, NoBearer, BirthGivesNumber, OthersGiveNone, PutEffect, StoreEffect, LoadEffect, MoveEffect, ClearEffect, NewEffect};
 
 /// Laws of histories that grow at their end: the heap after them, and when they are legal.
 pub fn one_more_entry()
@@ -15,6 +15,12 @@ pub fn what_calls_keep()
     ensures opening_board { OpeningHoldsBoard }
     ensures board { CallsKeepBoard }
     ensures never_full { NeverFull }
+{}
+
+/// Laws of what can be reached: in each heap so many words are live, and no other number.
+pub fn live_words()
+    ensures some { SomeLive }
+    ensures one { OneLive }
 {}
 
 /// Laws of the numbers that objects are given: a number may be given again, and its bearer is the last object that

@@ -4,7 +4,7 @@ use Rattle.hk_words.specs.declared.geometry.Geometry.{Geometry}
 use Rattle.hk_words.specs.Geometry.{tasks}
 use Rattle.hk_model.specs.Heap.{Heap}
 use Rattle.hk_model.specs.Reach as plain
-pub use Rattle.hk_model.specs.Reach.{in_register, in_cell}
+pub use Rattle.hk_model.specs.Reach.{in_register, in_cell, words_of_birth}
 
 -- a birth can be reached, where registers and reference cells hold so much
 abbrev pub Reach : Geometry → (refs : ℕ → ℕ) → (register link : ℕ → ℕ → Option ℕ) → ℕ → Type 0

@@ -3,7 +3,7 @@ use Rattle.std.proofs.Common.{◌≡◌, ◌≢◌, ◌⊎◌, inl, inr, ℕ, ze
 use Rattle.std.proofs.lemmas.Bool.{cases_Bool, cases_eq}
 use Rattle.std.proofs.lemmas.Bool.Decides.{eqb_tells}
 use Rattle.std.proofs.lemmas.List.Sums.{sum_by-cons}
-use Rattle.std.specs.Prelude.{Contains, sum_by}
+use Rattle.std.specs.Prelude.{All, Contains, sum_by}
 use Rattle.hk_model.specs.Heap.{Heap, IsHeap, born, register, refs, link}
 use Rattle.hk_model.specs.Reach.{Reached, in_register, in_cell, words_of_birth, Live}
 use Rattle.hk_model.specs.View.{upd}
@@ -106,6 +106,15 @@ one_live tasks count h some other a b =
   where
     in_other : {v w : ℕ} (c : Live tasks count h v) (d : Live tasks count h w) (x : ℕ) → In x c.births → In x d.births
     in_other c d x there = in_contained d.births x ((d.lists.each x).0 ((c.lists.each x).1 (contained_in c.births x there)))
+
+-- births that can be reached, each once, have no more words
+pub within_live : (tasks count : ℕ) (h : Heap) (words : ℕ) (births : List ℕ) → Live tasks count h words → Distinct births → All (Reached tasks count h) births
+    → sum_by (words_of_birth h) births ≤ words
+within_live tasks count h words births live distinct reached =
+    let fewer : sum_by (words_of_birth h) births ≤ sum_by (words_of_birth h) live.births = sum_less (words_of_birth h) births live.births distinct
+    (λ x there. let at = index_in births x there in in_contained live.births x ((live.lists.each x).0 (subst (Reached tasks count h) at.2 (reached at.0 0 at.1)))) in
+    let all : words ≡ sum_by (words_of_birth h) live.births = live.counts in
+    omega arith
 
 -- SETS OF NUMBERS BELOW A BOUND
 

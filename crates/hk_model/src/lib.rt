@@ -11,6 +11,6 @@ mod tests;
 
 pub use hk_words::Memory;
 pub use laws::{
-    live_words, numbers_and_bearers, one_change_a_call, one_more_entry, what_calls_keep,
+    live_words, numbers_and_bearers, one_change_a_call, one_more_entry, what_calls_keep, what_lasts,
 };
 pub use plain::Plain;

@@ -1,13 +1,15 @@
 //! Laws of the machine, over its definitions alone.
-ghost use Rattle.hk_core.specs.Laws.{BeginKeepsLawful, StepKeepsLawful, LawfulCanStep, LawfulIsLegal, NewTellsRoom, AnswersFull, ReachedIsKept, NumbersAreFresh, RowsAreSoLong, TakesItsSteps, EndsAtItsLastStep, AnswersItsEntry, RefusedChangesNothing, BeginsAtFirst, BeginsAlone, StaysInRow, StepGoesOn, StepEnds, StepsAlone, RegistersTested, StepsLeaveAlone, InsideStandsApart, InsideKnowsPlace, WritesOwn};
+ghost use Rattle.hk_core.specs.Laws.{BeginKeepsLawful, StepKeepsLawful, LawfulCanStep, LawfulIsLegal, BeginTellsPlain, NewTellsRoom, AnswersFull, ReachedIsKept, NumbersAreFresh, RowsAreSoLong, TakesItsSteps, EndsAtItsLastStep, AnswersItsEntry, RefusedChangesNothing, BeginsAtFirst, BeginsAlone, StaysInRow, StepGoesOn, StepEnds, StepsAlone, RegistersTested, StepsLeaveAlone, InsideStandsApart, InsideKnowsPlace, WritesOwn};
 
 /// Begins and steps keep a lawful state lawful, for the history that they lead to, whatever the call; each reply in that
-/// history is the one of the plain heap; and no seat in flight is ever stuck.
+/// history is the one of the plain heap; a begin is refused for what the plain heap answers; and no seat in flight is ever
+/// stuck.
 pub fn lawful_states()
     ensures begin { BeginKeepsLawful }
     ensures step { StepKeepsLawful }
     ensures legal { LawfulIsLegal }
     ensures can_step { LawfulCanStep }
+    ensures plain { BeginTellsPlain }
 {}
 
 /// A call goes through the places of its row one by one: it begins at the first, each step leads to the next, and the

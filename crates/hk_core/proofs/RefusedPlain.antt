@@ -1,5 +1,5 @@
 -- A begin of an idle seat of a lawful machine is refused exactly as the plain heap answers: Nil for Nil, Field for Field.
-use Rattle.std.proofs.Common.{◌≡◌, ◌≢◌, ℕ, ◌<◌, Bool, true, false, inl, inr, refl, sym, ◌∙◌, ap, arith, subst, Option, Some, None, Result, Ok, Err}
+use Rattle.std.proofs.Common.{◌≡◌, ◌≢◌, ℕ, ◌<◌, Bool, true, false, inl, inr, refl, ◌∙◌, ap, arith, subst, Option, Some, None, Result, Ok, Err}
 use Rattle.std.proofs.lemmas.Bool.{cases_Bool, eq-eqb, ne_eqb}
 use Rattle.std.specs.Prelude.{nat_lt, nat_le, ◌==◌, ◌&&◌, not, is_some, slice_index, MatchResult, if◌then◌else◌}
 use Rattle.hk_words.specs.declared.call.Call.{Call}
@@ -14,35 +14,19 @@ use Rattle.hk_model.specs.Heap as heap
 use Rattle.hk_model.specs.Heap.{opening_of}
 use Rattle.hk_model.specs.History.{History, after, is_question}
 use Rattle.hk_model.specs.Replies.{reply_of, entering, has_number, has_reference}
-use Rattle.hk_core.specs.declared.flight.Flight.{Flight}
 use Rattle.hk_core.specs.declared.outcome.Fault.{Fault}
 use Rattle.hk_core.specs.declared.outcome.Fault.TheVariants as fault
 use Rattle.hk_core.specs.Begin.{most_calls, register_word, entered_word, has_field, refusal}
 use Rattle.hk_core.specs.Faults.{FindsField, IsPlainFault, TellsPlain}
 use Rattle.hk_core.specs.State.{State}
-use Rattle.hk_core.specs.View.{decoded, words_of, names_of, contents_of, shown, flight_at}
-use Rattle.hk_core.specs.Flights as f
-use Rattle.hk_core.specs.Colours.{shades_of, IsNullOrKept, IsKeptBirth}
+use Rattle.hk_core.specs.View.{words_of, names_of, contents_of, shown, flight_at}
+use Rattle.hk_core.specs.Colours.{IsKeptBirth}
+use Rattle.hk_core.specs.Inside.{kept_in}
 use Rattle.hk_core.specs.Lawful.{Lawful}
-use Rattle.hk_core.proofs.Columns.{raw_register}
 use Rattle.hk_core.proofs.Inside.{shapes_fit}
+use Rattle.hk_core.proofs.Shared.{some_kept}
+use Rattle.hk_core.proofs.Shown.{word_shows}
 use Rattle.hk_core.proofs.kinds.Seats.{kept_means}
-
--- an idle seat holds no register back
-idle_free : (x : Flight) (r : ℕ) → x.place ≡ 0 → f.holds_back x r ≡ false
-unfolding f.holds_back f.holds_back_at
-idle_free x r idle = each x.call x.place idle
-  where
-    each : (call' : Call) (p : ℕ) → p ≡ 0 → f.holds_back_at call' p r ≡ false
-    each (call.Get reg field) p e = refl
-    each (call.Put reg field value) p e = refl
-    each (call.Load dest reg field) p e = rw e refl
-    each (call.Store reg field from) p e = refl
-    each (call.Move dest from) p e = refl
-    each (call.Clear dest) p e = refl
-    each (call.New dest shape) p e = refl
-    each (call.Same a b) p e = refl
-    each (call.IsNull reg) p e = refl
 
 -- what is entered, by the plain register, and the test on its word
 enters : (plain : Option ℕ) (has : ℕ → Bool) (word : ℕ) (test : Bool) (done : ℕ → Reply)
@@ -56,19 +40,12 @@ enters (Some b) has word test done null some fine = by_test (has b) refl
     by_test false e = let s = some b refl in let t : test ≡ false = s.1 ∙ e in rw (ne_eqb word 0 s.0, t, e) refl
 
 module _ (c : State) (history : History) (s : ℕ) (below : s < tasks c.geometry) (h : Lawful c history) (idle : (flight_at c s).place ≡ 0) where
-  -- a register word shows the register of the plain heap
-  word_shows : (r : ℕ) → r < c.geometry.registers → register_word c s r ≡ shown (names_of c.geometry history) ((contents_of c.geometry history).register s r)
-  unfolding words_of decoded register_word
-  word_shows r fits =
-      let g = c.geometry in
-      let word : (words_of g c.row).register s r ≡ register_word c s r = raw_register g c.row s r below fits in
-      let shows : (words_of g c.row).register s r ≡ shown (names_of g history) ((contents_of g history).register s r) =
-      rw (idle_free (flight_at c s) r idle) at (h.facts.registers_shown s r below fits) in
-      sym word ∙ shows
+  shows : (r : ℕ) → r < c.geometry.registers → register_word c s r ≡ shown (names_of c.geometry history) ((contents_of c.geometry history).register s r)
+  shows r fits = word_shows c history s below h idle r fits
 
   null_word : (r : ℕ) → r < c.geometry.registers → heap.register (after (opening_of c.geometry) history) s r ≡ None → register_word c s r ≡ 0
   unfolding contents_of shown
-  null_word r fits none = word_shows r fits ∙ ap (shown (names_of c.geometry history)) none
+  null_word r fits none = shows r fits ∙ ap (shown (names_of c.geometry history)) none
 
   -- the reference of a birth in a register tells its shape
   record TellsShape (word b : ℕ) : Type 0 where
@@ -81,8 +58,8 @@ module _ (c : State) (history : History) (s : ℕ) (below : s < tasks c.geometry
   tells r b fits here =
       let g = c.geometry in
       let names = names_of g history in
-      let word : register_word c s r ≡ layout.pack_reference (names.number b) (names.refs b) (names.nums b) = word_shows r fits ∙ ap (shown names) here in
-      let kept = birth_kept (h.facts.registers_kept s r below fits) in
+      let word : register_word c s r ≡ layout.pack_reference (names.number b) (names.refs b) (names.nums b) = shows r fits ∙ ap (shown names) here in
+      let kept = some_kept (IsKeptBirth (kept_in c history) names) _ b (h.facts.registers_kept s r below fits) here in
       let within : names.number b < numbers g = (kept_means g (words_of g c.row) (flight_at c) c.spot.line names (names.number b) kept.is_kept).within in
       let shape = shapes_fit g history b in
       let parts = reference_unpacks (names.number b) (names.refs b) (names.nums b) (omega arith) (omega (arith, shape.0)) (omega (arith, shape.1)) in
@@ -91,11 +68,6 @@ module _ (c : State) (history : History) (s : ℕ) (below : s < tasks c.geometry
         refs = ap layout.reference_refs word ∙ parts.refs;
         nums = ap layout.reference_nums word ∙ parts.nums;
       }
-    where
-      birth_kept : IsNullOrKept (shades_of c.geometry (words_of c.geometry c.row) (flight_at c) c.spot.line (names_of c.geometry history)).kept (names_of c.geometry history) ((contents_of c.geometry history).register s r)
-          → IsKeptBirth (shades_of c.geometry (words_of c.geometry c.row) (flight_at c) c.spot.line (names_of c.geometry history)).kept (names_of c.geometry history) b
-      birth_kept (inl none) = absurd (let e : None ≡ Some b = sym none ∙ here in cc)
-      birth_kept (inr found) = let e : Some b ≡ Some found.0 = sym here ∙ found.1 in let same : found.0 ≡ b = cc in rw (← same) found.2
 
   pub refused_plain : (call' : Call) → is_question call' ≡ false → RegistersFit c.geometry.registers call'
       → TellsPlain (refusal c s call') (reply_of (after (opening_of c.geometry) history) s call')

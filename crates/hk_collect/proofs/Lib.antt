@@ -1,3 +1,4 @@
+mod Small
 pub mod spots
 pub mod Fitting
 pub mod Collected

@@ -1,6 +1,6 @@
 -- The tables of seats and collector, as far as what is in use needs them: which entries make no birth, which lines keep the
 -- cycle, and which event is the flip.
-use Rattle.std.proofs.Common.{◌≡◌, ◌≢◌, ◌⊎◌, ℕ, ◌+◌, ◌≤◌, Bool, true, false, inl, inr, refl, sym, ◌∙◌, ap, arith, List, [], ◌∷◌, ◌++◌, Option, None}
+use Rattle.std.proofs.Common.{◌≡◌, ◌≢◌, ◌⊎◌, ℕ, ◌+◌, ◌≤◌, Bool, true, false, inl, inr, refl, sym, ◌∙◌, ap, arith, ◌++◌, Option, None}
 use Rattle.std.proofs.lemmas.Bool.{and_left, and_right, eqb-true}
 use Rattle.std.specs.Prelude.{nat_eq, nat_lt, not, ◌&&◌, option_to_list, if◌then◌else◌}
 use Rattle.hk_words.specs.declared.geometry.Geometry.{Geometry}
@@ -27,22 +27,17 @@ use Rattle.hk_core.specs.Collect.{last_cycle}
 use Rattle.hk_core.specs.Step as seat
 use Rattle.hk_core.specs.Flights as f
 use Rattle.hk_collect.specs.Used.{is_flip}
-
-never : {A : Type 0} → false ≡ true → A
-never e = absurd (cc)
+use Rattle.hk_core.proofs.Shared.{never}
+use Rattle.std.proofs.lemmas.List.{append-nil}
 
 -- BIRTHS
-
-append_nil : {A : Type 0} (xs : List A) → xs ++ [] ≡ xs
-append_nil [] = refl
-append_nil (x ∷ xs) = ap (λ ys. x ∷ ys) (append_nil xs)
 
 -- an entry that makes no birth leaves who bears what
 abbrev Bears : History → Option Entry → Type 0
 Bears history o = bearer (history ++ option_to_list o) ≡ bearer history
 
 bears_none : (history : History) → Bears history None
-bears_none history = ap bearer (append_nil history)
+bears_none history = ap bearer (append-nil history)
 
 bears_entry : (history : History) (x : Flight) (r : Reply) (n : ℕ) → (is_new x.call && is_done r) ≡ false → Bears history (seat.entry x r n)
 bears_entry history x r n other = bearer-push_other history (record { seat = x.seat; call = x.call; reply = r; number = n }) other

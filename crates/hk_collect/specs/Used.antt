@@ -1,7 +1,7 @@
 -- Which objects the collector and the calls reserve places for: only those that were in use when the cycle began, or that
 -- were made since by a New which had raised W0 before. A run is traced for that: beside the state and its history goes the
 -- history at the last flip, and the births since then whose New raised W0 after it.
-use Rattle.std.specs.Prelude.{◌≡◌, ◌⊎◌, ℕ, ◌+◌, ◌<◌, ◌≤◌, nat_eq, Bool, true, false, ◌&&◌, List, [], ◌∷◌, ◌++◌, fold, Contains, Option, Some, if◌then◌else◌}
+use Rattle.std.specs.Prelude.{◌≡◌, ◌⊎◌, ℕ, ◌+◌, ◌<◌, ◌≤◌, nat_eq, nat_le, nat_lt, Bool, true, false, ◌&&◌, ◌||◌, List, [], ◌∷◌, ◌++◌, fold, Contains, Option, Some, if◌then◌else◌}
 use Rattle.hk_words.specs.declared.geometry.Geometry.{Geometry}
 use Rattle.hk_words.specs.Geometry.{tasks, numbers}
 use Rattle.hk_words.specs.Layout.{reference_number}
@@ -13,15 +13,16 @@ use Rattle.hk_core.specs.declared.spot.Work.TheVariants.{Useful, Flipped, Lost, 
 use Rattle.hk_core.specs.declared.event.Event.TheVariants.{Add}
 use Rattle.hk_core.specs.declared.spot.Line.{Line}
 use Rattle.hk_core.specs.State.{State, opening, flight_of}
-use Rattle.hk_core.specs.Collect.{event_by_collector, next_collected, work_by_collector}
+use Rattle.hk_core.specs.Collect.{event_by_collector, work_by_collector}
 use Rattle.hk_core.specs.Step.{reference_size, event_by}
 use Rattle.hk_core.specs.Run.{Action, Running, begin, step, collect, act, is_busy, run_from_opening}
 use Rattle.hk_core.specs.View.{words_of, flight_at}
 use Rattle.hk_core.specs.Flights.{to_reserve, has_header, cycle_of}
 use Rattle.hk_core.specs.Lines as l
-use Rattle.hk_core.specs.Colours.{spaces_of, grey_by}
-use Rattle.hk_core.specs.Lawful.{Lawful, hands_of}
+use Rattle.hk_core.specs.Colours.{Spaces, spaces_of, is_within}
+use Rattle.hk_core.specs.Lawful.{hands_of}
 use Rattle.hk_core.specs.Reach.{Reached}
+use Rattle.hk_collect.specs.Runs.{is_grey}
 
 -- TRACED RUNS
 
@@ -87,10 +88,6 @@ pub record WasUsed (r : Trace) (birth : ℕ) : Type 0 where
 abbrev pub BearsUsed : Trace → ℕ → Type 0
 BearsUsed r n = (birth : ℕ) × (bearer r.running.history n ≡ Some birth) × WasUsed r birth
 
--- a number was claimed in this cycle and isn't moved yet
-unfoldable pub is_grey : State → ℕ → Bool
-is_grey c n = let w = words_of c.geometry c.row in grey_by (spaces_of c.geometry w.cycle) w.cycle w.place w.mark n
-
 -- THE FACTS OF A TRACED RUN, beside those of a lawful state. Each takes the columns that it reads; `used` says which births
 -- are in use.
 
@@ -115,7 +112,15 @@ AttemptUsed g bearer used register line = (s passed r : ℕ) → l.frame_attempt
 abbrev pub CellUsed : (bearer : ℕ → Option ℕ) (used : ℕ → Type 0) → Line → (cell : ℕ) → Type 0
 CellUsed bearer used line cell = l.has_reference line ≡ true → IsUsedWord bearer used cell
 
--- A grey number is borne by a birth in use that isn't young. Without it the collector could come from it to others.
+-- A number that was claimed in this cycle: it stands in the old space still, or was moved, and stands among the words for
+-- evacuation of the current one. A new object stands behind these
+abbrev pub stands_claimed : Spaces → ℕ → Bool
+stands_claimed z p = is_within z z.old p || (nat_le z.current p && nat_lt p (z.current + z.live))
+
+abbrev pub claimed_by : Spaces → (cycle : ℕ) → (place mark : ℕ → ℕ) → ℕ → Bool
+claimed_by z cycle place mark n = nat_eq (mark n) cycle && stands_claimed z (place n)
+
+-- Such a number is borne by a birth in use that isn't young. Without it the collector could come from it to others.
 abbrev pub GreyUsed : Geometry → (bearer : ℕ → Option ℕ) (used : ℕ → Type 0) (young : List ℕ) (grey : ℕ → Bool) → Type 0
 GreyUsed g bearer used young grey = (n : ℕ) → n < numbers g → grey n ≡ true → (birth : ℕ) × (bearer n ≡ Some birth) × used birth × ¬ Contains young birth
 
@@ -127,11 +132,7 @@ YoungMarked bearer young cycle mark = (n birth : ℕ) → bearer n ≡ Some birt
 abbrev pub YoungBorn : (young : List ℕ) (next : ℕ) → Type 0
 YoungBorn young next = (birth : ℕ) → Contains young birth → birth < next
 
--- THE LAW
-
--- each event of the collector keeps a lawful state lawful, for the same history
-abbrev pub CollectKeepsLawful : Type 0
-CollectKeepsLawful = (c : State) (history : History) → Lawful c history → Lawful (next_collected c) history
+-- THE LAWS
 
 -- a traced run is the run, and its geometry is the one it began with
 abbrev pub TracedIsRun : Type 0
@@ -153,6 +154,14 @@ OthersAreLate = (g : Geometry) (actions : List Action) (seat : ℕ) → let r = 
 abbrev pub ReservedWasUsed : Type 0
 ReservedWasUsed = (g : Geometry) (actions : List Action) → let c = (traced g actions).running.core in
     (n : ℕ) → n < numbers c.geometry → is_grey c n ≡ true → BearsUsed (traced g actions) n
+
+-- So is each that was claimed in this cycle and was moved, or isn't yet.
+unfoldable pub is_claimed : State → ℕ → Bool
+is_claimed c n = let w = words_of c.geometry c.row in claimed_by (spaces_of c.geometry w.cycle) w.cycle w.place w.mark n
+
+abbrev pub ClaimedWasUsed : Type 0
+ClaimedWasUsed = (g : Geometry) (actions : List Action) → let c = (traced g actions).running.core in
+    (n : ℕ) → n < numbers c.geometry → is_claimed c n ≡ true → BearsUsed (traced g actions) n
 
 -- so is each that a claim in hand is for, of a seat or of the collector, which stands behind the seats
 abbrev pub HeldWasUsed : Type 0

@@ -2,19 +2,14 @@
 #![tactic(auto)]
 
 mod collector;
-#[cfg(test)]
-mod cycles;
 mod decide;
 mod follow;
-#[cfg(test)]
-mod lawful;
 mod laws;
 mod measure;
+mod owned;
 #[cfg(test)]
-mod measured;
+mod tests;
 mod used;
-#[cfg(test)]
-mod walk;
 
 pub use collector::{advance, step};
 pub use decide::event;
@@ -25,4 +20,5 @@ pub use laws::{
     runs_are_lawful, runs_give_fresh_numbers,
 };
 pub use measure::{measured_cycle, untouched_attempts};
+pub use owned::OwnedHeap;
 pub use used::reserved_was_used;

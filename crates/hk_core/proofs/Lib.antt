@@ -1,6 +1,6 @@
 mod OpeningTables
-mod OpeningHeap
-mod OpeningRow
+pub mod OpeningHeap
+pub mod OpeningRow
 mod OpeningFacts
 pub mod OpeningLawful
 pub mod Shared

@@ -1,0 +1,20 @@
+-- Small facts that several files cite.
+use Rattle.std.proofs.Common.{◌≡◌, ℕ, ◌≤◌, true, false, refl, arith, Option, Some, None}
+use Rattle.std.proofs.lemmas.Bool.Decides.{nat_tests}
+use Rattle.std.specs.Prelude.{nat_eq, is_some}
+use Rattle.hk_core.specs.View.{Names, refs_at}
+
+pub is_at : (x y : ℕ) → Some x ≡ Some y → x ≡ y
+is_at x y e = cc
+
+pub a_birth : (o : Option ℕ) → is_some o ≡ true → (b : ℕ) × (o ≡ Some b)
+a_birth None some = absurd (cc)
+a_birth (Some b) some = (b, refl)
+
+pub refs_borne : (names : Names) (n b : ℕ) → names.bearer n ≡ Some b → refs_at names n ≡ names.refs b
+unfolding refs_at
+refs_borne names n b e = rw e refl
+
+-- a call that is not idle is at a place
+pub in_flight : (place : ℕ) → nat_eq place 0 ≡ false → 1 ≤ place
+in_flight place e = grind (arith, nat_tests)

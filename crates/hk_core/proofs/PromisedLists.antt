@@ -118,7 +118,7 @@ all_but_last g t (line.Clear i) = (omega arith, omega arith)
 all_but_last g t line.Reset = (omega arith, omega arith)
 
 -- a New without a number has written no header
-numbered : (x : Flight) → f.has_header x ≡ true → f.has_number x ≡ true
+pub numbered : (x : Flight) → f.has_header x ≡ true → f.has_number x ≡ true
 unfolding f.has_header f.has_number f.is_new_at
 numbered x headed = let p = and_parts _ _ headed in and_from _ _ (each x.call x.place p.0) p.1
   where

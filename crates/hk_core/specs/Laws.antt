@@ -157,7 +157,8 @@ StepsLeaveAlone = (c : State) (history : History) (seat inside : ℕ) → seat <
     → let n = reference_number (flight_of c.flights inside).entered in
     IsLeftAlone (words_of c.geometry c.row) (words_of c.geometry (next c seat).row) (size_in c history n) (cell_written (flight_of c.flights seat)) n
 
--- such an object stands apart from those of all other kept numbers, so none of these has its place
+-- such an object stands apart from those of all other kept numbers, and from what News in flight were given, so none of
+-- these has its place
 abbrev pub InsideStandsApart : Type 0
 InsideStandsApart = (c : State) (history : History) (inside : ℕ) → inside < tasks c.geometry → in_object (flight_of c.flights inside) ≡ true → Lawful c history
     → StandsApart c history (reference_number (flight_of c.flights inside).entered)

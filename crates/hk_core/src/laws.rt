@@ -28,7 +28,7 @@ pub fn places_in_order()
 {}
 
 /// While a call is inside an object, no step changes the place in its header, nor a word of it but for the cell that a
-/// call inside it writes, and no other kept number has one of its words.
+/// call inside it writes, and no other kept number, nor a New in flight, has one of its words.
 pub fn inside_an_object()
     ensures alone { StepsLeaveAlone }
     ensures apart { InsideStandsApart }

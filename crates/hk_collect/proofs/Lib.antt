@@ -24,3 +24,5 @@ pub mod UsedTrace
 pub mod UsedReserves
 pub mod UsedLaws
 pub mod Worn
+pub mod Taken
+pub mod Cycles

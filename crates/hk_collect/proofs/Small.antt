@@ -1,7 +1,7 @@
 -- Small facts that several files cite.
-use Rattle.std.proofs.Common.{◌≡◌, ℕ, ◌≤◌, true, false, refl, arith, Option, Some, None}
+use Rattle.std.proofs.Common.{◌≡◌, ℕ, ◌≤◌, Bool, true, false, refl, arith, Option, Some, None}
 use Rattle.std.proofs.lemmas.Bool.Decides.{nat_tests}
-use Rattle.std.specs.Prelude.{nat_eq, is_some}
+use Rattle.std.specs.Prelude.{nat_eq, is_some, if◌then◌else◌}
 use Rattle.hk_core.specs.View.{Names, refs_at}
 
 pub is_at : (x y : ℕ) → Some x ≡ Some y → x ≡ y
@@ -18,3 +18,8 @@ refs_borne names n b e = rw e refl
 -- a call that is not idle is at a place
 pub in_flight : (place : ℕ) → nat_eq place 0 ≡ false → 1 ≤ place
 in_flight place e = grind (arith, nat_tests)
+
+-- what holds of both parts of an `if` holds of it
+pub by_test : {A : Type 0} (P : A → Type 0) (test : Bool) (a b : A) → (test ≡ true → P a) → (test ≡ false → P b) → P (if test then a else b)
+by_test P true a b yes' no' = yes' refl
+by_test P false a b yes' no' = no' refl

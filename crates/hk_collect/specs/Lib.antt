@@ -4,3 +4,5 @@ pub mod Runs
 pub mod Laws
 pub mod Measure
 pub mod Used
+pub mod Taken
+pub mod Cycles

@@ -26,3 +26,5 @@ pub mod UsedLaws
 pub mod Worn
 pub mod Taken
 pub mod Cycles
+pub mod Reserved
+pub mod Pays

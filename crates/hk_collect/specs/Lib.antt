@@ -6,3 +6,5 @@ pub mod Measure
 pub mod Used
 pub mod Taken
 pub mod Cycles
+pub mod Reserved
+pub mod Pays

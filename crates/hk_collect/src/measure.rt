@@ -1,5 +1,6 @@
 //! Laws of the measure of a cycle and of attempts, over definitions alone.
 ghost use Rattle.hk_collect.specs.Cycles.{OpeningIsWorked, EventWorks, WornIsLate, FewEventsNeverWear};
+ghost use Rattle.hk_collect.specs.Pays.{OpeningKeepsHeap, BeginsKeepHeap, StepsKeepHeap, MetKeepsHeap, CollectorPays, LostIsFew};
 ghost use Rattle.hk_collect.specs.Measure.{CollectorIsMeasured, SeatsKeepCalm, OpeningIsCalm, BoundIsCycle, UntouchedOutside, EventKeepsUntouched, AttemptSucceeds, LostClosesAttempt, AttemptsAreCounted, LostIsBounded, ObjectsAreBirths};
 
 /// Where no call is in mid-course and the state is calm, the useful events of a cycle are at most the bound of the spot,
@@ -32,4 +33,17 @@ pub fn cycles_take_events()
     ensures event { EventWorks }
     ensures late { WornIsLate }
     ensures few { FewEventsNeverWear }
+{}
+
+/// Where so many events of the collector are owed for each word that is taken, and those of a lost attempt are owed again,
+/// the words used are paid for by the useful events of the cycle and by those that are owed. Begins and steps keep that, and
+/// each event that is owed, while no call is in mid-course; it pays for one, waits for nobody, and loses only an attempt that a
+/// task has met.
+pub fn collector_pays()
+    ensures opening { OpeningKeepsHeap }
+    ensures begins { BeginsKeepHeap }
+    ensures steps { StepsKeepHeap }
+    ensures met { MetKeepsHeap }
+    ensures pays { CollectorPays }
+    ensures lost { LostIsFew }
 {}

@@ -1,4 +1,5 @@
-//! Laws of the words for allocation.
+//! Laws of the words for allocation, and of those reserved for evacuation.
+ghost use Rattle.hk_collect.specs.Reserved.{ReservedIsClaimed};
 ghost use Rattle.hk_collect.specs.Taken.{BeginsTakeNone, StepsTake, EventsTakeNone, FlipsBeginCycles};
 
 /// The words used since the last flip grow by the third step of a New that found room, by those of its object, and by no
@@ -8,4 +9,10 @@ pub fn words_taken()
     ensures steps { StepsTake }
     ensures events { EventsTakeNone }
     ensures flips { FlipsBeginCycles }
+{}
+
+/// The words reserved for evacuation are those of the objects that got a place in this cycle, each once; all of these were
+/// claimed in it.
+pub fn words_reserved()
+    ensures { ReservedIsClaimed }
 {}

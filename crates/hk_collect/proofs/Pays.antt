@@ -151,7 +151,7 @@ met_keeps_heap rate c history useful debt used met_now h = record {
 }
 
 -- a begin that may be done keeps a lawful state lawful
-lawful_begun : (c : State) (history : History) (seat : ℕ) (call : Call) → may_begin c seat call ≡ true → Lawful c history → Lawful (after_begin c seat call) history
+pub lawful_begun : (c : State) (history : History) (seat : ℕ) (call : Call) → may_begin c seat call ≡ true → Lawful c history → Lawful (after_begin c seat call) history
 unfolding act
 lawful_begun c history seat call may h =
     let done : Lawful (act (record { core = c; history = history }) (begin seat call)).core (act (record { core = c; history = history }) (begin seat call)).history =

@@ -19,8 +19,9 @@ use Rattle.hk_collect.specs.Used.{is_claimed, stands_claimed}
 use Rattle.hk_collect.specs.Reserved.{CountsClaimed, ReservedIsClaimed}
 use Rattle.hk_collect.proofs.UsedFacts.{grey_claimed}
 
--- LISTS WITHOUT REPETITION
+-- LISTS
 
+-- no number stands twice
 abbrev pub Distinct : List ℕ → Type 0
 Distinct xs = (i j : ℕ) → i < j → j < length xs → get_or xs i 0 ≢ get_or xs j 0
 
@@ -28,6 +29,22 @@ with_first : (x : ℕ) (xs : List ℕ) → All (λ y. x ≢ y) xs → Distinct x
 with_first x xs new distinct i zero less below e = absurd (omega arith)
 with_first x xs new distinct zero (suc j) less below e = All-get_or (λ y. x ≢ y) xs j 0 (omega arith) new e
 with_first x xs new distinct (suc i) (suc j) less below e = distinct i j (omega arith) (omega arith) e
+
+pub contains_first : (x : ℕ) (xs : List ℕ) → Contains (x ∷ xs) x
+contains_first x xs = (0, omega arith, refl)
+
+pub contains_later : (x : ℕ) (xs : List ℕ) (y : ℕ) → Contains xs y → Contains (x ∷ xs) y
+contains_later x xs y (k, below, at) = (suc k, omega (arith, below), at)
+
+-- sums of terms that agree
+pub sums_agree : (f k : ℕ → ℕ) (xs : List ℕ) → ((x : ℕ) → Contains xs x → f x ≡ k x) → sum_by f xs ≡ sum_by k xs
+sums_agree f k [] same = refl
+sums_agree f k (x ∷ xs) same =
+    let here = same x (contains_first x xs) in
+    let later = sums_agree f k xs (λ y there. same y (contains_later x xs y there)) in
+    let a = sum_by-cons f x xs in
+    let b = sum_by-cons k x xs in
+    omega (arith, here, later, a, b)
 
 -- TILES
 
@@ -126,15 +143,6 @@ module _ (c : State) (history : History) (h : Lawful c history) where
             ((kept_means g w (flight_at c) c.spot.line names n both.0).within, grey_claimed g w n both.1)
       ]
 
-sums_agree : (f k : ℕ → ℕ) (xs : List ℕ) → ((x : ℕ) → f x ≡ k x) → sum_by f xs ≡ sum_by k xs
-sums_agree f k [] same = refl
-sums_agree f k (x ∷ xs) same =
-    let here = same x in
-    let later = sums_agree f k xs same in
-    let a = sum_by-cons f x xs in
-    let b = sum_by-cons k x xs in
-    omega (arith, here, later, a, b)
-
 pub reserved_is_claimed : ReservedIsClaimed
 unfolding words_of decoded raw
 reserved_is_claimed c history h =
@@ -147,7 +155,7 @@ reserved_is_claimed c history h =
     (λ n. let same : sh.size n ≡ size_at names n = m.size n in let some = size_some names n in omega (arith, same, some))
     h.facts.ranges_within h.facts.ranges_join h.facts.first_range h.facts.one_range_each in
     let counts = all.counts in
-    let same = sums_agree sh.size (size_at names) all.tiled m.size in
+    let same = sums_agree sh.size (size_at names) all.tiled (λ n there. m.size n) in
     let ranged : (n : ℕ) → Contains all.tiled n → (x : ℕ) × (0 ≤ x) × (h.range x ≡ Some n) =
     λ n there. All-contains (λ k. (x : ℕ) × (0 ≤ x) × (h.range x ≡ Some k)) all.tiled n all.ranged there in
     record {

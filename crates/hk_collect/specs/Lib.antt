@@ -8,3 +8,4 @@ pub mod Taken
 pub mod Cycles
 pub mod Reserved
 pub mod Pays
+pub mod Live

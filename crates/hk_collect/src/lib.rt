@@ -22,5 +22,5 @@ pub use laws::{
 };
 pub use measure::{collector_pays, cycles_take_events, measured_cycle, untouched_attempts};
 pub use owned::OwnedHeap;
-pub use used::reserved_was_used;
+pub use used::{reserved_is_live, reserved_was_used};
 pub use words::{words_reserved, words_taken};

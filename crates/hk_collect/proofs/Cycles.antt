@@ -10,7 +10,7 @@ use Rattle.hk_core.specs.declared.spot.Line.{Line}
 use Rattle.hk_core.specs.declared.spot.Line.TheVariants as line
 use Rattle.hk_core.specs.declared.spot.Stage.{Stage}
 use Rattle.hk_core.specs.declared.spot.Stage.TheVariants as stage
-use Rattle.hk_core.specs.State.{State, opening, opening_spot}
+use Rattle.hk_core.specs.State.{opening, opening_spot}
 use Rattle.hk_core.specs.Collect as table
 use Rattle.hk_core.specs.Collect.{next_collected, took_at_line, spot_took, found_by_collector, last_cycle}
 use Rattle.hk_core.specs.Step.{reference_size, reserved_fits}

@@ -1,5 +1,5 @@
 -- What is reserved is the words of births that were in use; so it is more than the words for evacuation only where more were live.
-use Rattle.std.proofs.Common.{◌≡◌, ℕ, zero, suc, ◌+◌, ◌<◌, List, [], ◌∷◌, length, get_or, inl, inr, refl, sym, subst, ◌∙◌, ap, arith, Some}
+use Rattle.std.proofs.Common.{◌≡◌, ℕ, zero, suc, ◌<◌, List, [], ◌∷◌, length, get_or, inl, inr, refl, sym, subst, ◌∙◌, ap, arith, Some}
 use Rattle.std.proofs.lemmas.List.Sums.{sum_by-cons}
 use Rattle.std.specs.Prelude.{Contains, sum_by}
 use Rattle.hk_words.specs.declared.geometry.Geometry.{Geometry}
@@ -10,7 +10,6 @@ use Rattle.hk_model.proofs.Histories.{bearer_is_last}
 use Rattle.hk_core.specs.declared.spot.Work.TheVariants.{LiveOver}
 use Rattle.hk_core.specs.Collect.{work_by_collector}
 use Rattle.hk_core.specs.Reach.{Reached, in_register, in_cell, words_of_birth}
-use Rattle.hk_core.specs.Run.{Action}
 use Rattle.hk_core.specs.View.{names_of, size_at}
 use Rattle.hk_core.proofs.Shared.{size_borne}
 use Rattle.hk_core.proofs.kinds.Effects.{is_heap}
@@ -19,7 +18,7 @@ use Rattle.hk_collect.specs.Reserved.{CountsClaimed}
 use Rattle.hk_collect.specs.Used.{Trace, BearsUsed, WasUsed, next_birth, traced}
 use Rattle.hk_collect.proofs.Causes.{has_causes}
 use Rattle.hk_collect.proofs.Reserved.{Distinct, contains_first, contains_later, sums_agree, reserved_is_claimed}
-use Rattle.hk_collect.proofs.UsedLaws.{borne_there, claimed_was_used, traced_keeps_geometry}
+use Rattle.hk_collect.proofs.UsedLaws.{claimed_was_used, traced_keeps_geometry}
 use Rattle.hk_collect.proofs.UsedRuns.{InUse, in_use_traced}
 
 -- THE BIRTHS THAT BEAR SOME NUMBERS

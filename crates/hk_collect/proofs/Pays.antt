@@ -1,9 +1,7 @@
 -- What a machine keeps whose collector owes events: through an event that is owed, and through begins and steps.
-use Rattle.std.proofs.Common.{◌≡◌, ◌≢◌, ℕ, ◌+◌, ◌-◌, ◌*◌, ◌<◌, ◌≤◌, Bool, true, false, inl, inr, refl, sym, ◌∙◌, ap, arith}
+use Rattle.std.proofs.Common.{◌≡◌, ◌≢◌, ℕ, ◌+◌, ◌-◌, ◌*◌, ◌≤◌, Bool, true, false, inl, inr, refl, sym, ◌∙◌, ap, arith}
 use Rattle.std.proofs.lemmas.Bool.{cases_Bool}
-use Rattle.std.specs.Prelude.{◌&&◌, [], Option, Some, None}
-use Rattle.hk_words.specs.declared.geometry.Geometry.{Geometry}
-use Rattle.hk_words.specs.Geometry.{tasks}
+use Rattle.std.specs.Prelude.{◌&&◌, Option, Some, None}
 use Rattle.hk_words.specs.declared.call.Call.{Call}
 use Rattle.hk_words.specs.Layout.{w0_words}
 use Rattle.hk_model.specs.History.{History}
@@ -16,7 +14,7 @@ use Rattle.hk_core.specs.Step.{next, reference_size}
 use Rattle.hk_core.specs.Begin.{refusal, accepted, after_begin, begun_or}
 use Rattle.hk_core.specs.Run.{begin, act, may_begin}
 use Rattle.hk_core.specs.Collect.{next_collected, work_by_collector}
-use Rattle.hk_core.specs.View.{names_of, flight_at}
+use Rattle.hk_core.specs.View.{flight_at}
 use Rattle.hk_core.specs.Lines as l
 use Rattle.hk_core.specs.Lawful.{Lawful}
 use Rattle.hk_core.proofs.Actions.{lawful_act_begin}
@@ -34,7 +32,7 @@ use Rattle.hk_collect.proofs.MeasureEvents.{collector_is_measured, opening_is_ca
 use Rattle.hk_collect.proofs.MeasureSeats.{seats_keep_calm}
 use Rattle.hk_collect.proofs.MeasureBounds.{objects_are_births, spent_at}
 use Rattle.hk_collect.proofs.MeasureAttempts.{untouched_outside, event_keeps_untouched, attempt_succeeds, lost_closes_attempt, attempts_are_counted}
-use Rattle.hk_collect.proofs.Taken.{steps_take, begins_take_none, events_take_none, flips_begin_cycles}
+use Rattle.hk_collect.proofs.Taken.{steps_take, events_take_none, flips_begin_cycles}
 
 -- THE LOSS
 

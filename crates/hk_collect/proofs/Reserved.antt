@@ -1,5 +1,5 @@
 -- The ranges tile what is reserved, no number has two, and a number with a range was claimed.
-use Rattle.std.proofs.Common.{◌≡◌, ◌≢◌, ℕ, zero, suc, ◌+◌, ◌<◌, ◌≤◌, true, false, List, [], ◌∷◌, length, get_or, inl, inr, refl, sym, ◌∙◌, ap, arith, Option, Some, None}
+use Rattle.std.proofs.Common.{◌≡◌, ◌≢◌, ℕ, zero, suc, ◌+◌, ◌<◌, ◌≤◌, true, false, List, [], ◌∷◌, length, get_or, inl, inr, refl, ◌∙◌, ap, arith, Option, Some, None}
 use Rattle.std.proofs.lemmas.Bool.{cases_Bool, cases_eq, cases_lt, and_from, or_right, eq-eqb, le-leb, lt-ltb}
 use Rattle.std.proofs.lemmas.List.Elements.{All-nil, All-cons, All-weaker, All-get_or, All-contains}
 use Rattle.std.proofs.lemmas.List.Sums.{sum_by-cons}
@@ -8,7 +8,7 @@ use Rattle.hk_words.specs.Geometry.{numbers}
 use Rattle.hk_model.specs.History.{History}
 use Rattle.hk_core.specs.Facts as fact
 use Rattle.hk_core.specs.State.{State}
-use Rattle.hk_core.specs.View.{Names, words_of, names_of, flight_at, size_at, decoded, raw}
+use Rattle.hk_core.specs.View.{words_of, names_of, flight_at, size_at, decoded, raw}
 use Rattle.hk_core.specs.Colours.{shades_of, spaces_of, is_within}
 use Rattle.hk_core.specs.Lines as l
 use Rattle.hk_core.specs.Lawful.{Lawful}
@@ -16,7 +16,7 @@ use Rattle.hk_core.proofs.Shared.{size_some}
 use Rattle.hk_core.proofs.kinds.Seats.{kept_means}
 use Rattle.hk_core.proofs.kinds.WriteCell.{shades_mean}
 use Rattle.hk_collect.specs.Used.{is_claimed, stands_claimed}
-use Rattle.hk_collect.specs.Reserved.{CountsClaimed, ReservedIsClaimed}
+use Rattle.hk_collect.specs.Reserved.{ReservedIsClaimed}
 use Rattle.hk_collect.proofs.UsedFacts.{grey_claimed}
 
 -- LISTS

@@ -1,5 +1,5 @@
 -- Which steps take words, and what the collector does to the count of the words used.
-use Rattle.std.proofs.Common.{◌≡◌, ◌≢◌, ℕ, ◌+◌, ◌<◌, Bool, true, false, List, inl, inr, refl, sym, subst, ◌∙◌, ap, arith, Option, Some, None, get_or-set_other}
+use Rattle.std.proofs.Common.{◌≡◌, ◌≢◌, ℕ, ◌+◌, ◌<◌, true, false, List, inl, inr, refl, sym, subst, ◌∙◌, ap, arith, Option, Some, None, get_or-set_other}
 use Rattle.std.proofs.lemmas.Bool.{cases_Bool, eqb-true}
 use Rattle.std.specs.Prelude.{nat_eq, not, ◌&&◌, if◌then◌else◌}
 use Rattle.hk_words.specs.declared.geometry.Geometry.{Geometry}
@@ -34,8 +34,7 @@ use Rattle.hk_core.specs.Flights as f
 use Rattle.hk_core.specs.Lawful.{Lawful}
 use Rattle.hk_core.proofs.Columns.{fired_kept, fired_if_none, fired_if_some}
 use Rattle.hk_core.proofs.kinds.NewWords.{words-raise, used_fits, objects_fit}
-use Rattle.hk_core.proofs.Shared.{never}
-use Rattle.hk_collect.specs.Taken.{Takes, BeginsCycle, taken_at, taken_by, BeginsTakeNone, StepsTake, EventsTakeNone, FlipsBeginCycles}
+use Rattle.hk_collect.specs.Taken.{Takes, taken_at, BeginsTakeNone, StepsTake, EventsTakeNone, FlipsBeginCycles}
 use Rattle.hk_collect.specs.Works.{Flips}
 use Rattle.hk_collect.proofs.spots.SpotWords.{words-flip}
 use Rattle.hk_collect.proofs.Causes.{has_causes}

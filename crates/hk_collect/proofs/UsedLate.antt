@@ -1,9 +1,9 @@
 -- The births since the flip are young or late: a New that raised W0 in this cycle is none of those that had raised it at the
 -- flip. And a birth keeps its shape as the history grows.
-use Rattle.std.proofs.Common.{◌≡◌, ◌≢◌, ◌⊎◌, ℕ, ◌+◌, ◌<◌, ◌≤◌, Bool, true, false, List, ◌++◌, length, inl, inr, refl, sym, ◌∙◌, ap, arith, Option, Some, None}
+use Rattle.std.proofs.Common.{◌≡◌, ◌⊎◌, ℕ, ◌<◌, ◌≤◌, Bool, true, false, ◌++◌, inl, inr, refl, sym, ◌∙◌, ap, arith, Option, Some, None}
 use Rattle.std.proofs.lemmas.Bool.{cases_Bool, cases_eq, cases_lt, and_left}
 use Rattle.std.proofs.lemmas.List.{append-nil}
-use Rattle.std.specs.Prelude.{nat_eq, not, ◌&&◌, option_to_list, if◌then◌else◌}
+use Rattle.std.specs.Prelude.{not, ◌&&◌, option_to_list}
 use Rattle.hk_words.specs.declared.geometry.Geometry.{Geometry}
 use Rattle.hk_words.specs.declared.call.Call.{Call}
 use Rattle.hk_words.specs.declared.call.Call.TheVariants as call
@@ -16,17 +16,16 @@ use Rattle.hk_words.specs.Row.{w0_at, word_of}
 use Rattle.hk_words.specs.Row.Slot.{W0}
 use Rattle.hk_model.specs.Heap.{Heap, of_object, born, refs, nums, register, link, opening_of}
 use Rattle.hk_model.specs.History.{Entry, History, is_refused, after_entry, after}
-use Rattle.hk_model.specs.Replies.{heap_after, entering, has_number, has_reference, with_register, with_link, with_value, with_object}
+use Rattle.hk_model.specs.Replies.{heap_after, has_number, has_reference, with_register, with_link, with_value, with_object}
 use Rattle.hk_model.specs.View.{upd}
 use Rattle.hk_model.proofs.Heaps.{entering_all}
 use Rattle.hk_model.proofs.Histories.{after-push}
 use Rattle.hk_model.proofs.Updates.{upd_same, upd_other}
 use Rattle.hk_model.proofs.Views.{of_object-with_link, of_object-with_value, of_object-with_object}
-use Rattle.hk_core.specs.declared.event.Event.{Event}
 use Rattle.hk_core.specs.declared.event.Event.TheVariants as event
 use Rattle.hk_core.specs.declared.flight.Flight.{Flight}
-use Rattle.hk_core.specs.Event.{learnt, learnt_from, old_of}
-use Rattle.hk_core.specs.State.{State, idle}
+use Rattle.hk_core.specs.Event.{learnt, old_of}
+use Rattle.hk_core.specs.State.{State}
 use Rattle.hk_core.specs.Step as table
 use Rattle.hk_core.specs.Step.{took_of, event_of, event_by, found_by, next}
 use Rattle.hk_core.specs.View.{words_of, decoded, raw, flight_at}

@@ -1,5 +1,5 @@
 -- The laws of traced runs, from the facts that hold of them.
-use Rattle.std.proofs.Common.{◌≡◌, ◌⊎◌, ℕ, ◌+◌, ◌<◌, ◌≤◌, Bool, true, false, inl, inr, refl, sym, subst, ◌∙◌, ap, arith, List, [], ◌∷◌}
+use Rattle.std.proofs.Common.{◌≡◌, ℕ, ◌<◌, ◌≤◌, Bool, true, false, inl, inr, refl, sym, subst, ◌∙◌, ap, arith, List, [], ◌∷◌}
 use Rattle.std.proofs.lemmas.Bool.{cases_Bool, and_left, and_right, and_parts, lt-ltb, ltb-true}
 use Rattle.std.specs.Prelude.{nat_eq, nat_lt, fold, Some, if◌then◌else◌}
 use Rattle.hk_words.specs.declared.geometry.Geometry.{Geometry}
@@ -14,7 +14,7 @@ use Rattle.hk_core.specs.Collect as collects
 use Rattle.hk_core.specs.Collect.{next_collected, work_by_collector}
 use Rattle.hk_core.specs.Flights as f
 use Rattle.hk_core.specs.Flights.{Hand, to_reserve, hand_of_flight}
-use Rattle.hk_core.specs.Run.{Action, Running, begin, step, collect, act, is_busy, run, run_from_opening}
+use Rattle.hk_core.specs.Run.{Action, Running, begin, step, collect, act, run, run_from_opening}
 use Rattle.hk_core.specs.State.{State, opening, flight_of}
 use Rattle.hk_core.specs.Step as table
 use Rattle.hk_core.specs.Step.{reference_size, next, history_after}

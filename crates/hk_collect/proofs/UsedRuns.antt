@@ -25,11 +25,10 @@ use Rattle.hk_core.proofs.OpeningLawful.{opening_lawful}
 use Rattle.hk_core.proofs.Next.{flight_at-next}
 use Rattle.hk_core.proofs.kinds.Begin.{flight_at-accepted}
 use Rattle.hk_model.proofs.Updates.{upd_same}
-use Rattle.hk_core.specs.declared.flight.Flight.{Flight}
 use Rattle.hk_core.proofs.Seven.{seat_steps}
 use Rattle.hk_core.proofs.Shared.{never}
 use Rattle.hk_core.proofs.Update.{upd_cases}
-use Rattle.hk_collect.specs.Used.{Trace, next_birth, gives_young, bears_next, is_raising, is_flip, trace_act, trace_opening, traced}
+use Rattle.hk_collect.specs.Used.{Trace, next_birth, gives_young, is_raising, is_flip, trace_act, trace_opening, traced}
 use Rattle.hk_collect.proofs.EachLine.{lawful_collected}
 use Rattle.hk_collect.proofs.Pays.{lawful_begun}
 use Rattle.hk_collect.proofs.Small.{by_test, in_flight, not_making_yet}

@@ -1,6 +1,6 @@
 -- How many events the collector needs for its cycles: each cycle clears the words of a space, one event for each. So a run in
 -- which the collector has few events has cycles enough.
-use Rattle.std.specs.Prelude.{◌≡◌, ◌≢◌, ℕ, ◌+◌, ◌-◌, ◌*◌, ◌^◌, ◌<◌, ◌≤◌}
+use Rattle.std.specs.Prelude.{◌≢◌, ℕ, ◌+◌, ◌-◌, ◌*◌, ◌^◌, ◌<◌, ◌≤◌}
 use Rattle.hk_words.specs.declared.geometry.Geometry.{Geometry}
 use Rattle.hk_words.specs.Geometry.{space_words}
 use Rattle.hk_model.specs.History.{History}

@@ -21,6 +21,13 @@ pub mod UsedMarks
 pub mod UsedSpot
 pub mod UsedTables
 pub mod UsedTrace
+pub mod UsedLate
+pub mod UsedRuns
 pub mod UsedReserves
 pub mod UsedLaws
 pub mod Worn
+pub mod Taken
+pub mod Cycles
+pub mod Reserved
+pub mod Pays
+pub mod LiveCause

@@ -1,0 +1,6 @@
+mod Digits
+mod Arguments
+mod Shapes
+mod Lines
+mod Calls
+mod Spelled

@@ -1,7 +1,12 @@
+pub mod AloneBy
 pub mod Arrivals
 pub mod Bound
 pub mod Chosen
 pub mod Had
 pub mod Interval
+pub mod JobBound
+pub mod JobRows
+pub mod LeastTask
+pub mod ReadyRows
 pub mod Sums
 pub mod Track

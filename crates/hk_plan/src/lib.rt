@@ -5,17 +5,31 @@ ghost use Rattle.std.specs.Prelude.{◌≡◌, ℕ, ◌+◌, ◌<◌, ◌≤◌,
 ghost use Rattle.std.specs.Option.{ForSome};
 ghost use Rattle.hk_plan.specs.Alone.{chosen, first_of, row_at, IsUnended, TakesTicks, EndsAt, EachTickFollowsOrder};
 ghost use Rattle.hk_plan.specs.Bounds.{ResponseBounds};
+ghost use Rattle.hk_plan.specs.JobBounds.{ResponseBoundsJobs};
+ghost use Rattle.hk_plan.specs.LeastTask.{LeastTaskIsPlain};
 
 use std::alloc::{AllocError, AllocFailed, Global};
 use std::marker::Model;
 
-/// A piece of work: the task that it belongs to, where a lesser number goes first; the moment at which it arrives;
-/// and how many ticks it takes.
+/// A piece of work: the task that it belongs to, where a lesser number goes first; the moment at which it becomes
+/// ready; and how many ticks it takes.
 #[derive(Clone, Copy, Debug, PartialEq, Eq)]
 pub struct Row {
     pub task: u8,
     pub arrival: u64,
     pub ticks: u64,
+}
+
+/// What a choice among ready jobs is told of one: its task; its number within the task; the moment at which it
+/// arrived; the moment by which it is to end, which is its arrival and the task's deadline; and how many ticks it has
+/// had.
+#[derive(Clone, Copy, Debug, PartialEq, Eq)]
+pub struct Ready {
+    pub task: u8,
+    pub job: u64,
+    pub arrival: u64,
+    pub deadline: u64,
+    pub done: u64,
 }
 
 /// No memory was found.
@@ -116,13 +130,31 @@ pub fn each_tick_follows_order()
     ensures { EachTickFollowsOrder }
 {}
 
-/// The law of response times: where the rows of each task keep to its timing, that is, take from one tick to the
-/// cost and arrive at least a period apart in the order of their places, and the deadline of a task is at most its
-/// period, each row of that task ends at most the response time after its arrival, if that is at most the deadline
-/// (M. Joseph and P. Pandya, Finding Response Times in a Real-Time System, 1986). It speaks of the schedule, for
-/// any rows, and not of a plan that was opened, so it serves rows too whose lengths are known only afterwards.
+/// The law of response times. Let each row have an origin, the moment at which its job arrives. Where the rows of
+/// each task keep to its timing, that is, take from one tick to the cost, become ready at their origin or at most the
+/// jitter after it, and have origins at least a period apart in the order of their places, and the deadline of a task
+/// is at most its period, each row of that task ends at most the response time after its origin, if that is at most
+/// the deadline (M. Joseph and P. Pandya, Finding Response Times in a Real-Time System, 1986; the jitter: N. Audsley,
+/// A. Burns, M. Richardson, K. Tindell and A. Wellings, Applying New Scheduling Theory to Static Priority Pre-emptive
+/// Scheduling, 1993). It speaks of the schedule, for any rows, and not of a plan that was opened, so it serves rows too
+/// whose lengths are known only afterwards.
 pub fn response_bounds_every_finish()
     ensures { ResponseBounds }
+{}
+
+/// The law of the choice of the least task: where some rows list the jobs of some tasks, each in its place, the schedule
+/// of the jobs by that choice is the plain schedule of the rows: each tick goes to the same job or to nobody, and each
+/// job ends at the same moment.
+pub fn least_task_is_plain()
+    ensures { LeastTaskIsPlain }
+{}
+
+/// The law of response times over jobs: where the jobs of each task keep to its timing, that is, take from one tick to
+/// the cost, become ready at their arrival or at most the jitter after it, and arrive at least a period apart, and the
+/// deadline of a task is at most its period, each job of that task ends at most the response time after its arrival, in
+/// the schedule by the choice of the least task, if that is at most the deadline.
+pub fn response_bounds_every_job()
+    ensures { ResponseBoundsJobs }
 {}
 
 /// The place of the row that goes first among those that have arrived by a moment and have had fewer ticks than
@@ -191,7 +223,7 @@ mod tests {
     #[test]
     fn ticks_and_ends(rt: HostRuntime) -> Result<(), Fail> {
         const LAST: u64 = u64::MAX;
-        let cases: [(&[(u8, u64, u64)], &[Option<usize>], &[Option<u64>]); 13] = [
+        let cases: [(&[(u8, u64, u64)], &[Option<usize>], &[Option<u64>]); 14] = [
             (
                 &[(0, 1, 1), (1, 0, 2)],
                 &[Some(1), Some(0), Some(1), None],
@@ -268,6 +300,32 @@ mod tests {
                     None,
                 ],
                 &[Some(1), Some(5), Some(9), Some(3), Some(8), Some(10)],
+            ),
+            // the same, where the jobs of the first task are ready 0, 3 and 2 after their arrivals at 0, 4 and 8
+            (
+                &[
+                    (0, 0, 1),
+                    (0, 7, 1),
+                    (0, 10, 1),
+                    (1, 0, 2),
+                    (1, 6, 2),
+                    (2, 0, 3),
+                ],
+                &[
+                    Some(0),
+                    Some(3),
+                    Some(3),
+                    Some(5),
+                    Some(5),
+                    Some(5),
+                    Some(4),
+                    Some(1),
+                    Some(4),
+                    None,
+                    Some(2),
+                    None,
+                ],
+                &[Some(1), Some(8), Some(11), Some(3), Some(9), Some(6)],
             ),
         ];
         for (rows, ticks, ends) in cases {

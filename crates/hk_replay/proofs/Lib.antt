@@ -4,3 +4,6 @@ mod Shapes
 mod Lines
 mod Calls
 mod Spelled
+mod Runs
+mod Openings
+mod Judging

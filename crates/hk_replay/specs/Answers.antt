@@ -1,5 +1,5 @@
 -- What the machine answers to the actions that the lines of a log say.
-use Rattle.std.specs.Prelude.{◌≡◌, ◌≢◌, ℕ, ◌+◌, List, [], ◌∷◌, ◌++◌, length, map, Option, Some, None, if◌then◌else◌}
+use Rattle.std.specs.Prelude.{◌≡◌, ◌≢◌, ℕ, ◌+◌, List, [], ◌∷◌, ◌++◌, length, map, Option, Some, None, Result, Ok, Err, if◌then◌else◌}
 use Rattle.hk_words.specs.declared.call.Call.{Call}
 use Rattle.hk_words.specs.declared.call.Reply.{Reply}
 use Rattle.hk_words.specs.declared.call.Reply.TheVariants.{Unit as Done, Num, Yes, No, Nil, Field, Full}
@@ -17,6 +17,7 @@ use Rattle.hk_core.specs.Begin.{refusal, after_begin}
 use Rattle.hk_core.specs.Step.{answer_by, next}
 use Rattle.hk_core.specs.Collect.{work_by_collector, next_collected}
 use Rattle.hk_core.specs.Run.{Action, begin, step, collect, Running, is_busy, may_begin, act, run_from_opening}
+use Rattle.hk_replay.specs.declared.log_line.Reason.{Reason}
 use Rattle.hk_replay.specs.declared.log_line.Reason.TheVariants as reason
 use Rattle.hk_replay.specs.declared.log_line.Ending.{Ending}
 use Rattle.hk_replay.specs.declared.log_line.Ending.TheVariants as ending
@@ -75,6 +76,17 @@ unfoldable pub answered : State → Action → Option LogLine
 answered c (begin seat call) = if may_begin c seat call then begin_line seat call (refusal c seat call) else None
 answered c (step seat) = if is_busy c seat then step_line seat (answer_by c seat) else None
 answered c collect = Some (line.Collect (answer_of (work_by_collector c)))
+
+-- how a call to the machine tells this line of a begin, and of a step
+abbrev pub TellsBegin : Option LogLine → ℕ → Call → Option (Result (Unit {0}) Reason) → Type 0
+TellsBegin said seat call None = said ≡ None
+TellsBegin said seat call (Some (Ok begun)) = said ≡ Some (line.Begin seat call)
+TellsBegin said seat call (Some (Err why)) = said ≡ Some (line.Fault seat call why)
+
+abbrev pub TellsStep : Option LogLine → ℕ → Option (Option Ending) → Type 0
+TellsStep said seat None = said ≡ None
+TellsStep said seat (Some None) = said ≡ Some (line.Step seat)
+TellsStep said seat (Some (Some end)) = said ≡ Some (line.End seat end)
 
 -- the state after an action; one whose condition doesn't hold changes nothing
 unfoldable pub core_after : State → Action → State

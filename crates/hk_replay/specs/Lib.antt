@@ -4,3 +4,4 @@ pub mod Spelling
 pub mod Reading
 pub mod Answers
 pub mod Log
+pub mod Judged

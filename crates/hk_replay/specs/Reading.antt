@@ -1,16 +1,19 @@
 -- The line that words spell, by the number of the words and the names among them.
-use Rattle.std.specs.Prelude.{ℕ, List, [], ◌∷◌, nat_lt, nat_le, ◌+◌, ◌==◌, ◌&&◌, if◌then◌else◌, Option, Some, None, codes}
+use Rattle.std.specs.Prelude.{◌≡◌, ◌≢◌, ℕ, ◌^◌, List, [], ◌∷◌, nat_lt, nat_le, ◌+◌, ◌==◌, ◌&&◌, if◌then◌else◌, Option, Some, None, codes}
 use Rattle.std.specs.Option.{option_and_then}
 use Rattle.std.specs.Str.{bytes_eq}
 use Rattle.hk_words.specs.declared.call.Call.{Call}
 use Rattle.hk_words.specs.declared.call.Call.TheVariants as call
+use Rattle.hk_words.specs.declared.geometry.Geometry.{Geometry}
 use Rattle.hk_words.specs.declared.geometry.TheConstants.{REGISTERS}
+use Rattle.hk_words.specs.Geometry.{Sizes, first_error, HasSizes}
 use Rattle.hk_words.specs.declared.shape.TheConstants.{USUAL_FIELDS}
 use Rattle.hk_replay.specs.declared.log_line.Reason.{Reason}
 use Rattle.hk_replay.specs.declared.log_line.Reason.TheVariants as reason
 use Rattle.hk_replay.specs.declared.log_line.Ending.TheVariants as ending
 use Rattle.hk_replay.specs.declared.log_line.Answer.{Answer}
 use Rattle.hk_replay.specs.declared.log_line.Answer.TheVariants as answer
+use Rattle.hk_replay.specs.declared.log_line.Heading.{Heading}
 use Rattle.hk_replay.specs.declared.log_line.LogLine.{LogLine}
 use Rattle.hk_replay.specs.declared.log_line.LogLine.TheVariants as line
 use Rattle.hk_replay.specs.Shapes.{shape_of}
@@ -159,3 +162,25 @@ line_of tasks (name ∷ a ∷ b ∷ c ∷ d ∷ []) = five_words tasks name a b 
 line_of tasks (name ∷ a ∷ b ∷ c ∷ d ∷ e ∷ []) = six_words tasks name a b c d e
 line_of tasks (name ∷ a ∷ b ∷ c ∷ d ∷ e ∷ f ∷ []) = seven_words tasks name a b c d e f
 line_of tasks ws = None
+
+-- THE FIRST LINE
+
+-- its numbers, behind its name
+unfoldable pub heading_by : List ℕ → List ℕ → List ℕ → List ℕ → List ℕ → List ℕ → List ℕ → Option Heading
+heading_by a b c d e f g =
+    below (2 ^ 32) a >>= λ live. below (2 ^ 32) b >>= λ alloc. below (2 ^ 32) c >>= λ reserve.
+    size_of d >>= λ high. size_of e >>= λ low. size_of f >>= λ refs. size_of g >>= λ nums.
+    Some (record { live = live; alloc = alloc; reserve = reserve; high = high; low = low; refs = refs; nums = nums })
+
+unfoldable pub heading_of : List (List ℕ) → Option Heading
+heading_of (name ∷ a ∷ b ∷ c ∷ d ∷ e ∷ f ∷ g ∷ []) = if bytes_eq name (codes "heap") then heading_by a b c d e f g else None
+heading_of ws = None
+
+-- the sizes that it says
+unfoldable pub sizes_in : Heading → Sizes
+sizes_in h = record { live = h.live; alloc = h.alloc; reserve = h.reserve; high = h.high; low = h.low; refs = h.refs; nums = h.nums; registers = REGISTERS }
+
+-- a geometry is the one of a first line, if there is one
+abbrev pub IsOfHeading : Heading → Option Geometry → Type 0
+IsOfHeading h None = first_error USUAL_FIELDS (sizes_in h) ≢ None
+IsOfHeading h (Some g) = (first_error USUAL_FIELDS (sizes_in h) ≡ None) × HasSizes g (sizes_in h)

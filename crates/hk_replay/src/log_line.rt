@@ -1,8 +1,22 @@
-//! The lines of a log after its first one.
+//! The lines of a log.
+ghost use Rattle.std.specs.Prelude.{◌≡◌, ◌↔◌, IsTrue};
+
 use hk_words::Call;
 
+/// The first line of a log: the sizes of the heap in words, the tasks, and the fields of the board.
+#[derive(Clone, Copy, Debug)]
+pub struct Heading {
+    pub live: u32,
+    pub alloc: u32,
+    pub reserve: u32,
+    pub high: u8,
+    pub low: u8,
+    pub refs: u8,
+    pub nums: u8,
+}
+
 /// Why a call was not begun.
-#[derive(Clone, Copy, Debug, PartialEq, Eq)]
+#[derive(Clone, Copy, Debug)]
 pub enum Reason {
     /// The register that the call goes through is null.
     Nil,
@@ -10,8 +24,20 @@ pub enum Reason {
     Field,
 }
 
+impl Reason {
+    /// Whether it is the same reason.
+    pub fn is(self, other: Reason) -> bool
+        ensures { IsTrue result ↔ (self ≡ other) }
+    {
+        match self {
+            Reason::Nil => matches!(other, Reason::Nil),
+            Reason::Field => matches!(other, Reason::Field),
+        }
+    }
+}
+
 /// How a call ended.
-#[derive(Clone, Copy, Debug, PartialEq, Eq)]
+#[derive(Clone, Copy, Debug)]
 pub enum Ending {
     /// It was done, and has no value to answer.
     Unit,
@@ -21,8 +47,21 @@ pub enum Ending {
     Full(u64),
 }
 
+impl Ending {
+    /// Whether it is the same ending.
+    pub fn is(self, other: Ending) -> bool
+        ensures { IsTrue result ↔ (self ≡ other) }
+    {
+        match self {
+            Ending::Unit => matches!(other, Ending::Unit),
+            Ending::Num(number) => matches!(other, Ending::Num(n) if n == number),
+            Ending::Full(words) => matches!(other, Ending::Full(n) if n == words),
+        }
+    }
+}
+
 /// What an event of the collector did.
-#[derive(Clone, Copy, Debug, PartialEq, Eq)]
+#[derive(Clone, Copy, Debug)]
 pub enum Answer {
     /// The event was done, and none of the following.
     Useful,
@@ -44,8 +83,27 @@ pub enum Answer {
     Worn,
 }
 
+impl Answer {
+    /// Whether it is the same answer.
+    pub fn is(self, other: Answer) -> bool
+        ensures { IsTrue result ↔ (self ≡ other) }
+    {
+        match self {
+            Answer::Useful => matches!(other, Answer::Useful),
+            Answer::Flip => matches!(other, Answer::Flip),
+            Answer::Lost(events) => matches!(other, Answer::Lost(n) if n == events),
+            Answer::Frame(seat) => matches!(other, Answer::Frame(n) if n == seat),
+            Answer::Object(number) => matches!(other, Answer::Object(n) if n == number),
+            Answer::Unlinked(place) => matches!(other, Answer::Unlinked(n) if n == place),
+            Answer::Grey(number) => matches!(other, Answer::Grey(n) if n == number),
+            Answer::Live(words) => matches!(other, Answer::Live(n) if n == words),
+            Answer::Worn => matches!(other, Answer::Worn),
+        }
+    }
+}
+
 /// A line of a log after the first one: an action, and what it answered.
-#[derive(Clone, Copy, Debug, PartialEq, Eq)]
+#[derive(Clone, Copy, Debug)]
 pub enum LogLine {
     /// The seat began the call.
     Begin { seat: u8, call: Call },

@@ -5,10 +5,11 @@ ghost use Rattle.hk_words.specs.Geometry.{tasks};
 ghost use Rattle.hk_model.specs.History.{is_question};
 ghost use Rattle.hk_core.specs.State.{opening, flight_of};
 ghost use Rattle.hk_core.specs.Run.{begin, step, collect, is_busy, may_begin, registers_fit};
-ghost use Rattle.hk_replay.specs.Answers.{begin_line, ending_of, step_line, answer_of, action_of, answered, core_after};
+ghost use Rattle.hk_replay.specs.Answers.{begin_line, ending_of, step_line, answer_of, TellsBegin, TellsStep, action_of, answered, core_after};
+ghost use Rattle.hk_replay.specs.declared.log_line.LogLine.TheVariants.{Collect};
 
 use crate::log_line::{Answer, Ending, LogLine, Reason};
-use hk_collect::Work;
+use hk_collect::{Work, step};
 use hk_core::{Core, Fault, Memory, Outcome, Step};
 use hk_words::{Call, Geometry, Reply};
 use std::alloc::Global;
@@ -46,22 +47,14 @@ fn registers_fit(registers: u8, call: &Call) -> bool
     call.registers_fit(registers)
 }
 
-/// The line for the begin of a call.
-fn begin_line(seat: u8, call: Call, begun: Result<(), Fault>) -> Option<LogLine>
-    ensures { MatchResult begun (λ _. result ≡ begin_line seat call None) (λ fault. result ≡ begin_line seat call (Some fault)) }
+/// What a line says of the begin of a call: that it was begun, or why not; None where no line says it.
+fn begun(seat: u8, call: Call, begun: Result<(), Fault>) -> Option<Result<(), Reason>>
+    ensures { MatchResult begun (λ _. TellsBegin (begin_line seat call None) seat call result) (λ fault. TellsBegin (begin_line seat call (Some fault)) seat call result) }
 {
     match begun {
-        Ok(()) => Some(LogLine::Begin { seat, call }),
-        Err(Fault::Nil) => Some(LogLine::Fault {
-            seat,
-            call,
-            reason: Reason::Nil,
-        }),
-        Err(Fault::Field) => Some(LogLine::Fault {
-            seat,
-            call,
-            reason: Reason::Field,
-        }),
+        Ok(()) => Some(Ok(())),
+        Err(Fault::Nil) => Some(Err(Reason::Nil)),
+        Err(Fault::Field) => Some(Err(Reason::Field)),
         Err(Fault::Spent) => None,
     }
 }
@@ -80,16 +73,13 @@ fn ending_of(outcome: Outcome) -> Option<Ending>
     }
 }
 
-/// The line for a step of a seat.
-fn step_line(seat: u8, step: Step) -> Option<LogLine>
-    ensures { result ≡ step_line seat step }
+/// What a line says of a step: that the call has places left, or how it ended; None where no line says it.
+fn stepped(seat: u8, step: Step) -> Option<Option<Ending>>
+    ensures { TellsStep (step_line seat step) seat result }
 {
     match step {
-        Step::Going => Some(LogLine::Step { seat }),
-        Step::Ended(outcome) => {
-            let ending = ending_of(outcome)?;
-            Some(LogLine::End { seat, ending })
-        }
+        Step::Going => Some(None),
+        Step::Ended(outcome) => Some(Some(ending_of(outcome)?)),
     }
 }
 
@@ -152,55 +142,56 @@ impl Machine {
         registers_fit(g.registers(), call)
     }
 
-    /// A seat begins a call, where it may. The answer is the line for it, if there is one.
+    /// A seat begins a call, where it may. It tells that the call was begun, or why not.
     #[tactic(auto, unfolding(crate::specs::Answers::answered, crate::specs::Answers::core_after))]
-    pub fn begin(&mut self, seat: u8, call: Call) -> Option<LogLine>
+    pub fn begin(&mut self, seat: u8, call: Call) -> Option<Result<(), Reason>>
         ensures state { self.new ≡ core_after self.old (begin seat call) }
-        ensures answer { result ≡ answered self.old (begin seat call) }
+        ensures answer { TellsBegin (answered self.old (begin seat call)) seat call result }
     {
         if !self.may_begin(seat, &call) {
             return None;
         }
-        let begun = self.core.begin(seat, call);
-        begin_line(seat, call, begun)
+        begun(seat, call, self.core.begin(seat, call))
     }
 
-    /// A seat does a place of its call, where it has one in flight.
+    /// A seat does a place of its call, where it has one in flight. It tells that the call has places left, or how it ended.
     #[tactic(auto, unfolding(crate::specs::Answers::answered, crate::specs::Answers::core_after))]
-    pub fn step(&mut self, seat: u8) -> Option<LogLine>
+    pub fn step(&mut self, seat: u8) -> Option<Option<Ending>>
         ensures state { self.new ≡ core_after self.old (step seat) }
-        ensures answer { result ≡ answered self.old (step seat) }
+        ensures answer { TellsStep (answered self.old (step seat)) seat result }
     {
         if !self.is_busy(seat) {
             return None;
         }
-        let step = self.core.step(seat);
-        step_line(seat, step)
+        stepped(seat, self.core.step(seat))
     }
 
-    /// The collector does an event.
+    /// The collector does an event. It tells what that did.
     #[tactic(auto, unfolding(crate::specs::Answers::answered, crate::specs::Answers::core_after))]
-    pub fn collect(&mut self) -> LogLine
+    pub fn collect(&mut self) -> Answer
         ensures state { self.new ≡ core_after self.old collect }
-        ensures answer { Some result ≡ answered self.old collect }
+        ensures answer { answered self.old collect ≡ Some (Collect result) }
     {
-        let work = hk_collect::step(&mut self.core);
-        LogLine::Collect {
-            answer: answer_of(work),
-        }
+        answer_of(step(&mut self.core))
     }
 
-    /// Does the action of a line. The answer is the line for it, if there is one.
-    pub fn does(&mut self, line: &LogLine) -> Option<LogLine>
+    /// Does the action of a line, and tells whether the line is the one for it.
+    pub fn answers(&mut self, line: &LogLine) -> bool
         ensures state { self.new ≡ core_after self.old (action_of line.now) }
-        ensures answer { result ≡ answered self.old (action_of line.now) }
+        ensures answer { IsTrue result ↔ (answered self.old (action_of line.now) ≡ Some line.now) }
     {
         match *line {
-            LogLine::Begin { seat, call } | LogLine::Fault { seat, call, .. } => {
-                self.begin(seat, call)
-            }
-            LogLine::Step { seat } | LogLine::End { seat, .. } => self.step(seat),
-            LogLine::Collect { .. } => Some(self.collect()),
+            LogLine::Begin { seat, call } => matches!(self.begin(seat, call), Some(Ok(()))),
+            LogLine::Fault { seat, call, reason } => match self.begin(seat, call) {
+                Some(Err(found)) => found.is(reason),
+                Some(Ok(())) | None => false,
+            },
+            LogLine::Step { seat } => matches!(self.step(seat), Some(None)),
+            LogLine::End { seat, ending } => match self.step(seat) {
+                Some(Some(found)) => found.is(ending),
+                Some(None) | None => false,
+            },
+            LogLine::Collect { answer } => self.collect().is(answer),
         }
     }
 }

@@ -1,11 +1,11 @@
 //! A line of a log from its words.
-ghost use Rattle.std.specs.Prelude.{◌≡◌, ◌≤◌, ◌<◌, IfSome, map};
-ghost use Rattle.hk_replay.specs.Reading.{below, register_of, target_of, field_of, size_of, call_of_two, call_of_three, call_of_four, new_of, reason_of, begin_of, fault_of, plain_answer_of, answer_of, two_words, three_words, end_of, four_words, five_words, six_words, seven_words, line_of};
+ghost use Rattle.std.specs.Prelude.{◌≡◌, ◌≤◌, ◌<◌, ◌^◌, IfSome, map};
+ghost use Rattle.hk_replay.specs.Reading.{below, register_of, target_of, field_of, size_of, call_of_two, call_of_three, call_of_four, new_of, reason_of, begin_of, fault_of, plain_answer_of, answer_of, two_words, three_words, end_of, four_words, five_words, six_words, seven_words, line_of, heading_by, heading_of, IsOfHeading};
 ghost use Rattle.hk_replay.specs.Shapes.{any_shape_of, shape_of};
 
 use crate::lex::{is, number};
-use crate::log_line::{Answer, Ending, LogLine, Reason};
-use hk_words::{Call, REGISTERS, Shape, USUAL_FIELDS};
+use crate::log_line::{Answer, Ending, Heading, LogLine, Reason};
+use hk_words::{Call, Geometry, REGISTERS, Shape, USUAL_FIELDS};
 
 /// A number below a limit.
 #[tactic(auto, unfolding(crate::specs::Reading::below))]
@@ -378,4 +378,70 @@ pub fn log_line(tasks: u8, words: &[&[u8]]) -> Option<LogLine>
         [name, a, b, c, d, e, f] => seven_words(tasks, name, a, b, c, d, e, f),
         _ => None,
     }
+}
+
+/// A number of 32 bits.
+#[tactic(auto, unfolding(crate::specs::Reading::below))]
+fn wide(word: &[u8]) -> Option<u32>
+    ensures { result ≡ below (2 ^ 32) word.now }
+{
+    u32::try_from(number(word)?).ok()
+}
+
+/// The numbers of a first line, behind its name.
+#[tactic(auto, unfolding(crate::specs::Reading::heading_by))]
+fn numbers(
+    a: &[u8],
+    b: &[u8],
+    c: &[u8],
+    d: &[u8],
+    e: &[u8],
+    f: &[u8],
+    g: &[u8],
+) -> Option<Heading>
+    ensures { result ≡ heading_by a.now b.now c.now d.now e.now f.now g.now }
+{
+    Some(Heading {
+        live: wide(a)?,
+        alloc: wide(b)?,
+        reserve: wide(c)?,
+        high: size(d)?,
+        low: size(e)?,
+        refs: size(f)?,
+        nums: size(g)?,
+    })
+}
+
+/// The first line of a log, of these words.
+#[tactic(auto, unfolding(crate::specs::Reading::heading_of))]
+pub fn heading(words: &[&[u8]]) -> Option<Heading>
+    ensures { result ≡ heading_of (map (λ word. word.now) words.now) }
+{
+    match words {
+        [name, a, b, c, d, e, f, g] => {
+            if is(name, "heap") {
+                numbers(a, b, c, d, e, f, g)
+            } else {
+                None
+            }
+        }
+        _ => None,
+    }
+}
+
+/// The geometry of a first line, if its numbers are of one.
+#[tactic(auto, unfolding(crate::specs::Reading::sizes_in))]
+pub fn geometry(heading: &Heading) -> Option<Geometry>
+    ensures { IsOfHeading heading.now result }
+{
+    Geometry::new(
+        heading.live,
+        heading.alloc,
+        heading.reserve,
+        heading.high,
+        heading.low,
+        heading.refs,
+        heading.nums,
+    )
+    .ok()
 }

@@ -1,0 +1,152 @@
+-- How far the lines of a log are judged, line by line.
+use Rattle.std.proofs.Common.{◌≡◌, ◌≢◌, ℕ, ◌+◌, ◌^◌, ◌<◌, ◌≤◌, Bool, true, false, List, [], ◌∷◌, ◌++◌, length, Option, Some, None, refl, sym, ap, ◌∙◌, subst, arith, append_assoc, length-append}
+use Rattle.std.specs.Prelude.{◌↔◌, IsTrue}
+use Rattle.std.specs.List.{AllZip}
+use Rattle.std.proofs.lemmas.List.{append-nil}
+use Rattle.hk_words.specs.declared.geometry.Geometry.{Geometry}
+use Rattle.hk_words.specs.Geometry.{tasks}
+use Rattle.hk_core.specs.State.{State, opening}
+use Rattle.hk_core.specs.Run.{act}
+use Rattle.hk_collect.proofs.Running.{legal_from_opening}
+use Rattle.hk_replay.specs.declared.judge.Verdict.{Verdict}
+use Rattle.hk_replay.specs.declared.judge.Verdict.TheVariants as verdict
+use Rattle.hk_replay.specs.declared.log_line.LogLine.{LogLine}
+use Rattle.hk_replay.specs.Text.{lines_of, words_of}
+use Rattle.hk_replay.specs.Spelling.{Opens, SpellsLine}
+use Rattle.hk_replay.specs.Reading.{line_of}
+use Rattle.hk_replay.specs.Answers.{action_of, answered, core_after, run_of, AreAnswers, DiffersAt, actions_of}
+use Rattle.hk_replay.specs.Log.{IsLog, HasBadLine, IsNoLog, bad_line}
+use Rattle.hk_replay.specs.Judged.{IsWhole, IsDifferent, IsVerdict, IsVerdictOfLines}
+use Rattle.hk_replay.proofs.Runs.{act_core, run_of_more, are_more, are_none, run_none, differs_here, differs_still}
+use Rattle.hk_replay.proofs.Spelled.{text_takes, text_again}
+
+-- lines so far are the ones for their actions, or one is the first that isn't
+abbrev pub SoFar : Geometry → List LogLine → State → Option ℕ → Type 0
+SoFar g lines c None = AreAnswers g lines × (c ≡ (run_of g lines).core)
+SoFar g lines c (Some number) = DiffersAt g lines number
+
+-- of all lines behind the first one, these are left; the others are of their form, and so many lines were read with the first
+pub record Progress (g : Geometry) (all rest : List (List ℕ)) (c : State) (count : ℕ) (differing : Option ℕ) : Type 0 where
+  pub done : List (List ℕ)
+  pub lines : List LogLine
+  pub parts : all ≡ done ++ rest
+  pub spelled : AllZip (SpellsLine (tasks g)) done lines
+  pub counted : count ≡ length lines + 1
+  pub so_far : SoFar g lines c differing
+
+-- one more text, and the line that it spells
+zip_more : (n : ℕ) (ts : List (List ℕ)) (ls : List LogLine) (t : List ℕ) (l : LogLine) → AllZip (SpellsLine n) ts ls → SpellsLine n t l → AllZip (SpellsLine n) (ts ++ t ∷ []) (ls ++ l ∷ [])
+zip_more n [] [] t l h s = (s, tt)
+zip_more n [] (k ∷ ls) t l h s = absurd h
+zip_more n (u ∷ ts) [] t l h s = absurd h
+zip_more n (u ∷ ts) (k ∷ ls) t l h s = (h.0, zip_more n ts ls t l h.1 s)
+
+zip_length : (n : ℕ) (ts : List (List ℕ)) (ls : List LogLine) → AllZip (SpellsLine n) ts ls → length ts ≡ length ls
+zip_length n [] [] h = refl
+zip_length n [] (k ∷ ls) h = absurd h
+zip_length n (u ∷ ts) [] h = absurd h
+zip_length n (u ∷ ts) (k ∷ ls) h = let e = zip_length n ts ls h.1 in omega (arith, e)
+
+few_tasks : (g : Geometry) → tasks g ≤ 2 ^ 64
+few_tasks g = let few = g.tasks_few in omega arith
+
+-- at the start
+pub progress_start : (g : Geometry) (all : List (List ℕ)) (c : State) → c ≡ opening g → Progress g all all c 1 None
+progress_start g all c is = record { done = []; lines = []; parts = refl; spelled = tt; counted = refl; so_far = (are_none g, is ∙ run_none g) }
+
+module _ (g : Geometry) (all rest behind : List (List ℕ)) (text : List ℕ) (c : State) (count : ℕ) (cut : rest ≡ text ∷ behind) where
+  -- what is left begins with the text
+  at_text : (p : List (List ℕ)) → all ≡ p ++ rest → all ≡ p ++ text ∷ behind
+  at_text p e = subst (λ (r : List (List ℕ)). all ≡ p ++ r) cut e
+
+  grown : (p : List (List ℕ)) → all ≡ p ++ rest → all ≡ (p ++ text ∷ []) ++ behind
+  grown p e = at_text p e ∙ sym (append_assoc p (text ∷ []) behind)
+
+  one_more : (ls : List LogLine) (l : LogLine) → count ≡ length ls + 1 → count + 1 ≡ length (ls ++ l ∷ []) + 1
+  one_more ls l e = let n = length-append ls (l ∷ []) in omega (arith, e, n)
+
+  module _ (said : LogLine) (reads : Some said ≡ line_of (tasks g) (words_of text)) where
+    spelled_so : SpellsLine (tasks g) text said
+    spelled_so = text_takes (tasks g) text said (sym reads)
+
+    -- the line is the one for its action
+    pub progress_same : (new : State) → new ≡ core_after c (action_of said) → answered c (action_of said) ≡ Some said
+        → Progress g all rest c count None → Progress g all behind new (count + 1) None
+    progress_same new after same p = record {
+      done = p.done ++ text ∷ [];
+      lines = p.lines ++ said ∷ [];
+      parts = grown p.done p.parts;
+      spelled = zip_more (tasks g) p.done p.lines text said p.spelled spelled_so;
+      counted = one_more p.lines said p.counted;
+      so_far = (
+        are_more g p.lines said p.so_far.0 (subst (λ (s : State). answered s (action_of said) ≡ Some said) p.so_far.1 same),
+        after ∙ ap (λ (s : State). core_after s (action_of said)) p.so_far.1 ∙ sym (act_core (run_of g p.lines) (action_of said)) ∙ ap (λ r. r.core) (sym (run_of_more g p.lines said)),
+      );
+    }
+
+    -- it is the first that isn't
+    pub progress_other : (new : State) → answered c (action_of said) ≢ Some said → Progress g all rest c count None → Progress g all behind new (count + 1) (Some (count + 1))
+    progress_other new other p = record {
+      done = p.done ++ text ∷ [];
+      lines = p.lines ++ said ∷ [];
+      parts = grown p.done p.parts;
+      spelled = zip_more (tasks g) p.done p.lines text said p.spelled spelled_so;
+      counted = one_more p.lines said p.counted;
+      so_far = differs_here g p.lines said (count + 1) p.so_far.0 (subst (λ (s : State). answered s (action_of said) ≢ Some said) p.so_far.1 other) (let n = p.counted in omega arith);
+    }
+
+    -- there was one before
+    pub progress_on : (new : State) (number : ℕ) → Progress g all rest c count (Some number) → Progress g all behind new (count + 1) (Some number)
+    progress_on new number p = record {
+      done = p.done ++ text ∷ [];
+      lines = p.lines ++ said ∷ [];
+      parts = grown p.done p.parts;
+      spelled = zip_more (tasks g) p.done p.lines text said p.spelled spelled_so;
+      counted = one_more p.lines said p.counted;
+      so_far = differs_still g p.lines said number p.so_far;
+    }
+
+  -- the text is no line
+  pub progress_bad : (differing : Option ℕ) → line_of (tasks g) (words_of text) ≡ None → Progress g all rest c count differing → IsVerdictOfLines g all (verdict.Log (count + 1))
+  progress_bad differing none p = λ whole first parts opens. bad_line (record {
+    g = g;
+    lines = p.lines;
+    first = first;
+    before = p.done;
+    bad = text;
+    after' = behind;
+    parts = parts ∙ ap (λ (r : List (List ℕ)). first ∷ r) (at_text p.done p.parts);
+    opens = opens;
+    spelled = p.spelled;
+    none = λ said spells. (let e = text_again (tasks g) text said (few_tasks g) spells in absurd cc);
+    counted = (let n = p.counted in let m = zip_length (tasks g) p.done p.lines p.spelled in omega arith);
+  })
+
+-- no line is left
+module _ (g : Geometry) (all : List (List ℕ)) (c : State) (count : ℕ) where
+  log_of : (differing : Option ℕ) (p : Progress g all [] c count differing) (text first : List ℕ) → lines_of text ≡ first ∷ all → Opens first g → IsLog text g p.lines
+  log_of differing p text first parts opens = record {
+    first = first;
+    others = all;
+    parts = parts;
+    opens = opens;
+    spelled = subst (λ (ts : List (List ℕ)). AllZip (SpellsLine (tasks g)) ts p.lines) (sym (p.parts ∙ append-nil p.done)) p.spelled;
+  }
+
+  pub progress_whole : Progress g all [] c count None → IsVerdictOfLines g all (verdict.Whole count)
+  progress_whole p = λ text first parts opens. record {
+    g = g;
+    lines = p.lines;
+    log = log_of None p text first parts opens;
+    answers = p.so_far.0;
+    counted = p.counted;
+    legal = legal_from_opening g (actions_of p.lines);
+  }
+
+  pub progress_differs : (number : ℕ) → Progress g all [] c count (Some number) → IsVerdictOfLines g all (verdict.Differs number)
+  progress_differs number p = λ text first parts opens. record {
+    g = g;
+    lines = p.lines;
+    log = log_of (Some number) p text first parts opens;
+    at = p.so_far;
+  }

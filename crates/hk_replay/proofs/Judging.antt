@@ -1,6 +1,8 @@
 -- How far the lines of a log are judged, line by line.
-use Rattle.std.proofs.Common.{◌≡◌, ◌≢◌, ℕ, ◌+◌, ◌^◌, ◌<◌, ◌≤◌, Bool, true, false, List, [], ◌∷◌, ◌++◌, length, Option, Some, None, refl, sym, ap, ◌∙◌, subst, arith, append_assoc, length-append}
-use Rattle.std.specs.Prelude.{◌↔◌, IsTrue}
+use Rattle.std.proofs.Common.{◌≡◌, ◌≢◌, ℕ, ◌+◌, ◌^◌, ◌<◌, ◌≤◌, Bool, true, false, List, [], ◌∷◌, ◌++◌, length, Option, Some, None, Result, Ok, Err, refl, sym, ap, ◌∙◌, subst, arith, append_assoc, length-append}
+use Rattle.std.specs.Prelude.{is_none, is_some, not, map, IfOk}
+use Rattle.std.proofs.lemmas.Bool.{both_ways}
+use denote.Ref.{Bor}
 use Rattle.std.specs.List.{AllZip}
 use Rattle.std.proofs.lemmas.List.{append-nil}
 use Rattle.hk_words.specs.declared.geometry.Geometry.{Geometry}
@@ -13,9 +15,10 @@ use Rattle.hk_replay.specs.declared.judge.Verdict.TheVariants as verdict
 use Rattle.hk_replay.specs.declared.log_line.LogLine.{LogLine}
 use Rattle.hk_replay.specs.Text.{lines_of, words_of}
 use Rattle.hk_replay.specs.Spelling.{Opens, SpellsLine}
-use Rattle.hk_replay.specs.Reading.{line_of}
+use Rattle.hk_replay.specs.declared.log_line.Heading.{Heading}
+use Rattle.hk_replay.specs.Reading.{line_of, heading_of}
 use Rattle.hk_replay.specs.Answers.{action_of, answered, core_after, run_of, AreAnswers, DiffersAt, actions_of}
-use Rattle.hk_replay.specs.Log.{IsLog, HasBadLine, IsNoLog, bad_line}
+use Rattle.hk_replay.specs.Log.{IsLog, HasBadLine, IsNoLog, no_opening, bad_line}
 use Rattle.hk_replay.specs.Judged.{IsWhole, IsDifferent, IsVerdict, IsVerdictOfLines}
 use Rattle.hk_replay.proofs.Runs.{act_core, run_of_more, are_more, are_none, run_none, differs_here, differs_still}
 use Rattle.hk_replay.proofs.Spelled.{text_takes, text_again}
@@ -150,3 +153,67 @@ module _ (g : Geometry) (all : List (List ℕ)) (c : State) (count : ℕ) where
     log = log_of (Some number) p text first parts opens;
     at = p.so_far;
   }
+
+-- as the loop over the lines takes them
+module _ (g : Geometry) (all rest behind : List (List ℕ)) (text : List ℕ) (c : State) (count : ℕ) (cut : rest ≡ text ∷ behind) (said : LogLine) (reads : Some said ≡ line_of (tasks g) (words_of text)) where
+  pub step_other : (differing : Option ℕ) (new : State) → is_none differing ≡ true → answered c (action_of said) ≢ Some said → Progress g all rest c count differing → Progress g all behind new (count + 1) (Some (count + 1))
+  step_other None new none other p = progress_other g all rest behind text c count cut said reads new other p
+  step_other (Some n) new none other p = absurd cc
+
+  pub step_same : (differing : Option ℕ) (new : State) → is_none differing ≡ true → new ≡ core_after c (action_of said) → answered c (action_of said) ≡ Some said → Progress g all rest c count differing → Progress g all behind new (count + 1) differing
+  step_same None new none after same p = progress_same g all rest behind text c count cut said reads new after same p
+  step_same (Some n) new none after same p = absurd cc
+
+  pub step_on : (differing : Option ℕ) (new : State) → is_none differing ≡ false → Progress g all rest c count differing → Progress g all behind new (count + 1) differing
+  step_on None new none p = absurd cc
+  step_on (Some n) new none p = progress_on g all rest behind text c count cut said reads new n p
+
+-- an empty text has no lines
+pub no_lines : (text : List ℕ) → length text ≡ 0 → lines_of text ≡ []
+unfolding lines_of
+no_lines [] e = refl
+no_lines (x ∷ xs) e = absurd (omega (arith, e))
+
+pub ends_differing : (g : Geometry) (all rest : List (List ℕ)) (c : State) (count number : ℕ) (differing : Option ℕ) → rest ≡ [] → differing ≡ Some number → Progress g all rest c count differing → IsVerdictOfLines g all (verdict.Differs number)
+ends_differing g all rest c count number differing none is p =
+    progress_differs g all c count number (subst (λ (d : Option ℕ). Progress g all [] c count d) is (subst (λ (r : List (List ℕ)). Progress g all r c count differing) none p))
+
+pub ends_whole : (g : Geometry) (all rest : List (List ℕ)) (c : State) (count : ℕ) (differing : Option ℕ) → rest ≡ [] → differing ≡ None → Progress g all rest c count differing → IsVerdictOfLines g all (verdict.Whole count)
+ends_whole g all rest c count differing none is p =
+    progress_whole g all c count (subst (λ (d : Option ℕ). Progress g all [] c count d) is (subst (λ (r : List (List ℕ)). Progress g all r c count differing) none p))
+
+-- a text without a first line that opens a log
+pub no_opening_at : (text : List ℕ) → ((first : List ℕ) (others : List (List ℕ)) (g : Geometry) → lines_of text ≡ first ∷ others → ¬ (Opens first g)) → IsNoLog text 1
+no_opening_at text none = no_opening (record { none = none }) refl
+
+first_is : (a b : List ℕ) (xs ys : List (List ℕ)) → a ∷ xs ≡ b ∷ ys → a ≡ b
+first_is a b xs ys e = cc
+
+pub none_empty : (text : List ℕ) → length text ≡ 0 → IsNoLog text 1
+none_empty text e = no_opening_at text (λ first others g is opens. (let n = no_lines text e in absurd cc))
+
+pub none_at : (text here : List ℕ) (behind : List (List ℕ)) → lines_of text ≡ here ∷ behind → ((g : Geometry) → Opens here g → ⊥) → IsNoLog text 1
+none_at text here behind cut none = no_opening_at text (λ first others g is opens. none g (subst (λ (t : List ℕ). Opens t g) (first_is first here others behind (sym is ∙ cut)) opens))
+
+-- ---- words that are read
+
+pub read_as : (n m : ℕ) (shared items : List (Bor (List ℕ))) (text : List ℕ) (o : Option LogLine) → o ≡ line_of m (map (λ w. w.now) shared) → m ≡ n → shared ≡ items → map (λ w. w.now) items ≡ words_of text → o ≡ line_of n (words_of text)
+read_as n m shared items text o e same is words =
+    e ∙ ap (λ k. line_of k (map (λ w. w.now) shared)) same ∙ ap (λ (b : List (Bor (List ℕ))). line_of n (map (λ w. w.now) b)) is ∙ ap (line_of n) words
+
+pub heading_as : (shared items : List (Bor (List ℕ))) (text : List ℕ) (o : Option Heading) → o ≡ heading_of (map (λ w. w.now) shared) → shared ≡ items → map (λ w. w.now) items ≡ words_of text → o ≡ heading_of (words_of text)
+heading_as shared items text o e is words = e ∙ ap (λ (b : List (Bor (List ℕ))). heading_of (map (λ w. w.now) b)) is ∙ ap heading_of words
+
+-- a test of an option
+pub some_if : (differing : Option ℕ) (none : Bool) → is_some differing ≡ not none → none ≡ true → is_none differing ≡ true
+some_if None none e t = refl
+some_if (Some n) none e t = absurd (let f : not none ≡ false = rw t refl in both_ways true (e ∙ f) refl)
+
+pub some_unless : (differing : Option ℕ) (none : Bool) → is_some differing ≡ not none → none ≡ false → is_none differing ≡ false
+some_unless None none e t = absurd (let f : not none ≡ true = rw t refl in both_ways false refl (e ∙ f))
+some_unless (Some n) none e t = refl
+
+-- the first line opens the log of the others
+pub verdict_if : {E : Type 0} (text first : List ℕ) (others : List (List ℕ)) (g : Geometry) (r : Result Verdict E) → lines_of text ≡ first ∷ others → Opens first g → IfOk r (IsVerdictOfLines g others) → IfOk r (IsVerdict text)
+verdict_if text first others g (Ok v) cut opens h = h text first cut opens
+verdict_if text first others g (Err e) cut opens h = tt

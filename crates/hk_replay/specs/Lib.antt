@@ -5,3 +5,6 @@ pub mod Reading
 pub mod Answers
 pub mod Log
 pub mod Judged
+pub mod Printing
+pub mod Making
+pub mod Tool

@@ -175,6 +175,28 @@ impl Machine {
         answer_of(step(&mut self.core))
     }
 
+    /// A seat begins a call, where it may. The answer is the line for it, if there is one.
+    pub fn begin_line(&mut self, seat: u8, call: Call) -> Option<LogLine>
+        ensures state { self.new ≡ core_after self.old (begin seat call) }
+        ensures answer { result ≡ answered self.old (begin seat call) }
+    {
+        match self.begin(seat, call)? {
+            Ok(()) => Some(LogLine::Begin { seat, call }),
+            Err(reason) => Some(LogLine::Fault { seat, call, reason }),
+        }
+    }
+
+    /// A seat does a place of its call, where it has one in flight. The answer is the line for it, if there is one.
+    pub fn step_line(&mut self, seat: u8) -> Option<LogLine>
+        ensures state { self.new ≡ core_after self.old (step seat) }
+        ensures answer { result ≡ answered self.old (step seat) }
+    {
+        match self.step(seat)? {
+            None => Some(LogLine::Step { seat }),
+            Some(ending) => Some(LogLine::End { seat, ending }),
+        }
+    }
+
     /// Does the action of a line, and tells whether the line is the one for it.
     pub fn answers(&mut self, line: &LogLine) -> bool
         ensures state { self.new ≡ core_after self.old (action_of line.now) }

@@ -62,3 +62,7 @@ by_test refs nums s false t h = absurd cc
 pub shape_numbers : (refs nums : ℕ) (s : Shape) → shape_of refs nums ≡ Some s → HasFields s refs nums
 unfolding shape_of
 shape_numbers refs nums s h = by_test refs nums s (nat_le (refs + nums) USUAL_FIELDS) refl h
+
+-- shapes with the same numbers of fields are the same
+pub same_shape : (s t : Shape) → s.refs ≡ t.refs → s.nums ≡ t.nums → s ≡ t
+same_shape s t r n = some_is s t (sym (any_shape_of_own s) ∙ ap (λ (k : ℕ). any_shape_of k s.nums) r ∙ ap (λ (k : ℕ). any_shape_of t.refs k) n ∙ any_shape_of_own t)

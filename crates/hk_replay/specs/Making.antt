@@ -19,7 +19,7 @@ abbrev pub drawn : (limit state : ℕ) → ℕ
 drawn limit state = state / 2 ^ 33 % limit
 
 -- a shape of below 3 reference fields, and 1 or 2 number fields
-pub drawn_shape : (refs nums : ℕ) → Shape
+unfoldable pub drawn_shape : (refs nums : ℕ) → Shape
 drawn_shape refs nums = record { refs = drawn 3 refs; nums = 1 + drawn 2 nums; some = omega arith; few = omega arith }
 
 -- A CALL, by its kind and the states after the draws of its words, in their order

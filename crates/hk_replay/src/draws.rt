@@ -43,6 +43,16 @@ impl Draws {
         1 + self.small(3)
     }
 
+    /// The shape of an object of below 3 reference fields and 1 or 2 number fields.
+    fn shape(&mut self) -> Shape
+        ensures state { self.new.state ≡ drawn_state (drawn_state self.old.state) }
+        ensures value { result ≡ drawn_shape (drawn_state self.old.state) (drawn_state (drawn_state self.old.state)) }
+    {
+        let refs = self.small(3);
+        let nums = 1 + self.small(2);
+        Shape { refs, nums }
+    }
+
     /// A call: its kind, and then its words in their order.
     #[tactic(auto, unfolding(crate::specs::Making::call_drawn, crate::specs::Making::after_call, crate::specs::Making::call_by, crate::specs::Making::state_by))]
     pub fn call(&mut self) -> Call
@@ -76,15 +86,10 @@ impl Draws {
             5 => Call::Clear {
                 dest: self.target(),
             },
-            _ => {
-                let dest = self.target();
-                let refs = self.small(3);
-                let nums = 1 + self.small(2);
-                Call::New {
-                    dest,
-                    shape: Shape { refs, nums },
-                }
-            }
+            _ => Call::New {
+                dest: self.target(),
+                shape: self.shape(),
+            },
         }
     }
 }

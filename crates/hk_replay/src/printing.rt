@@ -214,7 +214,13 @@ pub fn heading_line() -> Line
     ensures { result ≡ made_heading }
 {
     let mut line = Line::new();
-    add_word(&mut line, b"heap 64 64 16 2 1 2 1");
+    add_named(&mut line, b"heap", 64);
+    add_number(&mut line, 64);
+    add_number(&mut line, 16);
+    add_number(&mut line, 2);
+    add_number(&mut line, 1);
+    add_number(&mut line, 2);
+    add_number(&mut line, 1);
     end(&mut line);
     line
 }

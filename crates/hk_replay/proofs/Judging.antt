@@ -50,7 +50,7 @@ zip_length n [] (k ∷ ls) h = absurd h
 zip_length n (u ∷ ts) [] h = absurd h
 zip_length n (u ∷ ts) (k ∷ ls) h = let e = zip_length n ts ls h.1 in omega (arith, e)
 
-few_tasks : (g : Geometry) → tasks g ≤ 2 ^ 64
+pub few_tasks : (g : Geometry) → tasks g ≤ 2 ^ 64
 few_tasks g = let few = g.tasks_few in omega arith
 
 -- at the start

@@ -7,3 +7,5 @@ mod Spelled
 mod Runs
 mod Openings
 mod Judging
+mod OneVerdict
+mod ToolLemmas

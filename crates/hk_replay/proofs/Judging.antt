@@ -21,6 +21,7 @@ use Rattle.hk_replay.specs.Answers.{action_of, answered, core_after, run_of, Are
 use Rattle.hk_replay.specs.Log.{IsLog, HasBadLine, IsNoLog, no_opening, bad_line}
 use Rattle.hk_replay.specs.Judged.{IsWhole, IsDifferent, IsVerdict, IsVerdictOfLines}
 use Rattle.hk_replay.proofs.Runs.{act_core, run_of_more, are_more, are_none, run_none, differs_here, differs_still}
+use Rattle.hk_replay.proofs.PlainReplies.{replies_of_plain}
 use Rattle.hk_replay.proofs.Spelled.{text_takes, text_again}
 
 -- lines so far are the ones for their actions, or one is the first that isn't
@@ -144,6 +145,7 @@ module _ (g : Geometry) (all : List (List ℕ)) (c : State) (count : ℕ) where
     answers = p.so_far.0;
     counted = p.counted;
     legal = legal_from_opening g (actions_of p.lines);
+    replies = replies_of_plain g p.lines p.so_far.0;
   }
 
   pub progress_differs : (number : ℕ) → Progress g all [] c count (Some number) → IsVerdictOfLines g all (verdict.Differs number)

@@ -5,6 +5,8 @@ mod Lines
 mod Calls
 mod Spelled
 mod Runs
+mod Flown
+mod PlainReplies
 mod Openings
 mod Judging
 mod OneVerdict

@@ -7,11 +7,13 @@ use Rattle.hk_replay.specs.declared.judge.Verdict.{Verdict}
 use Rattle.hk_replay.specs.declared.judge.Verdict.TheVariants as verdict
 use Rattle.hk_replay.specs.declared.log_line.LogLine.{LogLine}
 use Rattle.hk_replay.specs.Answers.{AreAnswers, DiffersAt, run_of}
+use Rattle.hk_replay.specs.PlainReplies.{AreRepliesOfPlain}
 use Rattle.hk_replay.specs.Log.{IsLog, IsNoLog}
 use Rattle.hk_replay.specs.Spelling.{Opens}
 use Rattle.hk_replay.specs.Text.{lines_of}
 
--- the text is a log of so many lines, each of which is the one for its action. Then the history of the run is legal
+-- the text is a log of so many lines, each of which is the one for its action. Then the history of the run is legal, and each
+-- line that ends a call says what the plain heap replies
 pub record IsWhole (text : List ℕ) (count : ℕ) : Type 0 where
   pub g : Geometry
   pub lines : List LogLine
@@ -19,6 +21,7 @@ pub record IsWhole (text : List ℕ) (count : ℕ) : Type 0 where
   pub answers : AreAnswers g lines
   pub counted : count ≡ length lines + 1
   pub legal : Legal (opening_of g) (run_of g lines).history
+  pub replies : AreRepliesOfPlain g lines
 
 -- the text is a log, and the line of this number is the first that isn't the one for its action
 pub record IsDifferent (text : List ℕ) (number : ℕ) : Type 0 where

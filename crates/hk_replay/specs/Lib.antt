@@ -3,6 +3,7 @@ pub mod Shapes
 pub mod Spelling
 pub mod Reading
 pub mod Answers
+pub mod PlainReplies
 pub mod Log
 pub mod Judged
 pub mod Printing

@@ -11,6 +11,8 @@ mod make;
 mod printing;
 mod reading;
 mod replayed;
+#[cfg(test)]
+mod tests;
 mod tool;
 
 use hk_io::{StdSink, StdSource};

@@ -28,6 +28,7 @@ pub mod Actions
 pub mod Seven
 pub mod Unused
 pub mod Room
+pub mod RefusedPlain
 pub mod Turns
 pub mod Replied
 pub mod Entries

@@ -1,4 +1,7 @@
 //! Logs worked out by hand.
+mod spoiled;
+mod kinds;
+
 use crate::replayed::Replayed;
 use crate::tool::run_replay;
 use hk_io::{MemSink, MemSource};
@@ -108,7 +111,7 @@ fn what_was_made_is_a_log(rt: HostRuntime) -> Result<(), Fail> {
     assert_eq!(rt; made.source.calls(), 0);
     let ended = run(alloc, &["check"], made.sink.bytes(), (&[], &[]), 100)?;
     assert_eq!(rt; ended.replayed, Replayed::Done);
-    assert_eq!(rt; ended.sink.bytes(), b"ok 20001\n");
+    assert_eq!(rt; ended.sink.bytes(), "ok 20001\n".as_bytes());
     Ok(())
 }
 
@@ -160,7 +163,7 @@ fn other_words(rt: HostRuntime) -> Result<(), Fail> {
         let ended = run(rt.alloc(), words, FIRST.as_bytes(), (&[0], &[]), 100)?;
         assert_eq!(rt; ended.replayed, Replayed::Usage);
         assert_eq!(rt; ended.source.calls(), 0);
-        assert_eq!(rt; ended.sink.bytes(), b"usage: hk_replay check, make N\n");
+        assert_eq!(rt; ended.sink.bytes(), "usage: hk_replay check, make N\n".as_bytes());
     }
     Ok(())
 }

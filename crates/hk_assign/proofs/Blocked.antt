@@ -24,18 +24,18 @@ blocked_before timings set before task timed blocked in_time each z among =
     elim (each z among) [
       | inl first ↦ first
       | inr here ↦
-        let member : Contains set task = subst (Contains set) (sym here) among in
-        let within : task < length timings = All-contains (λ (t : ℕ). t < length timings) set task blocked.within member in
-        let part : (w : ℕ) → Contains (others set task) w → Contains before w =
-            λ w h. let both = among_others set task w h in
-            elim (each w both.0) [
-              | inl first ↦ first
-              | inr same ↦ absurd (both.1 (sym same))
-            ] in
-        absurd (blocked.none task member
-            (fewer timings (others set task) before task (costs timings task timed within)
-            (λ window. part-le (asks timings window) (others set task) before (different_others set task (rising_differ set blocked.rising)) part)
-            in_time))
+          let member : Contains set task = subst (Contains set) (sym here) among in
+          let within : task < length timings = All-contains (λ (t : ℕ). t < length timings) set task blocked.within member in
+          let part : (w : ℕ) → Contains (others set task) w → Contains before w =
+          λ w h. let both = among_others set task w h in
+          elim (each w both.0) [
+            | inl first ↦ first
+            | inr same ↦ absurd (both.1 (sym same))
+          ] in
+          absurd (blocked.none task member
+          (fewer timings (others set task) before task (costs timings task timed within)
+          (λ window. part-le (asks timings window) (others set task) before (different_others set task (rising_differ set blocked.rising)) part)
+          in_time))
     ]
 
 -- the first so many and one more
@@ -51,7 +51,7 @@ within_first timings set order timed blocked keeps (suc left) short each z among
     within_first timings set order timed blocked keeps left (omega arith)
     (blocked_before timings set (take left order) (slice_index order left) timed blocked (keeps.each left (omega arith))
     (λ w h. Contains-push_cases (take left order) (slice_index order left) w
-        (subst (λ (l : List ℕ). Contains l w) (take_next order left (omega arith)) (each w h))))
+    (subst (λ (l : List ℕ). Contains l w) (take_next order left (omega arith)) (each w h))))
     z among
 
 -- so where there is such a set, no order keeps deadlines
@@ -59,7 +59,7 @@ pub no_order : (timings : List Timing) (set : List ℕ) → All IsTimed timings 
 no_order timings set timed stuck order keeps =
     within_first timings set order timed stuck.blocked keeps (length order) (omega arith)
     (λ z among.
-        let within : z < length timings = All-contains (λ (t : ℕ). t < length timings) set z stuck.blocked.within among in
-        subst (λ (l : List ℕ). Contains l z) (sym (take_all (length order) order (omega arith)))
-        (Contains-permutation (range_with_len 0 (length timings)) order z keeps.is_order (is_index (length timings) z within)))
+    let within : z < length timings = All-contains (λ (t : ℕ). t < length timings) set z stuck.blocked.within among in
+    subst (λ (l : List ℕ). Contains l z) (sym (take_all (length order) order (omega arith)))
+    (Contains-permutation (range_with_len 0 (length timings)) order z keeps.is_order (is_index (length timings) z within)))
     (slice_index set 0) (Contains-get_or set 0 0 stuck.some)

@@ -63,9 +63,11 @@ least_ends timings before task bound some l =
     let holds = room_gives ((timing_at timings task).cost + sum_by (asks timings l.n) before) l.n l.passes in
     let needed : ℕ = (timing_at timings task).cost + sum_by (asks timings l.n) before in
     elim (cases_lt needed l.n) [
-      | inl less ↦ absurd (omega (arith,
-          no_room ((timing_at timings task).cost + sum_by (asks timings needed) before) needed (l.below needed less) (omega arith),
-          asks_grow timings before needed l.n (omega (arith, holds.1))))
+      | inl less ↦ absurd (omega (
+        arith,
+        no_room ((timing_at timings task).cost + sum_by (asks timings needed) before) needed (l.below needed less) (omega arith),
+        asks_grow timings before needed l.n (omega (arith, holds.1)),
+      ))
       | inr past ↦ record { positive = holds.0; balanced = omega (arith, holds.1) }
     ]
 
@@ -75,8 +77,11 @@ least_is timings before task bound some l = record {
   least = λ m solves.
       let ends = ends_from timings before task m solves in
       elim (cases_lt m l.n) [
-        | inl less ↦ absurd (omega (arith, ends.balanced,
-            no_room ((timing_at timings task).cost + sum_by (asks timings m) before) m (l.below m less) ends.positive))
+        | inl less ↦ absurd (omega (
+          arith,
+          ends.balanced,
+          no_room ((timing_at timings task).cost + sum_by (asks timings m) before) m (l.below m less) ends.positive,
+        ))
         | inr past ↦ past
       ];
 }

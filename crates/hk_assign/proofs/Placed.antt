@@ -47,20 +47,20 @@ pub all_permuted : (timings : List Timing) (xs ys placed : List ℕ) → ((z : �
 all_permuted timings xs ys [] some h are = tt
 all_permuted timings xs ys (task ∷ rest) some h are = (
   placed_permuted timings xs ys task
-  (λ z among. elim among [
-    | inl before ↦ some z (inl before)
-    | inr here ↦ some z (inr (zero, omega arith, here))
-  ])
-  h are.0,
+      (λ z among. elim among [
+        | inl before ↦ some z (inl before)
+        | inr here ↦ some z (inr (zero, omega arith, here))
+      ])
+      h are.0,
   all_permuted timings (xs ++ task ∷ []) (ys ++ task ∷ []) rest
-  (λ z among. elim among [
-    | inl first ↦ elim (Contains-push_cases ys task z first) [
-      | inl before ↦ some z (inl before)
-      | inr here ↦ some z (inr (zero, omega arith, here))
-    ]
-    | inr later ↦ some z (inr (suc later.0, omega (arith, later.1), later.2))
-  ])
-  (IsPermutation-append_left (task ∷ []) xs ys h) are.1,
+      (λ z among. elim among [
+        | inl first ↦ elim (Contains-push_cases ys task z first) [
+          | inl before ↦ some z (inl before)
+          | inr here ↦ some z (inr (zero, omega arith, here))
+        ]
+        | inr later ↦ some z (inr (suc later.0, omega (arith, later.1), later.2))
+      ])
+      (IsPermutation-append_left (task ∷ []) xs ys h) are.1,
 )
 
 -- THE LAST FIT IS PLACED
@@ -90,8 +90,7 @@ none_greater timings free place rising fit other among last =
 pub one_more : (timings : List Timing) (free placed : List ℕ) (place : ℕ) → ((z : ℕ) → Contains free z ⊎ Contains placed z → Costs timings z) → IsStrictlyIncreasing free → IsLastFit timings free place → ArePlaced timings free placed → ArePlaced timings (remove free place) (slice_index free place ∷ placed)
 one_more timings free placed place some rising fit are =
     let turns = to_the_end free place fit.within in
-    let back = IsPermutation-sym free (turned free place) turns in
-    (
+    let back = IsPermutation-sym free (turned free place) turns in (
       record {
         in_time = fit.fits;
         greatest = λ other among last.
@@ -100,11 +99,11 @@ one_more timings free placed place some rising fit are =
             (last_permuted timings (turned free place) free other (some other (inl member)) back last);
       },
       all_permuted timings free (turned free place) placed
-      (λ z among. elim among [
-        | inl member ↦ some z (inl (Contains-permutation (turned free place) free z back member))
-        | inr later ↦ some z (inr later)
-      ])
-      turns are,
+          (λ z among. elim among [
+            | inl member ↦ some z (inl (Contains-permutation (turned free place) free z back member))
+            | inr later ↦ some z (inr later)
+          ])
+          turns are,
     )
 
 -- and each blocked set is one of those that are left
@@ -112,8 +111,8 @@ pub blocked_left : (timings : List Timing) (free : List ℕ) (place : ℕ) → A
 blocked_left timings free place timed fit kept set blocked k d within =
     blocked_before timings set (remove free place) (slice_index free place) timed blocked fit.fits
     (λ z among. Contains-push_cases (remove free place) (slice_index free place) z
-        (Contains-permutation free (turned free place) z (to_the_end free place fit.within)
-        (All-contains (Contains free) set z (kept set blocked) among)))
+    (Contains-permutation free (turned free place) z (to_the_end free place fit.within)
+    (All-contains (Contains free) set z (kept set blocked) among)))
     (get_or set k d) (Contains-get_or set k d within)
 
 -- where none of the free tasks fits they are stuck

@@ -71,7 +71,7 @@ part-le f (x ∷ xs) ys different among =
     let at = among x (is_first x xs) in
     let within : at.0 < length ys = at.1 in
     let rest = part-le f xs (remove ys at.0) different.1
-        (λ z h. left_over ys at.0 x z within (sym at.2) (among z (in_rest x xs z h)) (λ same. different.0 (subst (λ (n : ℕ). Contains xs n) same h))) in
+    (λ z h. left_over ys at.0 x z within (sym at.2) (among z (in_rest x xs z h)) (λ same. different.0 (subst (λ (n : ℕ). Contains xs n) same h))) in
     let whole = sum_by-IsPermutation f ys (x ∷ remove ys at.0) (IsPermutation-remove ys at.0 x within (sym at.2)) in
     omega (arith, rest, whole, sum_by-cons f x xs, sum_by-cons f x (remove ys at.0))
 

@@ -8,3 +8,6 @@ mod placing;
 
 pub use assignment::assign;
 pub use order::{Order, Stuck};
+
+#[cfg(test)]
+mod tests;

@@ -48,6 +48,13 @@ impl Order {
         Order { tasks, count }
     }
 
+    /// How many tasks there are.
+    pub fn len(&self) -> usize
+        ensures { result ≡ length self.now }
+    {
+        self.count
+    }
+
     /// The task at a place, by its index.
     pub fn at(&self, place: u8) -> u8
         requires { place < length self.now }

@@ -1,11 +1,25 @@
 -- Sums over the places below a bound.
-use Rattle.std.proofs.Common.{◌≡◌, ℕ, zero, suc, ◌+◌, ◌*◌, ◌<◌, ◌≤◌, Bool, true, false, cond, refl, sym, subst, arith, inl, inr}
+use Rattle.std.proofs.Common.{◌≡◌, ◌∙◌, ℕ, zero, suc, ◌+◌, ◌*◌, ◌<◌, ◌≤◌, Bool, true, false, cond, refl, sym, ap, subst, List, length, take, get_or, arith, inl, inr}
+use Rattle.std.specs.List.{sum_by}
+use Rattle.std.proofs.lemmas.List.{take_all}
+use Rattle.std.proofs.lemmas.List.Sums.{sum_by_more}
 use Rattle.std.proofs.lemmas.Bool.{cases_eq}
 
 -- the sum of f over the places below n
 abbrev pub total : (ℕ → ℕ) → ℕ → ℕ
 total f zero = 0
 total f (suc n) = total f n + f n
+
+-- a sum over a list is that over its places
+sum_of_first : {X : Type 0} (f : X → ℕ) (xs : List X) (d : X) (n : ℕ) → n ≤ length xs → sum_by f (take n xs) ≡ total (λ k. f (get_or xs k d)) n
+sum_of_first f xs d zero within = refl
+sum_of_first f xs d (suc n) within =
+    let next : suc n ≡ n + 1 = omega arith in
+    ap (λ (k : ℕ). sum_by f (take k xs)) next ∙ sum_by_more f xs n d (omega arith) ∙ ap (λ (s : ℕ). s + f (get_or xs n d)) (sum_of_first f xs d n (omega arith))
+
+pub sum_is_total : {X : Type 0} (f : X → ℕ) (xs : List X) (d : X) → sum_by f xs ≡ total (λ k. f (get_or xs k d)) (length xs)
+sum_is_total f xs d =
+    ap (sum_by f) (sym (take_all (length xs) xs (omega arith))) ∙ sum_of_first f xs d (length xs) (omega arith)
 
 -- a number where a test passes, else nothing
 abbrev pub pick : Bool → ℕ → ℕ

@@ -1,12 +1,15 @@
 -- What is reserved is the words of births that were in use; so it is more than the words for evacuation only where more were live.
 use Rattle.std.proofs.Common.{◌≡◌, ℕ, zero, suc, ◌<◌, List, [], ◌∷◌, length, get_or, inl, inr, refl, sym, subst, ◌∙◌, ap, arith, Some}
+use Rattle.std.proofs.lemmas.List.Elements.{All-weaker, All-contains_itself}
 use Rattle.std.proofs.lemmas.List.Sums.{sum_by-cons}
 use Rattle.std.specs.Prelude.{Contains, sum_by}
 use Rattle.hk_words.specs.declared.geometry.Geometry.{Geometry}
+use Rattle.hk_words.specs.Geometry.{tasks}
 use Rattle.hk_words.specs.Row.{W1, word_of}
 use Rattle.hk_model.specs.Heap.{opening_of}
 use Rattle.hk_model.specs.History.{after, bearer, number_of}
 use Rattle.hk_model.proofs.Histories.{bearer_is_last}
+use Rattle.hk_model.proofs.Lives.{within_live}
 use Rattle.hk_core.specs.declared.spot.Work.TheVariants.{LiveOver}
 use Rattle.hk_core.specs.Collect.{work_by_collector}
 use Rattle.hk_core.specs.Reach.{Reached, in_register, in_cell, words_of_birth}
@@ -105,9 +108,13 @@ module _ (r : Trace) (o : InUse r) where
       let counts = u.counts in
       let over = cause.over in
       let reserved = cause.reserved in
+      let all_reached = All-weaker (Contains u.births) (Reached r.running.core.geometry (after (opening_of r.running.core.geometry) r.at_flip)) reached u.births (All-contains_itself u.births) in
       record {
         found = over;
-        live = record { births = u.births; distinct = u.distinct; reached = reached; more = omega (arith, same, counts, over, reserved) };
+        exceeds = record { births = u.births; distinct = u.distinct; reached = reached; more = omega (arith, same, counts, over, reserved) };
+        more_live = λ live is_live.
+            let most = within_live (tasks r.running.core.geometry) r.running.core.geometry.registers (after (opening_of r.running.core.geometry) r.at_flip) live u.births is_live u.distinct all_reached in
+            omega (arith, same, counts, over, reserved, most);
       }
 
 -- THE LAWS

@@ -1,8 +1,7 @@
 -- The births since the flip are young or late: a New that raised W0 in this cycle is none of those that had raised it at the
 -- flip. And a birth keeps its shape as the history grows.
-use Rattle.std.proofs.Common.{◌≡◌, ◌⊎◌, ℕ, ◌<◌, ◌≤◌, Bool, true, false, ◌++◌, inl, inr, refl, sym, ◌∙◌, ap, arith, Option, Some, None}
+use Rattle.std.proofs.Common.{◌≡◌, ◌⊎◌, ℕ, ◌<◌, ◌≤◌, Bool, true, false, ◌++◌, inl, inr, refl, sym, ◌∙◌, ap, arith, Option, Some}
 use Rattle.std.proofs.lemmas.Bool.{cases_Bool, cases_eq, cases_lt, and_left}
-use Rattle.std.proofs.lemmas.List.{append-nil}
 use Rattle.std.specs.Prelude.{not, ◌&&◌, option_to_list}
 use Rattle.hk_words.specs.declared.geometry.Geometry.{Geometry}
 use Rattle.hk_words.specs.declared.call.Call.{Call}
@@ -14,14 +13,11 @@ use Rattle.hk_words.specs.Layout as layout
 use Rattle.hk_words.specs.Shape.{size}
 use Rattle.hk_words.specs.Row.{w0_at, word_of}
 use Rattle.hk_words.specs.Row.Slot.{W0}
-use Rattle.hk_model.specs.Heap.{Heap, of_object, born, refs, nums, register, link, opening_of}
-use Rattle.hk_model.specs.History.{Entry, History, is_refused, after_entry, after}
-use Rattle.hk_model.specs.Replies.{heap_after, has_number, has_reference, with_register, with_link, with_value, with_object}
+use Rattle.hk_model.specs.Heap.{born, opening_of}
+use Rattle.hk_model.specs.History.{Entry, History, after}
 use Rattle.hk_model.specs.View.{upd}
-use Rattle.hk_model.proofs.Heaps.{entering_all}
-use Rattle.hk_model.proofs.Histories.{after-push}
+use Rattle.hk_model.proofs.Lasting.{lasts_longer}
 use Rattle.hk_model.proofs.Updates.{upd_same, upd_other}
-use Rattle.hk_model.proofs.Views.{of_object-with_link, of_object-with_value, of_object-with_object}
 use Rattle.hk_core.specs.declared.event.Event.TheVariants as event
 use Rattle.hk_core.specs.declared.flight.Flight.{Flight}
 use Rattle.hk_core.specs.Event.{learnt, old_of}
@@ -36,7 +32,6 @@ use Rattle.hk_core.proofs.Next.{flight_at-next}
 use Rattle.hk_core.proofs.Places.{takes_next, takes_last}
 use Rattle.hk_core.proofs.Shared.{never}
 use Rattle.hk_core.proofs.kinds.Seats.{idle_makes_nothing}
-use Rattle.hk_collect.proofs.Small.{by_test}
 
 -- WHO HAS RAISED W0
 
@@ -161,50 +156,11 @@ module _ (c : State) (history : History) (raised : ℕ → Bool) (h : Lawful c h
 
 -- SHAPES
 
--- what is read of the shape of a birth that there is stays as it is through an entry
-module _ (read : Shape → ℕ) (h : Heap) (b : ℕ) (there : b < born h) where
-  abbrev Reads : Heap → Type 0
-  Reads k = of_object 0 (λ object. read object.shape) k b ≡ of_object 0 (λ object. read object.shape) h b
-
-  with_link_reads : (birth field : ℕ) (v : Option ℕ) → Reads (with_link h birth field v)
-  with_link_reads birth field v = ap (λ f. f b) (of_object-with_link 0 (λ object. read object.shape) h birth field v (λ o. refl))
-
-  with_value_reads : (birth field v : ℕ) → Reads (with_value h birth field v)
-  with_value_reads birth field v = ap (λ f. f b) (of_object-with_value 0 (λ object. read object.shape) h birth field v (λ o. refl))
-
-  with_object_reads : (shape : Shape) → Reads (with_object h shape)
-  with_object_reads shape =
-      ap (λ f. f b) (of_object-with_object 0 (λ object. read object.shape) h shape)
-      ∙ upd_other (of_object 0 (λ object. read object.shape) h) (born h) _ b (λ e. absurd (omega (arith, e, there)))
-
-  call_reads : (seat : ℕ) (call' : Call) → Reads (heap_after h seat call')
-  unfolding heap_after with_register of_object
-  call_reads seat (call.Get reg field) = refl
-  call_reads seat (call.Put reg field number) =
-      entering_all Reads (register h seat reg) (has_number h field) h h (λ birth. with_value h birth field number) refl refl (λ birth. with_value_reads birth field number)
-  call_reads seat (call.Load dest reg field) =
-      entering_all Reads (register h seat reg) (has_reference h field) h h (λ birth. with_register h seat dest (link h birth field)) refl refl (λ birth. refl)
-  call_reads seat (call.Store reg field from) =
-      entering_all Reads (register h seat reg) (has_reference h field) h h (λ birth. with_link h birth field (register h seat from)) refl refl (λ birth. with_link_reads birth field (register h seat from))
-  call_reads seat (call.Move dest from) = refl
-  call_reads seat (call.Clear dest) = refl
-  call_reads seat (call.New dest shape) = with_object_reads shape
-  call_reads seat (call.Same a b') = refl
-  call_reads seat (call.IsNull reg) = refl
-
-  entry_reads : (e : Entry) → Reads (after_entry h e)
-  unfolding after_entry
-  entry_reads e = by_test Reads (is_refused e) h (heap_after h e.seat e.call) (λ _. refl) (λ _. call_reads e.seat e.call)
-
--- so a birth keeps its words
-words_after_entry : (h : Heap) (e : Entry) (b : ℕ) → b < born h → words_of_birth (after_entry h e) b ≡ words_of_birth h b
-unfolding refs nums
-words_after_entry h e b there =
-    let same_refs = entry_reads (λ shape. shape.refs) h b there e in
-    let same_nums = entry_reads (λ shape. shape.nums) h b there e in
-    omega (arith, same_refs, same_nums)
-
+-- a birth keeps its words as the history grows
 pub words_longer : (g : Geometry) (history : History) (o : Option Entry) (b : ℕ) → b < born (after (opening_of g) history)
     → words_of_birth (after (opening_of g) (history ++ option_to_list o)) b ≡ words_of_birth (after (opening_of g) history) b
-words_longer g history None b there = ap (λ k. words_of_birth (after (opening_of g) k) b) (append-nil history)
-words_longer g history (Some e) b there = ap (λ k. words_of_birth k b) (after-push (opening_of g) history e) ∙ words_after_entry (after (opening_of g) history) e b there
+words_longer g history o b there =
+    let lasts = lasts_longer (opening_of g) history (option_to_list o) in
+    let same_refs = lasts.refs b there in
+    let same_nums = lasts.nums b there in
+    omega (arith, same_refs, same_nums)

@@ -1,6 +1,6 @@
 -- The tables of seats and collector, as far as what is in use needs them: which entries make no birth, which lines keep the
 -- cycle, and which event is the flip.
-use Rattle.std.proofs.Common.{◌≡◌, ◌≢◌, ◌⊎◌, ℕ, ◌+◌, ◌≤◌, Bool, true, false, inl, inr, refl, sym, ◌∙◌, ap, arith, List, ◌++◌, Option, None}
+use Rattle.std.proofs.Common.{◌≡◌, ◌≢◌, ◌⊎◌, ℕ, ◌+◌, Bool, true, false, inl, inr, refl, sym, ◌∙◌, ap, List, ◌++◌, Option, None}
 use Rattle.std.proofs.lemmas.Bool.{and_left, and_right, eqb-true}
 use Rattle.std.specs.Prelude.{nat_eq, nat_lt, not, ◌&&◌, option_to_list, if◌then◌else◌}
 use Rattle.hk_words.specs.declared.geometry.Geometry.{Geometry}
@@ -10,10 +10,8 @@ use Rattle.hk_words.specs.declared.call.Call.{Call}
 use Rattle.hk_words.specs.declared.call.Call.TheVariants as call
 use Rattle.hk_words.specs.declared.call.Reply.{Reply}
 use Rattle.hk_words.specs.declared.call.Reply.TheVariants as reply
-use Rattle.hk_model.specs.Heap.{Heap, born}
-use Rattle.hk_model.specs.History.{Entry, History, is_new, is_done, is_refused, after_entry, numbers, bearer, last_place}
-use Rattle.hk_model.specs.Replies.{heap_after}
-use Rattle.hk_model.proofs.Histories.{numbers-push_other, born-heap_after_other, born-heap_after_new}
+use Rattle.hk_model.specs.History.{Entry, History, is_new, is_done, numbers, bearer, last_place}
+use Rattle.hk_model.proofs.Histories.{numbers-push_other}
 use Rattle.hk_core.specs.declared.flight.Flight.{Flight}
 use Rattle.hk_core.specs.declared.spot.Spot.{Spot}
 use Rattle.hk_core.specs.declared.spot.Line.{Line}
@@ -81,26 +79,6 @@ numbers_effect g history x old none = each x.call refl
 pub bears_effect : (g : Geometry) (history : History) (x : Flight) (old : ℕ) → f.has_header x ≡ false → bearer (history ++ option_to_list (seat.effect_of g x old)) ≡ bearer history
 unfolding bearer
 bears_effect g history x old none = ap (λ (ns : List ℕ). λ n. last_place n ns) (numbers_effect g history x old none)
-
--- no entry makes births fewer
-pub born_rises : (h : Heap) (e : Entry) → born h ≤ born (after_entry h e)
-unfolding after_entry
-born_rises h e = by_refused (is_refused e)
-  where
-    by_call : (call' : Call) → born h ≤ born (heap_after h e.seat call')
-    by_call (call.Get reg field) = let same = born-heap_after_other h e.seat (call.Get reg field) refl in omega arith
-    by_call (call.Put reg field value) = let same = born-heap_after_other h e.seat (call.Put reg field value) refl in omega arith
-    by_call (call.Load dest reg field) = let same = born-heap_after_other h e.seat (call.Load dest reg field) refl in omega arith
-    by_call (call.Store reg field from) = let same = born-heap_after_other h e.seat (call.Store reg field from) refl in omega arith
-    by_call (call.Move dest from) = let same = born-heap_after_other h e.seat (call.Move dest from) refl in omega arith
-    by_call (call.Clear dest) = let same = born-heap_after_other h e.seat (call.Clear dest) refl in omega arith
-    by_call (call.New dest shape) = let more = born-heap_after_new h e.seat dest shape in omega arith
-    by_call (call.Same a b) = let same = born-heap_after_other h e.seat (call.Same a b) refl in omega arith
-    by_call (call.IsNull reg) = let same = born-heap_after_other h e.seat (call.IsNull reg) refl in omega arith
-
-    by_refused : (refused : Bool) → born h ≤ born (if refused then h else heap_after h e.seat e.call)
-    by_refused true = omega arith
-    by_refused false = by_call e.call
 
 -- THE COLLECTOR'S CYCLE
 

@@ -11,6 +11,7 @@ use Rattle.hk_model.specs.Heap.{born, opening_of}
 use Rattle.hk_model.specs.History.{Entry, History, after}
 use Rattle.hk_model.specs.History as histories
 use Rattle.hk_model.proofs.Heaps.{born-opening}
+use Rattle.hk_model.proofs.Lasting.{lasts_longer}
 use Rattle.hk_model.proofs.Histories.{after-push, length-numbers_born}
 use Rattle.hk_core.specs.declared.event.Event.TheVariants as event
 use Rattle.hk_core.specs.declared.spot.Spot.{Spot}
@@ -40,7 +41,7 @@ use Rattle.hk_collect.proofs.UsedHeap.{closed_here, closed_entry}
 use Rattle.hk_collect.proofs.UsedMarks.{collector_keeps, zero_not_claimed}
 use Rattle.hk_collect.proofs.UsedRows.{Agrees, agrees_fired, beside_w0}
 use Rattle.hk_collect.proofs.UsedSpot.{spot_stands}
-use Rattle.hk_collect.proofs.UsedTables.{bears_effect, numbers_effect, born_rises, line_cycle, no_flip, rest_flips, rests_or_not}
+use Rattle.hk_collect.proofs.UsedTables.{bears_effect, numbers_effect, line_cycle, no_flip, rest_flips, rests_or_not}
 use Rattle.hk_core.proofs.Shared.{never}
 use Rattle.std.proofs.lemmas.List.{append-nil}
 
@@ -64,8 +65,7 @@ closed_longer g history used None is h = rw (append-nil history) h
 closed_longer g history used (Some e) is h = rw (after-push (opening_of g) history e) (closed_entry (after (opening_of g) history) used e is h)
 
 next_rises : (g : Geometry) (history : History) (o : Option Entry) → next_birth g history ≤ next_birth g (history ++ option_to_list o)
-next_rises g history None = rw (append-nil history) (omega arith)
-next_rises g history (Some e) = rw (after-push (opening_of g) history e) (born_rises (after (opening_of g) history) e)
+next_rises g history o = (lasts_longer (opening_of g) history (option_to_list o)).births
 
 -- THE OPENING STATE
 

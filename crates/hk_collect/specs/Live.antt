@@ -6,7 +6,7 @@ use Rattle.hk_model.specs.Heap.{Heap, opening_of}
 use Rattle.hk_model.specs.History.{after}
 use Rattle.hk_core.specs.declared.spot.Work.TheVariants.{LiveOver}
 use Rattle.hk_core.specs.Collect.{work_by_collector}
-use Rattle.hk_core.specs.Reach.{Reached, words_of_birth}
+use Rattle.hk_core.specs.Reach.{Reached, Live, words_of_birth}
 use Rattle.hk_core.specs.Run.{Action}
 use Rattle.hk_collect.specs.Used.{Trace, WasUsed, traced}
 
@@ -35,7 +35,8 @@ ReservedIsUsed = (g : Geometry) (actions : List Action) → let r = traced g act
 -- the last flip.
 pub record IsOver (g : Geometry) (at_flip : Heap) (words : ℕ) : Type 0 where
   pub found : g.live < words
-  pub live : LiveExceeds g at_flip g.live
+  pub exceeds : LiveExceeds g at_flip g.live
+  pub more_live : (live : ℕ) → Live g at_flip live → g.live < live
 
 abbrev pub LiveOverHasLive : Type 0
 LiveOverHasLive = (g : Geometry) (actions : List Action) (words : ℕ) → let r = traced g actions in

@@ -1,16 +1,15 @@
 -- What a reader of one argument takes is spelled so, and what is spelled so is taken.
-use Rattle.std.proofs.Common.{◌≡◌, ℕ, ◌+◌, ◌-◌, ◌^◌, ◌<◌, ◌≤◌, Bool, true, false, cond, List, [], ◌∷◌, length, Option, Some, None, refl, ap, ◌∙◌, subst, arith}
+use Rattle.std.proofs.Common.{◌≡◌, ℕ, ◌^◌, ◌<◌, ◌≤◌, Bool, true, false, cond, List, [], ◌∷◌, length, Option, Some, None, refl, ap, ◌∙◌, subst, arith}
 use Rattle.std.specs.Prelude.{◌&&◌, nat_le, nat_lt, ◌==◌}
 use Rattle.std.specs.List.{list_all}
-use Rattle.std.specs.Option.{option_and_then}
 use Rattle.std.specs.Char.{is_ascii_digit}
 use Rattle.std.specs.Str.Parse.{AllDigits, digits_value}
 use Rattle.std.proofs.lemmas.Bool.Decides.{nat_tests}
 use Rattle.hk_words.specs.declared.geometry.TheConstants.{REGISTERS}
 use Rattle.hk_replay.specs.declared.lex.TheConstants.{MAX_DIGITS}
 use Rattle.hk_replay.specs.Text.{is_number, number_of}
-use Rattle.hk_replay.specs.Reading.{◌>>=◌, if_below, below, register_of, if_writable, target_of}
-use Rattle.hk_replay.specs.Spelling.{Numeral, SpellsPiece, IsRegister, IsTarget}
+use Rattle.hk_replay.specs.Reading.{◌>>=◌, if_below, below, if_writable, target_of}
+use Rattle.hk_replay.specs.Spelling.{Numeral, SpellsPiece, IsTarget}
 use Rattle.hk_replay.proofs.Digits.{and_parts, all_digits}
 
 pub some_is : {A : Type 0} (x y : A) → Some x ≡ Some y → x ≡ y

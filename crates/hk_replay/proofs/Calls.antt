@@ -1,5 +1,5 @@
 -- A call that is read is spelled by its words, and words that spell a call are read as it.
-use Rattle.std.proofs.Common.{◌≡◌, ℕ, ◌+◌, ◌^◌, ◌<◌, ◌≤◌, Bool, true, false, cond, List, [], ◌∷◌, Option, Some, None, refl, sym, ap, subst, arith}
+use Rattle.std.proofs.Common.{◌≡◌, ℕ, ◌+◌, ◌<◌, ◌≤◌, Bool, true, false, cond, List, [], ◌∷◌, Option, Some, None, refl, sym, ap, subst, arith}
 use Rattle.std.specs.Prelude.{codes}
 use Rattle.std.specs.List.{AllZip}
 use Rattle.std.specs.Str.{bytes_eq}
@@ -11,7 +11,7 @@ use Rattle.hk_words.specs.declared.geometry.TheConstants.{REGISTERS}
 use Rattle.hk_words.specs.declared.shape.TheConstants.{USUAL_FIELDS}
 use Rattle.hk_replay.specs.Shapes.{shape_of}
 use Rattle.hk_replay.specs.Text.{number_of}
-use Rattle.hk_replay.specs.Reading.{◌>>=◌, below, register_of, target_of, field_of, size_of, call_of_two, call_of_three, new_of, call_of_four}
+use Rattle.hk_replay.specs.Reading.{◌>>=◌, register_of, target_of, field_of, size_of, call_of_two, call_of_three, new_of, call_of_four}
 use Rattle.hk_replay.specs.Spelling.{Piece, Exactly, Numeral, SpellsPiece, call_pieces, IsCall}
 use Rattle.hk_replay.proofs.Arguments.{some_is, bind_some, number_takes, number_again, below_takes, below_again, target_takes, target_again}
 use Rattle.hk_replay.proofs.Shapes.{shape_of_own, shape_numbers}

@@ -1,6 +1,6 @@
 -- Where the call that a seat has in flight was begun.
-use Rattle.std.proofs.Common.{◌≡◌, ◌≢◌, ℕ, ◌+◌, ◌<◌, ◌≤◌, ◌⊎◌, inl, inr, Bool, true, false, cond, List, [], ◌∷◌, ◌++◌, Option, Some, None, refl, sym, ap, ◌∙◌, subst, arith, append_assoc}
-use Rattle.std.specs.Prelude.{nat_eq, nat_lt, not, ◌&&◌, if◌then◌else◌}
+use Rattle.std.proofs.Common.{◌≡◌, ◌≢◌, ℕ, ◌+◌, ◌<◌, ◌≤◌, ◌⊎◌, inl, inr, Bool, true, false, List, [], ◌∷◌, ◌++◌, Option, Some, None, refl, sym, ap, ◌∙◌, subst, arith, append_assoc}
+use Rattle.std.specs.Prelude.{nat_eq, nat_lt, not, if◌then◌else◌}
 use Rattle.std.proofs.lemmas.Bool.{and_parts, ltb-true, eqb-true}
 use Rattle.std.proofs.lemmas.Bool.Decides.{nat_tests}
 use Rattle.std.proofs.lemmas.List.{append-nil}
@@ -12,9 +12,8 @@ use Rattle.hk_words.specs.Bounds.{places_of}
 use Rattle.hk_words.specs.Geometry.{tasks}
 use Rattle.hk_core.specs.declared.flight.Flight.{Flight}
 use Rattle.hk_core.specs.declared.outcome.Fault.{Fault}
-use Rattle.hk_core.specs.State.{State, IsSized, opening, flight_of, idle}
-use Rattle.hk_core.specs.Step.{next}
-use Rattle.hk_core.specs.Begin.{refusal, first_flight, after_begin}
+use Rattle.hk_core.specs.State.{IsSized, opening, flight_of, idle}
+use Rattle.hk_core.specs.Begin.{refusal, first_flight}
 use Rattle.hk_core.specs.Run.{Action, Running, begin, step, collect, act, run, run_from_opening, may_begin, is_busy}
 use Rattle.hk_core.specs.Turns.{step_count, steps_of}
 use Rattle.hk_core.specs.View.{flight_at}

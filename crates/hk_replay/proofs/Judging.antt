@@ -1,5 +1,5 @@
 -- How far the lines of a log are judged, line by line.
-use Rattle.std.proofs.Common.{◌≡◌, ◌≢◌, ℕ, ◌+◌, ◌^◌, ◌<◌, ◌≤◌, Bool, true, false, List, [], ◌∷◌, ◌++◌, length, Option, Some, None, Result, Ok, Err, refl, sym, ap, ◌∙◌, subst, arith, append_assoc, length-append}
+use Rattle.std.proofs.Common.{◌≡◌, ◌≢◌, ℕ, ◌+◌, ◌^◌, ◌≤◌, Bool, true, false, List, [], ◌∷◌, ◌++◌, length, Option, Some, None, Result, Ok, Err, refl, sym, ap, ◌∙◌, subst, arith, append_assoc, length-append}
 use Rattle.std.specs.Prelude.{is_none, is_some, not, map, IfOk}
 use Rattle.std.proofs.lemmas.Bool.{both_ways}
 use denote.Ref.{Bor}
@@ -8,7 +8,6 @@ use Rattle.std.proofs.lemmas.List.{append-nil}
 use Rattle.hk_words.specs.declared.geometry.Geometry.{Geometry}
 use Rattle.hk_words.specs.Geometry.{tasks}
 use Rattle.hk_core.specs.State.{State, opening}
-use Rattle.hk_core.specs.Run.{act}
 use Rattle.hk_collect.proofs.Running.{legal_from_opening}
 use Rattle.hk_replay.specs.declared.judge.Verdict.{Verdict}
 use Rattle.hk_replay.specs.declared.judge.Verdict.TheVariants as verdict
@@ -18,8 +17,8 @@ use Rattle.hk_replay.specs.Spelling.{Opens, SpellsLine}
 use Rattle.hk_replay.specs.declared.log_line.Heading.{Heading}
 use Rattle.hk_replay.specs.Reading.{line_of, heading_of}
 use Rattle.hk_replay.specs.Answers.{action_of, answered, core_after, run_of, AreAnswers, DiffersAt, actions_of}
-use Rattle.hk_replay.specs.Log.{IsLog, HasBadLine, IsNoLog, no_opening, bad_line}
-use Rattle.hk_replay.specs.Judged.{IsWhole, IsDifferent, IsVerdict, IsVerdictOfLines}
+use Rattle.hk_replay.specs.Log.{IsLog, IsNoLog, no_opening, bad_line}
+use Rattle.hk_replay.specs.Judged.{IsVerdict, IsVerdictOfLines}
 use Rattle.hk_replay.proofs.Runs.{act_core, run_of_more, are_more, are_none, run_none, differs_here, differs_still}
 use Rattle.hk_replay.proofs.PlainReplies.{replies_of_plain}
 use Rattle.hk_replay.proofs.Spelled.{text_takes, text_again}
@@ -118,7 +117,7 @@ module _ (g : Geometry) (all rest behind : List (List ℕ)) (text : List ℕ) (c
     first = first;
     before = p.done;
     bad = text;
-    after' = behind;
+    behind = behind;
     parts = parts ∙ ap (λ (r : List (List ℕ)). first ∷ r) (at_text p.done p.parts);
     opens = opens;
     spelled = p.spelled;

@@ -1,5 +1,5 @@
 -- A text comes to one end.
-use Rattle.std.proofs.Common.{◌≡◌, ◌≢◌, ℕ, ◌+◌, ◌^◌, ◌<◌, ◌≤◌, List, [], ◌∷◌, ◌++◌, length, Option, Some, None, refl, sym, ap, ◌∙◌, subst, arith}
+use Rattle.std.proofs.Common.{◌≡◌, ℕ, ◌^◌, ◌≤◌, List, [], ◌∷◌, ◌++◌, refl, sym, ap, ◌∙◌, subst, arith}
 use Rattle.std.specs.List.{AllZip}
 use Rattle.hk_words.specs.declared.geometry.Geometry.{Geometry}
 use Rattle.hk_words.specs.Geometry.{tasks}
@@ -7,9 +7,7 @@ use Rattle.hk_replay.specs.declared.judge.Verdict.{Verdict}
 use Rattle.hk_replay.specs.declared.judge.Verdict.TheVariants as verdict
 use Rattle.hk_replay.specs.declared.replayed.Replayed.{Replayed}
 use Rattle.hk_replay.specs.declared.log_line.LogLine.{LogLine}
-use Rattle.hk_replay.specs.Text.{lines_of, words_of}
 use Rattle.hk_replay.specs.Spelling.{Opens, SpellsLine}
-use Rattle.hk_replay.specs.Reading.{line_of}
 use Rattle.hk_replay.specs.Answers.{AreAnswers, DiffersAt}
 use Rattle.hk_replay.specs.Log.{IsLog, IsNoLog, no_opening, bad_line}
 use Rattle.hk_replay.specs.Judged.{IsWhole, IsDifferent, IsVerdict}
@@ -51,7 +49,7 @@ same_log_lines text g ls ks a b =
 
 -- lines that are all the ones for their actions have none that differs
 not_different : (g : Geometry) (ls : List LogLine) (n : ℕ) → AreAnswers g ls → DiffersAt g ls n → ⊥
-not_different g ls n are d = d.differs (are_here g d.before d.after' d.line (subst (AreAnswers g) d.parts are))
+not_different g ls n are d = d.differs (are_here g d.before d.behind d.line (subst (AreAnswers g) d.parts are))
 
 same_one : (text : List ℕ) (g h : Geometry) (ls ks : List LogLine) (n : ℕ) → IsLog text g ls → IsLog text h ks → AreAnswers g ls → DiffersAt h ks n → ⊥
 same_one text g h ls ks n a b are d =
@@ -64,19 +62,19 @@ whole_differs : (text : List ℕ) (n m : ℕ) → IsWhole text n → IsDifferent
 whole_differs text n m w d = same_one text w.g d.g w.lines d.lines m w.log d.log w.answers d.at
 
 -- a line between others
-spelled_at : (n : ℕ) (before after' : List (List ℕ)) (bad : List ℕ) (ls : List LogLine) → AllZip (SpellsLine n) (before ++ bad ∷ after') ls → (l : LogLine) × SpellsLine n bad l
-spelled_at n [] after' bad [] h = absurd h
-spelled_at n [] after' bad (l ∷ ls) h = (l, h.0)
-spelled_at n (t ∷ before) after' bad [] h = absurd h
-spelled_at n (t ∷ before) after' bad (l ∷ ls) h = spelled_at n before after' bad ls h.1
+spelled_at : (n : ℕ) (before behind : List (List ℕ)) (bad : List ℕ) (ls : List LogLine) → AllZip (SpellsLine n) (before ++ bad ∷ behind) ls → (l : LogLine) × SpellsLine n bad l
+spelled_at n [] behind bad [] h = absurd h
+spelled_at n [] behind bad (l ∷ ls) h = (l, h.0)
+spelled_at n (t ∷ before) behind bad [] h = absurd h
+spelled_at n (t ∷ before) behind bad (l ∷ ls) h = spelled_at n before behind bad ls h.1
 
 log_none : (text : List ℕ) (g : Geometry) (ls : List LogLine) (n : ℕ) → IsLog text g ls → IsNoLog text n → ⊥
 log_none text g ls n a (no_opening none is) = none.none a.first a.others g a.parts a.opens
 log_none text g ls n a (bad_line b) =
     let e = sym a.parts ∙ b.parts in
-    let same = one_opening a.first g b.g a.opens (subst (λ (t : List ℕ). Opens t b.g) (sym (same_first a.first b.first a.others (b.before ++ b.bad ∷ b.after') e)) b.opens) in
-    let spelled : AllZip (SpellsLine (tasks g)) (b.before ++ b.bad ∷ b.after') ls = subst (λ (ts : List (List ℕ)). AllZip (SpellsLine (tasks g)) ts ls) (same_rest a.first b.first a.others (b.before ++ b.bad ∷ b.after') e) a.spelled in
-    let found = spelled_at (tasks g) b.before b.after' b.bad ls spelled in
+    let same = one_opening a.first g b.g a.opens (subst (λ (t : List ℕ). Opens t b.g) (sym (same_first a.first b.first a.others (b.before ++ b.bad ∷ b.behind) e)) b.opens) in
+    let spelled : AllZip (SpellsLine (tasks g)) (b.before ++ b.bad ∷ b.behind) ls = subst (λ (ts : List (List ℕ)). AllZip (SpellsLine (tasks g)) ts ls) (same_rest a.first b.first a.others (b.before ++ b.bad ∷ b.behind) e) a.spelled in
+    let found = spelled_at (tasks g) b.before b.behind b.bad ls spelled in
     b.none found.0 (subst (λ (k : Geometry). SpellsLine (tasks k) b.bad found.0) same found.1)
 
 one_end : (text : List ℕ) (a b : Verdict) → IsVerdict text a → IsVerdict text b → ended_by a ≡ ended_by b

@@ -1,5 +1,5 @@
 -- The first line of a log, and the geometry that it says.
-use Rattle.std.proofs.Common.{◌≡◌, ◌≢◌, ℕ, ◌+◌, ◌*◌, ◌%◌, ◌^◌, ◌<◌, ◌≤◌, Bool, true, false, cond, List, [], ◌∷◌, Option, Some, None, refl, sym, ap, ◌∙◌, subst, arith}
+use Rattle.std.proofs.Common.{◌≡◌, ℕ, ◌+◌, ◌%◌, ◌^◌, ◌≤◌, Bool, true, false, cond, List, [], ◌∷◌, Option, Some, None, refl, sym, ◌∙◌, subst, arith}
 use Rattle.std.specs.Prelude.{codes, nat_lt, not, ◌||◌, ◌==◌}
 use Rattle.std.specs.List.{AllZip}
 use Rattle.std.proofs.lemmas.Bool.Decides.{nat_tests}
@@ -11,10 +11,10 @@ use Rattle.hk_words.specs.Geometry.{Sizes, first_error, HasSizes}
 use Rattle.hk_words.proofs.OneGeometry.{one_geometry}
 use Rattle.hk_replay.specs.declared.log_line.Heading.{Heading}
 use Rattle.hk_replay.specs.Text.{words_of}
-use Rattle.hk_replay.specs.Reading.{◌>>=◌, below, size_of, heading_by, heading_of, sizes_in, IsOfHeading}
+use Rattle.hk_replay.specs.Reading.{below, size_of, heading_by, heading_of, sizes_in, IsOfHeading}
 use Rattle.hk_replay.specs.Spelling.{Piece, Exactly, Numeral, SpellsPiece, geometry_pieces, Opens}
 use Rattle.hk_replay.proofs.Arguments.{some_is, bind_some, below_takes, below_again}
-use Rattle.hk_replay.proofs.Calls.{choose, no_more, zip4}
+use Rattle.hk_replay.proofs.Calls.{choose, no_more}
 
 -- words spell the numbers of a first line
 abbrev heading_pieces : Heading → List Piece

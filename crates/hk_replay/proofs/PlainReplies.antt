@@ -1,9 +1,8 @@
 -- The replies that a log's lines say are those of the heap that never collects.
-use Rattle.std.proofs.Common.{◌≡◌, ◌≢◌, ℕ, ◌+◌, ◌<◌, ◌≤◌, ◌⊎◌, inl, inr, Bool, true, false, cond, List, [], ◌∷◌, ◌++◌, Option, Some, None, refl, sym, ap, ◌∙◌, subst, arith}
-use Rattle.std.specs.Prelude.{nat_eq, nat_lt, not, ◌&&◌, filter, option_to_list, if◌then◌else◌, ◌==◌}
+use Rattle.std.proofs.Common.{◌≡◌, ◌≢◌, ℕ, ◌<◌, ◌⊎◌, inl, inr, Bool, true, false, cond, List, [], ◌∷◌, ◌++◌, Option, Some, None, refl, sym, ap, ◌∙◌, subst, arith}
+use Rattle.std.specs.Prelude.{nat_eq, nat_lt, not, filter, ◌==◌}
 use Rattle.std.proofs.lemmas.Bool.{and_parts, ltb-true, eqb-true, both_ways}
 use Rattle.std.proofs.lemmas.Bool.Decides.{nat_tests}
-use Rattle.std.proofs.lemmas.List.{map-append}
 use Rattle.std.proofs.lemmas.List.Sums.{fold-append}
 use Rattle.hk_words.specs.declared.call.Call.{Call}
 use Rattle.hk_words.specs.declared.call.Reply.{Reply}
@@ -20,11 +19,10 @@ use Rattle.hk_core.specs.declared.outcome.Outcome.TheVariants as outcome
 use Rattle.hk_core.specs.declared.outcome.Step.{Step as Stepped}
 use Rattle.hk_core.specs.declared.outcome.Step.TheVariants as stepped
 use Rattle.hk_core.specs.State.{State, flight_of}
-use Rattle.hk_core.specs.Step.{step_of, answer_by, outcome_at, next, history_after}
-use Rattle.hk_core.specs.Begin.{refusal, after_begin}
+use Rattle.hk_core.specs.Step.{step_of, answer_by, outcome_at, history_after}
+use Rattle.hk_core.specs.Begin.{after_begin}
 use Rattle.hk_core.specs.Run.{Action, Running, begin, step, act, run, run_from_opening, may_begin, is_busy}
-use Rattle.hk_core.specs.Turns.{steps_of}
-use Rattle.hk_core.specs.Replied.{outcome_of, AddsOne, AnswersEntry}
+use Rattle.hk_core.specs.Replied.{outcome_of, AnswersEntry}
 use Rattle.hk_core.proofs.Entries.{answers_entry}
 use Rattle.hk_collect.proofs.Running.{lawful_from_opening, geometry_from_opening, legal_from_opening}
 use Rattle.hk_replay.specs.declared.log_line.Ending.{Ending}
@@ -33,7 +31,7 @@ use Rattle.hk_replay.specs.declared.log_line.LogLine.{LogLine}
 use Rattle.hk_replay.specs.declared.log_line.LogLine.TheVariants as line
 use Rattle.hk_replay.specs.Answers.{ending_of, end_line, step_line, answered, actions_of, run_of, AreAnswers}
 use Rattle.hk_replay.specs.PlainReplies.{reply_said, IsReplyOfPlain, AreRepliesOfPlain}
-use Rattle.hk_replay.proofs.Flown.{FoundBegin, flown, flight_in, run_more}
+use Rattle.hk_replay.proofs.Flown.{FoundBegin, flown, flight_in}
 use Rattle.hk_replay.proofs.Runs.{run_of_more, are_here}
 
 -- ---- histories
@@ -244,5 +242,5 @@ module _ (g : Geometry) (before : List LogLine) (seat : ℕ) (end : Ending) (sai
 
 -- each line that is the one for its action, and ends a call with a reply, says that of the plain heap
 pub replies_of_plain : (g : Geometry) (lines : List LogLine) → AreAnswers g lines → AreRepliesOfPlain g lines
-replies_of_plain g lines are = λ before after' seat end said parts says.
-    reply_of_plain g before seat end said (are_here g before after' (line.End seat end) (subst (AreAnswers g) parts are)) says
+replies_of_plain g lines are = λ before behind seat end said parts says.
+    reply_of_plain g before seat end said (are_here g before behind (line.End seat end) (subst (AreAnswers g) parts are)) says

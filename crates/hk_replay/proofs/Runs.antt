@@ -1,10 +1,9 @@
 -- Runs of the actions of lines, and one line more.
-use Rattle.std.proofs.Common.{◌≡◌, ◌≢◌, ℕ, ◌+◌, ◌<◌, ◌≤◌, Bool, true, false, List, [], ◌∷◌, ◌++◌, length, map, Option, Some, None, refl, sym, ap, ◌∙◌, subst, arith, append_assoc, length-append}
+use Rattle.std.proofs.Common.{◌≡◌, ◌≢◌, ℕ, ◌+◌, Bool, true, false, List, [], ◌∷◌, ◌++◌, length, map, Option, Some, refl, sym, ap, ◌∙◌, append_assoc}
 use Rattle.std.proofs.lemmas.List.{map-append}
 use Rattle.std.proofs.lemmas.List.Sums.{fold-append}
-use Rattle.hk_words.specs.declared.call.Call.{Call}
 use Rattle.hk_words.specs.declared.geometry.Geometry.{Geometry}
-use Rattle.hk_core.specs.State.{State, opening}
+use Rattle.hk_core.specs.State.{opening}
 use Rattle.hk_core.specs.Run.{Action, begin, step, collect, Running, is_busy, may_begin, act, run, run_from_opening}
 use Rattle.hk_replay.specs.declared.log_line.LogLine.{LogLine}
 use Rattle.hk_replay.specs.Answers.{action_of, answered, core_after, answers_of, start, actions_of, run_of, AreAnswers, DiffersAt}
@@ -57,15 +56,15 @@ run_none g = refl
 -- a line that isn't, after lines that are
 pub differs_here : (g : Geometry) (lines : List LogLine) (line : LogLine) (number : ℕ) → AreAnswers g lines → answered (run_of g lines).core (action_of line) ≢ Some line → number ≡ length lines + 2
     → DiffersAt g (lines ++ line ∷ []) number
-differs_here g lines line number are not counted = record { before = lines; line = line; after' = []; parts = refl; answers = are; differs = not; counted = counted }
+differs_here g lines line number are not counted = record { before = lines; line = line; behind = []; parts = refl; answers = are; differs = not; counted = counted }
 
 -- more lines behind it change nothing
 pub differs_still : (g : Geometry) (lines : List LogLine) (line : LogLine) (number : ℕ) → DiffersAt g lines number → DiffersAt g (lines ++ line ∷ []) number
 differs_still g lines line number d = record {
   before = d.before;
   line = d.line;
-  after' = d.after' ++ line ∷ [];
-  parts = ap (λ (l : List LogLine). l ++ line ∷ []) d.parts ∙ append_assoc d.before (d.line ∷ d.after') (line ∷ []);
+  behind = d.behind ++ line ∷ [];
+  parts = ap (λ (l : List LogLine). l ++ line ∷ []) d.parts ∙ append_assoc d.before (d.line ∷ d.behind) (line ∷ []);
   answers = d.answers;
   differs = d.differs;
   counted = d.counted;

@@ -8,7 +8,7 @@ use Rattle.hk_words.specs.declared.shape.Shape.{Shape}
 use Rattle.hk_words.specs.declared.shape.TheConstants.{MAX_FIELDS, USUAL_FIELDS}
 use Rattle.hk_words.specs.Shape.{IsShape}
 use Rattle.hk_replay.specs.Shapes.{shape_by, any_shape_of, shape_of}
-use Rattle.hk_replay.proofs.Arguments.{passed, some_is}
+use Rattle.hk_replay.proofs.Arguments.{some_is}
 
 same_by : (refs nums : ℕ) (d : Dec (0 < refs + nums)) (e : Dec (refs + nums ≤ MAX_FIELDS)) (some : 0 < refs + nums) (few : refs + nums ≤ MAX_FIELDS) → shape_by refs nums d e ≡ Some (record { refs = refs; nums = nums; some = some; few = few })
 same_by refs nums (yes s) (yes f) some few =

@@ -1,8 +1,7 @@
 -- A line that is read is spelled by its words, and words that spell a line are read as it.
-use Rattle.std.proofs.Common.{◌≡◌, ℕ, ◌+◌, ◌^◌, ◌<◌, ◌≤◌, List, [], ◌∷◌, ◌++◌, Option, Some, None, refl, sym, ap, subst, arith}
+use Rattle.std.proofs.Common.{◌≡◌, ℕ, ◌^◌, ◌<◌, ◌≤◌, List, [], ◌∷◌, ◌++◌, Option, Some, refl, sym, ap, subst}
 use Rattle.std.specs.Prelude.{codes}
 use Rattle.std.specs.List.{AllZip}
-use Rattle.std.specs.Str.{bytes_eq}
 use Rattle.hk_words.specs.declared.call.Call.{Call}
 use Rattle.hk_replay.specs.declared.log_line.Reason.{Reason}
 use Rattle.hk_replay.specs.declared.log_line.Reason.TheVariants as reason
@@ -13,10 +12,10 @@ use Rattle.hk_replay.specs.declared.log_line.Answer.TheVariants as answer
 use Rattle.hk_replay.specs.declared.log_line.LogLine.{LogLine}
 use Rattle.hk_replay.specs.declared.log_line.LogLine.TheVariants as line
 use Rattle.hk_replay.specs.Text.{number_of, words_of}
-use Rattle.hk_replay.specs.Reading.{◌>>=◌, below, call_of_two, call_of_three, call_of_four, reason_of, begin_of, fault_of, plain_answer_of, answer_of, two_words, three_words, end_of, four_words, five_words, six_words, seven_words, line_of}
-use Rattle.hk_replay.specs.Spelling.{Piece, Exactly, Numeral, SpellsPiece, SpellsLine, call_pieces, reason_word, ending_pieces, answer_pieces, pieces, IsCall, IsEnding, IsAnswer, IsLine}
-use Rattle.hk_replay.proofs.Arguments.{some_is, bind_some, number_takes, number_again, below_takes, below_again}
-use Rattle.hk_replay.proofs.Calls.{choose, no_more, one, two, three, Calls, call_of_two_takes, call_of_three_takes, call_of_four_takes, Found, of_two, of_three, of_four, zip2, by_name, call_again}
+use Rattle.hk_replay.specs.Reading.{below, call_of_two, call_of_three, call_of_four, reason_of, begin_of, fault_of, plain_answer_of, answer_of, two_words, three_words, end_of, four_words, five_words, six_words, seven_words, line_of}
+use Rattle.hk_replay.specs.Spelling.{Piece, Exactly, Numeral, SpellsPiece, SpellsLine, call_pieces, reason_word, ending_pieces, answer_pieces, pieces, IsEnding, IsAnswer, IsLine}
+use Rattle.hk_replay.proofs.Arguments.{some_is, number_takes, number_again, below_takes, below_again}
+use Rattle.hk_replay.proofs.Calls.{choose, no_more, one, two, three, Calls, call_of_two_takes, call_of_three_takes, call_of_four_takes, Found, of_two, of_three, of_four, zip2, call_again}
 
 -- words spell a line whose numbers are in their ranges
 abbrev pub Says : (tasks : ℕ) → List (List ℕ) → LogLine → Type 0

@@ -1,11 +1,11 @@
 -- From what the parts of the program answer to what its top call answers.
-use Rattle.std.proofs.Common.{◌≡◌, ◌≢◌, ℕ, ◌+◌, ◌-◌, ◌<◌, ◌≤◌, ◌⊎◌, inl, inr, List, [], ◌∷◌, ◌++◌, length, map, Option, Some, None, refl, sym, ap, ◌∙◌, subst, arith, append_assoc, length-append, String, Global}
-use Rattle.std.specs.Prelude.{IfSome, string_bytes, suc, codes}
+use Rattle.std.proofs.Common.{◌≡◌, ℕ, ◌+◌, ◌-◌, ◌<◌, ◌≤◌, ◌⊎◌, inl, inr, List, [], ◌++◌, length, map, Option, Some, None, refl, sym, ap, ◌∙◌, subst, arith, append_assoc, length-append, String, Global}
+use Rattle.std.specs.Prelude.{IfSome, string_bytes, suc}
 use Rattle.std.proofs.lemmas.List.{append-nil}
 use Rattle.hk_io.specs.Bytes.{ConsumesFront}
 use Rattle.hk_io.specs.Limits.{longest_input}
 use Rattle.hk_words.specs.declared.geometry.Geometry.{Geometry}
-use Rattle.hk_words.specs.Geometry.{Sizes, HasSizes}
+use Rattle.hk_words.specs.Geometry.{Sizes}
 use Rattle.hk_words.proofs.OneGeometry.{one_geometry}
 use Rattle.hk_core.specs.State.{State, opening}
 use Rattle.hk_replay.specs.declared.judge.Verdict.{Verdict}

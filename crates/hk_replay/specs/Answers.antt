@@ -1,7 +1,6 @@
 -- What the machine answers to the actions that the lines of a log say.
 use Rattle.std.specs.Prelude.{◌≡◌, ◌≢◌, ℕ, ◌+◌, List, [], ◌∷◌, ◌++◌, length, map, Option, Some, None, Result, Ok, Err, if◌then◌else◌}
 use Rattle.hk_words.specs.declared.call.Call.{Call}
-use Rattle.hk_words.specs.declared.call.Reply.{Reply}
 use Rattle.hk_words.specs.declared.call.Reply.TheVariants.{Unit as Done, Num, Yes, No, Nil, Field, Full}
 use Rattle.hk_words.specs.declared.geometry.Geometry.{Geometry}
 use Rattle.hk_core.specs.declared.outcome.Fault.{Fault}
@@ -122,8 +121,8 @@ AreAnswers g lines = answers_of (start g) (actions_of lines) ≡ map Some lines
 pub record DiffersAt (g : Geometry) (lines : List LogLine) (number : ℕ) : Type 0 where
   pub before : List LogLine
   pub line : LogLine
-  pub after' : List LogLine
-  pub parts : lines ≡ before ++ line ∷ after'
+  pub behind : List LogLine
+  pub parts : lines ≡ before ++ line ∷ behind
   pub answers : AreAnswers g before
   pub differs : answered (run_of g before).core (action_of line) ≢ Some line
   pub counted : number ≡ length before + 2

@@ -1,5 +1,5 @@
 -- Which texts are a log, and the first line that keeps a text from being one.
-use Rattle.std.specs.Prelude.{◌≡◌, ℕ, ◌+◌, List, [], ◌∷◌, ◌++◌, length}
+use Rattle.std.specs.Prelude.{◌≡◌, ℕ, ◌+◌, List, ◌∷◌, ◌++◌, length}
 use Rattle.std.specs.List.{AllZip}
 use Rattle.hk_words.specs.declared.geometry.Geometry.{Geometry}
 use Rattle.hk_words.specs.Geometry.{tasks}
@@ -26,8 +26,8 @@ pub record HasBadLine (text : List ℕ) (number : ℕ) : Type 0 where
   pub first : List ℕ
   pub before : List (List ℕ)
   pub bad : List ℕ
-  pub after' : List (List ℕ)
-  pub parts : lines_of text ≡ first ∷ before ++ bad ∷ after'
+  pub behind : List (List ℕ)
+  pub parts : lines_of text ≡ first ∷ before ++ bad ∷ behind
   pub opens : Opens first g
   pub spelled : AllZip (SpellsLine (tasks g)) before lines
   pub none : (line : LogLine) → ¬ (SpellsLine (tasks g) bad line)

@@ -84,9 +84,24 @@ made_board = record { refs = 2; nums = 1; some = omega arith; few = omega arith 
 
 abbrev pub made_geometry : Geometry
 made_geometry = record {
-  live = 64; alloc = 64; reserve = 16; high = 2; low = 1; registers = 8; board = made_board;
-  live_even = refl; alloc_even = refl; board_fits = omega arith; alloc_enough = omega arith; live_few = omega arith; alloc_few = omega arith;
-  reserve_within = omega arith; tasks_some = omega arith; tasks_few = omega arith; registers_some = omega arith; registers_few = omega arith;
+  live = 64;
+  alloc = 64;
+  reserve = 16;
+  high = 2;
+  low = 1;
+  registers = 8;
+  board = made_board;
+  live_even = refl;
+  alloc_even = refl;
+  board_fits = omega arith;
+  alloc_enough = omega arith;
+  live_few = omega arith;
+  alloc_few = omega arith;
+  reserve_within = omega arith;
+  tasks_some = omega arith;
+  tasks_few = omega arith;
+  registers_some = omega arith;
+  registers_few = omega arith;
 }
 
 abbrev pub made_heading : List ℕ

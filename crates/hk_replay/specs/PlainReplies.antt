@@ -34,5 +34,5 @@ pub record IsReplyOfPlain (g : Geometry) (before : List LogLine) (seat : ℕ) (e
 
 -- so is each reply that lines say
 abbrev pub AreRepliesOfPlain : Geometry → List LogLine → Type 0
-AreRepliesOfPlain g lines = (before after' : List LogLine) (seat : ℕ) (end : Ending) (said : Reply)
-    → lines ≡ before ++ line.End seat end ∷ after' → reply_said end ≡ Some said → IsReplyOfPlain g before seat end said
+AreRepliesOfPlain g lines = (before behind : List LogLine) (seat : ℕ) (end : Ending) (said : Reply)
+    → lines ≡ before ++ line.End seat end ∷ behind → reply_said end ≡ Some said → IsReplyOfPlain g before seat end said

@@ -1,5 +1,5 @@
 -- The lines that the program writes: words parted by one space, numbers without leading zeros.
-use Rattle.std.specs.Prelude.{ℕ, List, [], ◌∷◌, ◌++◌, map, fold, codes, decimal, Option, Some, None}
+use Rattle.std.specs.Prelude.{ℕ, List, [], ◌∷◌, map, fold, codes, decimal}
 use Rattle.hk_io.specs.Line.{with_word, with_end}
 use Rattle.hk_replay.specs.declared.log_line.LogLine.{LogLine}
 use Rattle.hk_replay.specs.declared.judge.Verdict.{Verdict}

@@ -45,9 +45,6 @@ form_of (word ∷ []) = if bytes_eq word (codes "check") then Some form.Check el
 form_of (word ∷ n ∷ []) = if bytes_eq word (codes "make") then (number_in n >>= λ value. Some (form.Make value)) else None
 form_of words = None
 
-abbrev pub FormOf : List (String Global) → Option Form → Type 0
-FormOf words form = form_of (map string_bytes words) ≡ form
-
 -- how `check` ends on these bytes, and what it writes: they are too many; or they come to a verdict
 pub data CheckCallsFor (bytes : List ℕ) (ended : Replayed) (text : List ℕ) : Type 0 where
   too_long : longest_input < length bytes → ended ≡ replayed.Log → text ≡ long_line → CheckCallsFor bytes ended text

@@ -106,7 +106,10 @@ impl Answer {
 #[derive(Clone, Copy, Debug)]
 pub enum LogLine {
     /// The seat began the call.
-    Begin { seat: u8, call: Call },
+    Begin {
+        seat: u8,
+        call: Call,
+    },
     /// The seat's call was refused.
     Fault {
         seat: u8,
@@ -114,9 +117,16 @@ pub enum LogLine {
         reason: Reason,
     },
     /// The seat did a place of its call, and has places left.
-    Step { seat: u8 },
+    Step {
+        seat: u8,
+    },
     /// The seat did the last place of its call.
-    End { seat: u8, ending: Ending },
+    End {
+        seat: u8,
+        ending: Ending,
+    },
     /// The collector did an event.
-    Collect { answer: Answer },
+    Collect {
+        answer: Answer,
+    },
 }

@@ -67,9 +67,7 @@ fn ending_of(outcome: Outcome) -> Option<Ending>
         Outcome::Done(Reply::Unit) => Some(Ending::Unit),
         Outcome::Done(Reply::Num(number)) => Some(Ending::Num(number)),
         Outcome::Full { words } => Some(Ending::Full(words)),
-        Outcome::Done(
-            Reply::Yes | Reply::No | Reply::Nil | Reply::Field | Reply::Full,
-        ) => None,
+        Outcome::Done(Reply::Yes | Reply::No | Reply::Nil | Reply::Field | Reply::Full) => None,
     }
 }
 

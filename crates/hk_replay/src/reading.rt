@@ -302,14 +302,7 @@ fn four_words(tasks: u8, name: &[u8], a: &[u8], b: &[u8], c: &[u8]) -> Option<Lo
 
 /// The line of five words.
 #[tactic(auto, unfolding(crate::specs::Reading::five_words))]
-fn five_words(
-    tasks: u8,
-    name: &[u8],
-    a: &[u8],
-    b: &[u8],
-    c: &[u8],
-    d: &[u8],
-) -> Option<LogLine>
+fn five_words(tasks: u8, name: &[u8], a: &[u8], b: &[u8], c: &[u8], d: &[u8]) -> Option<LogLine>
     ensures { result ≡ five_words tasks name.now a.now b.now c.now d.now }
 {
     if is(name, "begin") {
@@ -390,15 +383,7 @@ fn wide(word: &[u8]) -> Option<u32>
 
 /// The numbers of a first line, behind its name.
 #[tactic(auto, unfolding(crate::specs::Reading::heading_by))]
-fn numbers(
-    a: &[u8],
-    b: &[u8],
-    c: &[u8],
-    d: &[u8],
-    e: &[u8],
-    f: &[u8],
-    g: &[u8],
-) -> Option<Heading>
+fn numbers(a: &[u8], b: &[u8], c: &[u8], d: &[u8], e: &[u8], f: &[u8], g: &[u8]) -> Option<Heading>
     ensures { result ≡ heading_by a.now b.now c.now d.now e.now f.now g.now }
 {
     Some(Heading {

@@ -1,6 +1,6 @@
 //! Logs worked out by hand.
-mod spoiled;
 mod kinds;
+mod spoiled;
 
 use crate::replayed::Replayed;
 use crate::tool::run_replay;
@@ -87,10 +87,22 @@ fn a_whole_log(rt: HostRuntime) -> Result<(), Fail> {
     // the last newline may be missing
     let trimmed = FIRST.strip_suffix("\n").ok_or("a newline")?;
     expect(&rt, alloc, trimmed, Replayed::Done, "ok 20\n")?;
-    expect(&rt, alloc, "heap 8 16 0 1 0 1 0\n", Replayed::Done, "ok 1\n")?;
+    expect(
+        &rt,
+        alloc,
+        "heap 8 16 0 1 0 1 0\n",
+        Replayed::Done,
+        "ok 1\n",
+    )?;
     expect(&rt, alloc, "heap 8 16 0 1 0 1 0", Replayed::Done, "ok 1\n")?;
     // leading zeros are allowed
-    expect(&rt, alloc, "heap 08 00000000000000000016 0 1 0 1 0\ngc flip", Replayed::Done, "ok 2\n")?;
+    expect(
+        &rt,
+        alloc,
+        "heap 08 00000000000000000016 0 1 0 1 0\ngc flip",
+        Replayed::Done,
+        "ok 2\n",
+    )?;
     Ok(())
 }
 
@@ -99,7 +111,13 @@ fn one_useful_event_too_few(rt: HostRuntime) -> Result<(), Fail> {
     let (before, behind) = FIRST.split_once("gc useful\n").ok_or("an event")?;
     let mut log = String::from_str(rt.alloc(), before)?;
     log.push_str(behind)?;
-    expect(&rt, rt.alloc(), log.as_str(), Replayed::Differs, "differs 19\n")?;
+    expect(
+        &rt,
+        rt.alloc(),
+        log.as_str(),
+        Replayed::Differs,
+        "differs 19\n",
+    )?;
     Ok(())
 }
 
@@ -163,7 +181,10 @@ fn other_words(rt: HostRuntime) -> Result<(), Fail> {
         let ended = run(rt.alloc(), words, FIRST.as_bytes(), (&[0], &[]), 100)?;
         assert_eq!(rt; ended.replayed, Replayed::Usage);
         assert_eq!(rt; ended.source.calls(), 0);
-        assert_eq!(rt; ended.sink.bytes(), "usage: hk_replay check, make N\n".as_bytes());
+        assert_eq!(rt;
+            ended.sink.bytes(),
+            "usage: hk_replay check, make N\n".as_bytes()
+        );
     }
     Ok(())
 }

@@ -10,8 +10,8 @@ use crate::lex::{is, number};
 use crate::make::make;
 use crate::printing::{long_line, usage_line, verdict_line};
 use crate::replayed::Replayed;
-use hk_io::{Failed, Line, Sink, Source, TakeFault, put_all, take_all};
 use hk_core::Memory;
+use hk_io::{Failed, Line, Sink, Source, TakeFault, put_all, take_all};
 use std::alloc::Global;
 
 /// The forms that the words may have.

@@ -25,7 +25,12 @@ fn around(alloc: Global, before: &str, count: u32, behind: &str) -> Result<Strin
 /// one for the exchange.
 const KINDS: &[(&str, u32, &str, &str)] = &[
     // A move is inside its frame.
-    ("heap 8 16 0 1 0 1 0\nbegin 0 move 1 0\nstep 0\ngc flip\n", 0, "gc frame 0\ngc frame 0\n", "ok 6\n"),
+    (
+        "heap 8 16 0 1 0 1 0\nbegin 0 move 1 0\nstep 0\ngc flip\n",
+        0,
+        "gc frame 0\ngc frame 0\n",
+        "ok 6\n",
+    ),
     // A move enters its frame within the attempt: the word, 4 and 7 for the registers, and the exchange.
     (
         "heap 8 16 0 1 0 1 0\nbegin 0 move 1 0\ngc flip\ngc useful\nstep 0\n",

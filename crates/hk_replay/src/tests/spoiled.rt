@@ -299,7 +299,10 @@ fn no_line(rt: HostRuntime) -> Result<(), Fail> {
     let log = with_other(alloc, 2, "begin 0 put 0 0 8\nstep 1")?;
     expect(&rt, alloc, log.as_str(), Replayed::Log, "log 3\n")?;
     let (before, _) = CALLS.split_once("fault").ok_or("a fault")?;
-    for behind in ["end 0 num 7\nstep 1\n", "step 0\nstep 0\nstep 0\nend 0 unit\n\n"] {
+    for behind in [
+        "end 0 num 7\nstep 1\n",
+        "step 0\nstep 0\nstep 0\nend 0 unit\n\n",
+    ] {
         let mut log = String::from_str(alloc, before)?;
         log.push_str(behind)?;
         let lines = behind.lines().count().saturating_add(9);

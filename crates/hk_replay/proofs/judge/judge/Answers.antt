@@ -1,11 +1,8 @@
 -- The first line, and what the others come to.
-use Rattle.std.proofs.Common.{◌≡◌, ◌+◌, ◌≤◌, length, Some, None, Result, Ok, Err, sym, ap, ◌∙◌, arith, true, subst}
-use Rattle.std.specs.Prelude.{IfOk}
+use Rattle.std.proofs.Common.{◌≡◌, length, sym, ◌∙◌, arith, subst}
 use Rattle.std.proofs.lemmas.Bool.Decides.{nat_tests}
-use Rattle.hk_replay.specs.declared.judge.Verdict.{Verdict}
-use Rattle.hk_replay.specs.Judged.{IsVerdict}
 use Rattle.hk_replay.specs.Reading.{IsOfHeading}
-use Rattle.hk_replay.specs.Text.{lines_of, words_of}
+use Rattle.hk_replay.specs.Text.{lines_of}
 use Rattle.hk_replay.proofs.Judging.{none_empty, none_at, heading_as, verdict_if}
 use Rattle.hk_replay.proofs.Openings.{opens, no_heading, no_geometry}
 use Rattle.hk_replay.proofs.judge.judge.Goals as goal

@@ -1,5 +1,5 @@
 -- The lines so far, and those that are left.
-use Rattle.std.proofs.Common.{◌≡◌, ◌+◌, ◌≤◌, length}
+use Rattle.std.proofs.Common.{◌+◌, ◌≤◌, length}
 use Rattle.hk_io.specs.Limits.{longest_input}
 use Rattle.hk_replay.specs.Text.{lines_of}
 use Rattle.hk_replay.proofs.Judging.{Progress}

@@ -59,12 +59,12 @@ unfolding learnt
 found-write row word v = refl
 
 -- an exchange that finds another word leaves the row as it is
-words-lost : (c : State) (word current new : ℕ) → old_of c.row (event.Trade word current new) ≢ current → words_of c.geometry (fired c.row (event.Trade word current new)) ≡ words_of c.geometry c.row
+pub words-lost : (c : State) (word current new : ℕ) → old_of c.row (event.Trade word current new) ≢ current → words_of c.geometry (fired c.row (event.Trade word current new)) ≡ words_of c.geometry c.row
 words-lost c word current new differs =
     ap (words_of c.geometry) (fired_kept c.row (event.Trade word current new) (rw (ne_eqb (old_of c.row (event.Trade word current new)) current differs) refl))
 
 -- a place of the spaces fits its field
-place_small : (g : Geometry) (p : ℕ) → p ≤ 2 * space_words g → p < 2 ^ layout.place_bits
+pub place_small : (g : Geometry) (p : ℕ) → p ≤ 2 * space_words g → p < 2 ^ layout.place_bits
 place_small g p within = omega arith
 
 module _ (c : State) (history : History) (h : Lawful c history) where

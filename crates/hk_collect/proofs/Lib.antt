@@ -4,6 +4,7 @@ pub mod Fitting
 pub mod Collected
 pub mod EachLine
 pub mod Causes
+pub mod Given
 pub mod Running
 pub mod Attempts
 pub mod MeasureAttempts

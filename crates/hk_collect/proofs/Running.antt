@@ -1,6 +1,6 @@
 -- Runs are lawful, and what follows from it: how operations end, what becomes of an object that a call is inside, and that
 -- a New is given a fresh number.
-use Rattle.std.proofs.Common.{◌≡◌, ℕ, ◌+◌, ◌<◌, ◌≤◌, Bool, true, false, List, [], ◌∷◌, ◌++◌, length, refl, sym, ◌∙◌, ap, subst, arith, Option, Some, None}
+use Rattle.std.proofs.Common.{◌≡◌, ◌≢◌, ℕ, ◌+◌, ◌<◌, ◌≤◌, Bool, true, false, List, [], ◌∷◌, ◌++◌, length, refl, sym, ◌∙◌, ap, subst, arith, Option, Some, None}
 use Rattle.std.proofs.lemmas.Bool.{and_parts, ltb-true, eqb-true}
 use Rattle.std.proofs.lemmas.List.Sums.{fold-append}
 use Rattle.std.specs.Prelude.{nat_lt, nat_eq, not, ◌&&◌, if◌then◌else◌}
@@ -35,6 +35,7 @@ use Rattle.hk_core.proofs.Unused.{number_is_fresh}
 use Rattle.hk_core.proofs.kinds.Enter.{object_of}
 use Rattle.hk_collect.specs.Runs.{StandsAt, entered_number, written_by, IsStepInside}
 use Rattle.hk_collect.proofs.EachLine.{collects, lawful_collected}
+use Rattle.hk_collect.proofs.Given.{GivesToNone, step_gives_to_none, collect_gives_to_none}
 use Rattle.hk_collect.proofs.Small.{in_flight}
 
 -- LAWFUL RUNS
@@ -233,6 +234,29 @@ module _ (r : Running) (h : IsLawfulRun r) (inside : ℕ) (below : inside < task
       record { seat = seat; below = b.0; steps = refl; inside = own.0; same = own.1 }
   writes_inside collect p e covered = absurd (cc)
 
+  -- no action gives its place to another number
+  AllToNone : List ℕ → Type 0
+  AllToNone row = GivesToNone r.core r.history h inside below is_inside row
+
+  to_none_if : (test : Bool) (a b : Running) → (test ≡ true → AllToNone a.core.row) → AllToNone b.core.row → AllToNone (if test then a else b).core.row
+  to_none_if true a b yes' no' = yes' refl
+  to_none_if false a b yes' no' = no'
+
+  same_to_none : (row : List ℕ) → row ≡ r.core.row → AllToNone row
+  unfolding AllToNone
+  same_to_none row same = λ m differs given. ap (λ (k : List ℕ). (words_of r.core.geometry k).place m) (sym same) ∙ given
+
+  acts_to_none : (action : Action) → AllToNone (act r action).core.row
+  unfolding act AllToNone flight_at
+  acts_to_none (begin seat call) =
+      same_to_none (act r (begin seat call)).core.row
+      (if_row (may_begin r.core seat call) (record r { core = after_begin r.core seat call }) r r.core.row (begin_row r.core seat call) refl)
+  acts_to_none (step seat) =
+      to_none_if (is_busy r.core seat) (record { core = next r.core seat; history = history_after r.core seat r.history }) r
+      (λ busy. let o = busy_seat r.core seat busy in step_gives_to_none r.core r.history h inside below is_inside seat o.0 o.1)
+      (same_to_none r.core.row refl)
+  acts_to_none collect = collect_gives_to_none r.core r.history h inside below is_inside
+
 pub inside_stays : (g : Geometry) (actions : List Action) (action : Action) (inside : ℕ) → inside < tasks g
     → f.in_object (flight_of (run_from_opening g actions).core.flights inside) ≡ true
     → IsLeftAlone (words_of g (run_from_opening g actions).core.row) (words_of g (act (run_from_opening g actions) action).core.row)
@@ -259,6 +283,21 @@ writes_are_inside g actions action inside p below is_inside written covered =
     let below' : inside < tasks r.core.geometry = rw geometry below in
     writes_inside r (lawful_from_opening g actions) inside below' is_inside action p written
     (subst (λ (k : Geometry). Covers ((words_of k r.core.row).place (entered_number r.core inside)) (size_in r.core r.history (entered_number r.core inside)) p) (sym geometry) covered)
+
+pub place_given_to_none : (g : Geometry) (actions : List Action) (action : Action) (inside other : ℕ) → inside < tasks g
+    → f.in_object (flight_of (run_from_opening g actions).core.flights inside) ≡ true → other ≢ entered_number (run_from_opening g actions).core inside
+    → (words_of g (act (run_from_opening g actions) action).core.row).place other
+    ≡ (words_of g (run_from_opening g actions).core.row).place (entered_number (run_from_opening g actions).core inside)
+    → (words_of g (run_from_opening g actions).core.row).place other
+    ≡ (words_of g (run_from_opening g actions).core.row).place (entered_number (run_from_opening g actions).core inside)
+unfolding flight_at AllToNone
+place_given_to_none g actions action inside other below is_inside differs =
+    let r = run_from_opening g actions in
+    let n = entered_number r.core inside in
+    let geometry : r.core.geometry ≡ g = geometry_from_opening g actions in
+    let below' : inside < tasks r.core.geometry = rw geometry below in
+    subst (λ (k : Geometry). (words_of k (act r action).core.row).place other ≡ (words_of k r.core.row).place n → (words_of k r.core.row).place other ≡ (words_of k r.core.row).place n)
+    geometry (acts_to_none r (lawful_from_opening g actions) inside below' is_inside action other differs)
 
 pub inside_is_apart : (g : Geometry) (actions : List Action) (inside : ℕ) → inside < tasks g
     → f.in_object (flight_of (run_from_opening g actions).core.flights inside) ≡ true

@@ -1,5 +1,5 @@
 -- Laws of runs: what holds after any list of begins, steps of seats and events of the collector, in any order.
-use Rattle.std.specs.Prelude.{◌≡◌, ◌↔◌, ℕ, ◌+◌, ◌<◌, true, false, Some, None, List, ◌++◌, ◌∷◌}
+use Rattle.std.specs.Prelude.{◌≡◌, ◌≢◌, ◌↔◌, ℕ, ◌+◌, ◌<◌, true, false, Some, None, List, ◌++◌, ◌∷◌}
 use Rattle.hk_words.specs.declared.call.Call.{Call}
 use Rattle.hk_words.specs.declared.call.Call.TheVariants.{New}
 use Rattle.hk_words.specs.declared.geometry.Geometry.{Geometry}
@@ -94,7 +94,16 @@ WritesAreInside = (g : Geometry) (actions : List Action) (action : Action) (insi
     → written_by r.core action ≡ Some p → Covers ((words_of g r.core.row).place (entered_number r.core inside)) (size_in r.core r.history (entered_number r.core inside)) p
     → IsStepInside r.core action (entered_number r.core inside)
 
--- at every moment of a run, no other kept number has one of its words
+-- no action gives its place to another number, be it one that is in use, one that a New in flight holds, or one that nobody
+-- uses: a number that has this place after the action had it before
+abbrev pub PlaceIsGivenToNone : Type 0
+PlaceIsGivenToNone = (g : Geometry) (actions : List Action) (action : Action) (inside other : ℕ) → inside < tasks g
+    → let r = run_from_opening g actions in in_object (flight_of r.core.flights inside) ≡ true → other ≢ entered_number r.core inside
+    → (words_of g (act r action).core.row).place other ≡ (words_of g r.core.row).place (entered_number r.core inside)
+    → (words_of g r.core.row).place other ≡ (words_of g r.core.row).place (entered_number r.core inside)
+
+-- at every moment of a run, no other kept number has one of its words, no New in flight was given one, and no number to
+-- which a New in flight has given a header has its place
 abbrev pub InsideIsApart : Type 0
 InsideIsApart = (g : Geometry) (actions : List Action) (inside : ℕ) → inside < tasks g
     → let r = run_from_opening g actions in in_object (flight_of r.core.flights inside) ≡ true

@@ -1,5 +1,5 @@
 //! Laws of runs: what holds after any list of begins, steps of seats and events of the collector, in any order.
-ghost use Rattle.hk_collect.specs.Laws.{CollectorKeepsLawful, RunsAreLawful, RunsAreLegal, RunsKeepGeometry, LawfulSpotFits, LawfulCanCollect, EventUnlessWorn, CollectorKeepsHistory, CollectorKeepsFlights, OperationsEnd, InsideStays, WritesAreInside, InsideIsApart, RunsGiveFreshNumbers, AttemptsBegin, AttemptsGoOn, HeadersAfterMarks};
+ghost use Rattle.hk_collect.specs.Laws.{CollectorKeepsLawful, RunsAreLawful, RunsAreLegal, RunsKeepGeometry, LawfulSpotFits, LawfulCanCollect, EventUnlessWorn, CollectorKeepsHistory, CollectorKeepsFlights, OperationsEnd, InsideStays, WritesAreInside, PlaceIsGivenToNone, InsideIsApart, RunsGiveFreshNumbers, AttemptsBegin, AttemptsGoOn, HeadersAfterMarks};
 
 /// Every run from the opening state is lawful for its history, so each reply in it is the one of the heap that never
 /// collects. No action changes the geometry.
@@ -29,11 +29,13 @@ pub fn operations_end()
     ensures { OperationsEnd }
 {}
 
-/// While a call is inside an object, no action changes the place in its header, nor a word of it but for the cell that a
-/// step of a call inside it writes; and no other kept number has one of its words.
+/// While a call is inside an object, no action changes the place in its header or gives that place to another number, nor
+/// does one change a word of it but for the cell that a step of a call inside it writes. No other kept number has one of
+/// its words, no New in flight was given one, and no number to which a New in flight has given a header has its place.
 pub fn inside_stays()
     ensures stays { InsideStays }
     ensures writes { WritesAreInside }
+    ensures given { PlaceIsGivenToNone }
     ensures apart { InsideIsApart }
 {}
 

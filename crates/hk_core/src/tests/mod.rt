@@ -2,6 +2,7 @@
 ghost use Rattle.hk_core.specs.Lawful.{IsLawful};
 
 mod calls;
+mod starting;
 mod steps;
 mod wide;
 

@@ -1,10 +1,10 @@
 -- How many arrivals a window holds, where any two are a period apart.
 use Rattle.std.proofs.Common.{◌≡◌, ℕ, zero, suc, ◌+◌, ◌*◌, ◌<◌, ◌≤◌, Bool, true, false, ◌&&◌, nat_lt, nat_le, refl, ap, arith, inl, inr}
-use Rattle.std.proofs.lemmas.Bool.{cases_lt, cases_Bool, and_parts, ltb-true, leb-true}
+use Rattle.std.proofs.lemmas.Bool.{cases_lt, cases_Bool, and_parts, and_from, ltb-true, leb-true, lt-ltb, le-leb}
 use Rattle.std.proofs.lemmas.Grind.{div_ceil_times}
 use Rattle.std.proofs.Math.Nat.{mul-le-mul_right}
 use Rattle.hk_rta.specs.Demand.{starts_in}
-use Rattle.hk_plan.proofs.Sums.{total, pick}
+use Rattle.hk_plan.proofs.Sums.{total, pick, total-le}
 
 -- a place of those that are meant has its moment in the window of w ticks from s
 abbrev pub falls_in : (ℕ → Bool) → (ℕ → ℕ) → ℕ → ℕ → ℕ → Bool
@@ -74,3 +74,41 @@ arrivals-le mine moment period count s w (suc n) a fits =
           omega (arith, above, one_more mine moment s w n e)
       | inr e ↦ omega (arith, arrivals-le mine moment period count s w n a (omega arith), none_more mine moment s w n e)
     ]
+
+-- each moment of the places that are meant is at its origin, or at most the jitter after it
+pub record InJitter (mine : ℕ → Bool) (origin moment : ℕ → ℕ) (jitter count : ℕ) : Type 0 where
+  pub from_origin : (k : ℕ) → k < count → mine k ≡ true → origin k ≤ moment k
+  pub in_jitter : (k : ℕ) → k < count → mine k ≡ true → moment k ≤ origin k + jitter
+
+-- a moment in a window has its origin, put off by the whole jitter, in the window that is longer by the jitter
+put_off : (mine : ℕ → Bool) (origin moment : ℕ → ℕ) (jitter count s w k : ℕ) → InJitter mine origin moment jitter count → k < count
+    → pick (falls_in mine moment s w k) 1 ≤ pick (falls_in mine (λ l. origin l + jitter) s (w + jitter) k) 1
+put_off mine origin moment jitter count s w k j within =
+    elim (cases_Bool (falls_in mine moment s w k)) [
+      | inl e ↦
+          let f : FallsIn mine moment s w k = falls_from mine moment s w k e in
+          let late = j.in_jitter k within f.meant in
+          let early = j.from_origin k within f.meant in
+          let from : s ≤ origin k + jitter = omega (arith, late, f.from) in
+          let before : origin k + jitter < s + (w + jitter) = omega (arith, early, f.before) in
+          let there : falls_in mine (λ l. origin l + jitter) s (w + jitter) k ≡ true =
+          and_from _ _ f.meant (and_from _ _ (le-leb _ _ from) (lt-ltb _ _ before)) in
+          rw (there, e) (omega arith)
+      | inr e ↦ rw e (omega arith)
+    ]
+
+-- where the origins are a period apart, a window holds at most as many moments as periods can begin in the window and
+-- the jitter
+pub readies-le : (mine : ℕ → Bool) (origin moment : ℕ → ℕ) (jitter period count s w n : ℕ) → Apart mine origin period count
+    → InJitter mine origin moment jitter count → n ≤ count → arrivals mine moment s w n ≤ starts_in (w + jitter) period
+readies-le mine origin moment jitter period count s w n a j fits =
+    let later : Apart mine (λ l. origin l + jitter) period count = record {
+      some = a.some;
+      apart = λ k l less within first second. (omega (arith, a.apart k l less within first second));
+    } in
+    omega (
+      arith,
+      total-le (λ k. pick (falls_in mine moment s w k) 1) (λ k. pick (falls_in mine (λ l. origin l + jitter) s (w + jitter) k) 1) n
+          (λ k below. put_off mine origin moment jitter count s w k j (omega (arith, below, fits))),
+      arrivals-le mine (λ l. origin l + jitter) period count s (w + jitter) n later fits,
+    )

@@ -4,11 +4,11 @@ use Rattle.std.proofs.Math.Nat.{mul-le-mul_right}
 use Rattle.std.proofs.lemmas.Bool.{cases_lt, cases_eq, cases_Bool, and_from, or_left, or_right, eq-eqb, eqb-true, lt-ltb, le-ltb, le-leb}
 use Rattle.std.proofs.lemmas.List.Sums.{sum_by_more}
 use Rattle.hk_rta.specs.declared.Timing.{Timing}
-use Rattle.hk_rta.specs.Demand.{demand_of, demand, no_timing, timing_at, cost_at, period_at}
+use Rattle.hk_rta.specs.Demand.{demand_of, demand, no_timing, timing_at, cost_at, period_at, jitter_at}
 use Rattle.hk_plan.specs.declared.Row.{Row}
 use Rattle.hk_plan.specs.Alone.{task_of, arrival_of, ticks_of, had_after, row_at, IsReady, EndsAt}
 use Rattle.hk_plan.specs.Bounds.{KeepsTiming, ResponseBounds}
-use Rattle.hk_plan.proofs.Arrivals.{falls_in, falls_from, arrivals-le, Apart}
+use Rattle.hk_plan.proofs.Arrivals.{falls_in, falls_from, readies-le, Apart, InJitter}
 use Rattle.hk_plan.proofs.Had.{had_more, had_none, had-le-had, had-le-ticks, gets_first, tick_for_cases}
 use Rattle.hk_plan.proofs.Interval.{Getter, getter, Quiet, LesserReady, Since, last_quiet, GoesTo, interval-le-done, is_lesser, counts, done-le}
 use Rattle.hk_plan.proofs.Sums.{total, pick, total-le, total_zero, total-add, total-le-times}
@@ -19,16 +19,20 @@ use Rattle.hk_plan.proofs.Sums.{total, pick, total-le, total_zero, total-add, to
 abbrev pub is_of : List Row → ℕ → ℕ → ℕ → ℕ → Bool
 is_of rows j s w l = falls_in (λ k. nat_eq (task_of rows k) j) (arrival_of rows) s w l
 
--- what a task's rows that arrive in a window take together
-pub task_work-le : (rows : List Row) (j s w : ℕ) (timing : Timing) → KeepsTiming rows j timing
+-- what a task's rows that become ready in a window take together
+pub task_work-le : (rows : List Row) (origin : ℕ → ℕ) (j s w : ℕ) (timing : Timing) → KeepsTiming rows origin j timing
     → total (λ l. pick (is_of rows j s w l) (ticks_of rows l)) (length rows) ≤ demand_of w timing
-task_work-le rows j s w timing keeps =
+task_work-le rows origin j s w timing keeps =
     let mine : ℕ → Bool = λ k. nat_eq (task_of rows k) j in
-    let apart : Apart mine (arrival_of rows) timing.period (length rows) = record {
+    let apart : Apart mine origin timing.period (length rows) = record {
       some = keeps.period_some;
       apart = λ a b less within first second. keeps.apart a b less within (eqb-true _ _ first) (eqb-true _ _ second);
     } in
-    let few = arrivals-le mine (arrival_of rows) timing.period (length rows) s w (length rows) apart (omega arith) in
+    let soon : InJitter mine origin (arrival_of rows) timing.jitter (length rows) = record {
+      from_origin = λ k within own. keeps.from_origin k within (eqb-true _ _ own);
+      in_jitter = λ k within own. keeps.in_jitter k within (eqb-true _ _ own);
+    } in
+    let few = readies-le mine origin (arrival_of rows) timing.jitter timing.period (length rows) s w (length rows) apart soon (omega arith) in
     let each = total-le-times (λ l. pick (is_of rows j s w l) (ticks_of rows l)) (λ l. pick (is_of rows j s w l) 1) timing.cost (length rows)
     (λ l below. elim (cases_Bool (is_of rows j s w l)) [
       | inl e ↦ rw e (omega (arith, keeps.ticks_few l below (eqb-true _ _ (falls_from mine (arrival_of rows) s w l e).meant)))
@@ -48,18 +52,18 @@ lesser_or_own rows i s w l =
     ]
 
 -- what the rows of the lesser tasks that arrive in a window take together
-pub lesser_work-le : (rows : List Row) (timings : List Timing) (i s w : ℕ) → i ≤ length timings
-    → ((j : ℕ) → j < i → KeepsTiming rows j (timing_at timings j))
+pub lesser_work-le : (rows : List Row) (origin : ℕ → ℕ) (timings : List Timing) (i s w : ℕ) → i ≤ length timings
+    → ((j : ℕ) → j < i → KeepsTiming rows origin j (timing_at timings j))
     → total (λ l. pick (is_lesser rows i s w l) (ticks_of rows l)) (length rows) ≤ demand (take i timings) w
-lesser_work-le rows timings zero s w fits keeps =
+lesser_work-le rows origin timings zero s w fits keeps =
     omega (
       arith,
       total_zero (λ l. pick (is_lesser rows 0 s w l) (ticks_of rows l)) (length rows)
           (λ l below. rw (le-ltb (task_of rows l) 0 (omega arith)) refl),
     )
-lesser_work-le rows timings (suc i) s w fits keeps =
-    let before = lesser_work-le rows timings i s w (omega arith) (λ j below. keeps j (omega arith)) in
-    let own = task_work-le rows i s w (timing_at timings i) (keeps i (omega arith)) in
+lesser_work-le rows origin timings (suc i) s w fits keeps =
+    let before = lesser_work-le rows origin timings i s w (omega arith) (λ j below. keeps j (omega arith)) in
+    let own = task_work-le rows origin i s w (timing_at timings i) (keeps i (omega arith)) in
     let split = total-le (λ l. pick (is_lesser rows (suc i) s w l) (ticks_of rows l))
     (λ l. pick (is_lesser rows i s w l) (ticks_of rows l) + pick (is_of rows i s w l) (ticks_of rows l)) (length rows)
     (λ l below. lesser_or_own rows i s w l) in
@@ -72,7 +76,7 @@ lesser_work-le rows timings (suc i) s w fits keeps =
 
 -- ---- one row
 
--- each row of the task at a place below k has had all its ticks the bound after its arrival
+-- each row of the task at a place below k has had all its ticks the bound after it became ready
 abbrev pub EarlierEnded : List Row → ℕ → ℕ → ℕ → Type 0
 EarlierEnded rows i r k = (j : ℕ) → j < k → task_of rows j ≡ i → had_after rows (arrival_of rows j + r) j ≡ ticks_of rows j
 
@@ -91,11 +95,11 @@ lesser_since rows i s u l quiet from lesser ready =
     ]
 
 -- as long as the row at k isn't ended, the ticks of the interval go to it and to rows of lesser tasks that arrive there
-goes_to : (rows : List Row) (timings : List Timing) (i r k : ℕ) → (since : Since rows i (arrival_of rows k)) → KeepsTiming rows i (timing_at timings i)
-    → r ≤ period_at timings i → k < length rows → task_of rows k ≡ i → EarlierEnded rows i r k
+goes_to : (rows : List Row) (origin : ℕ → ℕ) (timings : List Timing) (i r k : ℕ) → (since : Since rows i (arrival_of rows k)) → KeepsTiming rows origin i (timing_at timings i)
+    → r + jitter_at timings i ≤ period_at timings i → k < length rows → task_of rows k ≡ i → EarlierEnded rows i r k
     → had_after rows (arrival_of rows k + r) k < ticks_of rows k
     → (u : ℕ) → since.start ≤ u → u < since.start + r → GoesTo rows (counts rows i since.start r k) u
-goes_to rows timings i r k since keeps short within own earlier unended u from below =
+goes_to rows origin timings i r k since keeps short within own earlier unended u from below =
     let lesser_gets : (l : ℕ) → row_at rows u ≡ Some l → task_of rows l < i → IsReady rows u l → GoesTo rows (counts rows i since.start r k) u =
     λ l gets lesser ready. record {
       place = l;
@@ -126,50 +130,50 @@ goes_to rows timings i r k since keeps short within own earlier unended u from b
                   let own_task : task_of rows g.place ≡ i = same.0 ∙ own in
                   let ended = earlier g.place place_below own_task in
                   let before = keeps.apart g.place k place_below within own_task own in
+                  let late = keeps.in_jitter g.place g.first.ready.within own_task in
+                  let from_there = keeps.from_origin k within own in
                   absurd (omega (
                     arith,
                     ended,
-                    before,
-                    short,
                     g.first.ready.unended,
-                    had-le-had rows (arrival_of rows g.place + r) u g.place (omega (arith, before, short, arrived)),
+                    had-le-had rows (arrival_of rows g.place + r) u g.place (omega (arith, before, late, from_there, short, arrived)),
                   ))
             ]
           ]
     ]
 
--- a row has had all its ticks the bound after its arrival, if the earlier ones of its task have
-pub row_ended : (rows : List Row) (timings : List Timing) (i r k : ℕ) → i < length timings
-    → ((j : ℕ) → j ≤ i → KeepsTiming rows j (timing_at timings j))
-    → r ≤ period_at timings i → cost_at timings i + demand (take i timings) r ≤ r
+-- a row has had all its ticks the bound after it became ready, if the earlier ones of its task have
+pub row_ended : (rows : List Row) (origin : ℕ → ℕ) (timings : List Timing) (i r k : ℕ) → i < length timings
+    → ((j : ℕ) → j ≤ i → KeepsTiming rows origin j (timing_at timings j))
+    → r + jitter_at timings i ≤ period_at timings i → cost_at timings i + demand (take i timings) r ≤ r
     → k < length rows → task_of rows k ≡ i → EarlierEnded rows i r k
     → had_after rows (arrival_of rows k + r) k ≡ ticks_of rows k
-row_ended rows timings i r k listed keeps short enough within own earlier =
+row_ended rows origin timings i r k listed keeps short enough within own earlier =
     elim (cases_lt (had_after rows (arrival_of rows k + r) k) (ticks_of rows k)) [
       | inr full ↦ omega (arith, full, had-le-ticks rows (arrival_of rows k + r) k)
       | inl unended ↦
           let since : Since rows i (arrival_of rows k) = last_quiet rows i (arrival_of rows k) in
           let all = interval-le-done rows (counts rows i since.start r k) since.start r
-          (goes_to rows timings i r k since (keeps i (omega arith)) short within own earlier unended) in
+          (goes_to rows origin timings i r k since (keeps i (omega arith)) short within own earlier unended) in
           let split = done-le rows i since.start r k (since.start + r) within in
-          let lesser = lesser_work-le rows timings i since.start r (omega arith) (λ j below. keeps j (omega arith)) in
+          let lesser = lesser_work-le rows origin timings i since.start r (omega arith) (λ j below. keeps j (omega arith)) in
           let so_far = had-le-had rows (since.start + r) (arrival_of rows k + r) k (omega (arith, since.before)) in
           let few = (keeps i (omega arith)).ticks_few k within own in
           absurd (omega (arith, all, split, lesser, so_far, few, unended, enough))
     ]
 
 -- all earlier rows of the task have
-pub earlier_ended : (rows : List Row) (timings : List Timing) (i r : ℕ) → i < length timings
-    → ((j : ℕ) → j ≤ i → KeepsTiming rows j (timing_at timings j))
-    → r ≤ period_at timings i → cost_at timings i + demand (take i timings) r ≤ r
+pub earlier_ended : (rows : List Row) (origin : ℕ → ℕ) (timings : List Timing) (i r : ℕ) → i < length timings
+    → ((j : ℕ) → j ≤ i → KeepsTiming rows origin j (timing_at timings j))
+    → r + jitter_at timings i ≤ period_at timings i → cost_at timings i + demand (take i timings) r ≤ r
     → (k : ℕ) → k ≤ length rows → EarlierEnded rows i r k
-earlier_ended rows timings i r listed keeps short enough zero fits = λ j below own. absurd (omega arith)
-earlier_ended rows timings i r listed keeps short enough (suc k) fits =
-    let before : EarlierEnded rows i r k = earlier_ended rows timings i r listed keeps short enough k (omega arith) in
+earlier_ended rows origin timings i r listed keeps short enough zero fits = λ j below own. absurd (omega arith)
+earlier_ended rows origin timings i r listed keeps short enough (suc k) fits =
+    let before : EarlierEnded rows i r k = earlier_ended rows origin timings i r listed keeps short enough k (omega arith) in
     λ j below own. elim (cases_eq k j) [
       | inl same ↦
           let P : ℕ → Type 0 = λ l. task_of rows l ≡ i → had_after rows (arrival_of rows l + r) l ≡ ticks_of rows l in
-          let there : P j = subst P same (λ mine. row_ended rows timings i r k listed keeps short enough (omega arith) mine before) in
+          let there : P j = subst P same (λ mine. row_ended rows origin timings i r k listed keeps short enough (omega arith) mine before) in
           there own
       | inr other ↦ before j (omega arith) own
     ]
@@ -196,13 +200,19 @@ end-le rows k t e whole ends =
 
 -- the law
 pub response_bounds : ResponseBounds
-response_bounds rows timings i r listed keeps constrained response in_time k within own =
-    let short : r ≤ period_at timings i = omega (arith, constrained, in_time) in
-    let enough : cost_at timings i + demand (take i timings) r ≤ r = omega (arith, response.holds.balanced) in
-    let earlier : EarlierEnded rows i r k = earlier_ended rows timings i r listed keeps short enough k (omega arith) in
-    let whole : had_after rows (arrival_of rows k + r) k ≡ ticks_of rows k = row_ended rows timings i r k listed keeps short enough within own earlier in
+response_bounds rows origin timings i response listed keeps constrained is_response in_time k within own =
+    let r : ℕ = response - jitter_at timings i in
+    let both : r + jitter_at timings i ≡ response = omega (arith, is_response.after_jitter) in
+    let short : r + jitter_at timings i ≤ period_at timings i = omega (arith, both, constrained, in_time) in
+    let enough : cost_at timings i + demand (take i timings) r ≤ r = omega (arith, is_response.least.holds.balanced) in
+    let earlier : EarlierEnded rows i r k = earlier_ended rows origin timings i r listed keeps short enough k (omega arith) in
+    let ready_whole : had_after rows (arrival_of rows k + r) k ≡ ticks_of rows k = row_ended rows origin timings i r k listed keeps short enough within own earlier in
+    let late = (keeps i (omega arith)).in_jitter k within own in
+    let later : arrival_of rows k + r ≤ origin k + response = omega (arith, late, both) in
+    let whole : had_after rows (origin k + response) k ≡ ticks_of rows k =
+    omega (arith, ready_whole, had-le-had rows (arrival_of rows k + r) (origin k + response) k later, had-le-ticks rows (origin k + response) k) in
     record {
-      whole = λ t later. omega (arith, whole, had-le-had rows (arrival_of rows k + r) t k later, had-le-ticks rows t k);
-      ends = has_end rows k (arrival_of rows k + r) ((keeps i (omega arith)).ticks_some k within own) whole;
-      bounded = λ e ends. end-le rows k (arrival_of rows k + r) e whole ends;
+      whole = λ t le. omega (arith, whole, had-le-had rows (origin k + response) t k le, had-le-ticks rows t k);
+      ends = has_end rows k (origin k + response) ((keeps i (omega arith)).ticks_some k within own) whole;
+      bounded = λ e ends. end-le rows k (origin k + response) e whole ends;
     }

@@ -9,8 +9,8 @@ ghost use Rattle.hk_plan.specs.Bounds.{ResponseBounds};
 use std::alloc::{AllocError, AllocFailed, Global};
 use std::marker::Model;
 
-/// A piece of work: the task that it belongs to, where a lesser number goes first; the moment at which it arrives;
-/// and how many ticks it takes.
+/// A piece of work: the task that it belongs to, where a lesser number goes first; the moment at which it becomes
+/// ready; and how many ticks it takes.
 #[derive(Clone, Copy, Debug, PartialEq, Eq)]
 pub struct Row {
     pub task: u8,
@@ -116,11 +116,14 @@ pub fn each_tick_follows_order()
     ensures { EachTickFollowsOrder }
 {}
 
-/// The law of response times: where the rows of each task keep to its timing, that is, take from one tick to the
-/// cost and arrive at least a period apart in the order of their places, and the deadline of a task is at most its
-/// period, each row of that task ends at most the response time after its arrival, if that is at most the deadline
-/// (M. Joseph and P. Pandya, Finding Response Times in a Real-Time System, 1986). It speaks of the schedule, for
-/// any rows, and not of a plan that was opened, so it serves rows too whose lengths are known only afterwards.
+/// The law of response times. Let each row have an origin, the moment at which its job arrives. Where the rows of
+/// each task keep to its timing, that is, take from one tick to the cost, become ready at their origin or at most the
+/// jitter after it, and have origins at least a period apart in the order of their places, and the deadline of a task
+/// is at most its period, each row of that task ends at most the response time after its origin, if that is at most
+/// the deadline (M. Joseph and P. Pandya, Finding Response Times in a Real-Time System, 1986; the jitter: N. Audsley,
+/// A. Burns, M. Richardson, K. Tindell and A. Wellings, Applying New Scheduling Theory to Static Priority Pre-emptive
+/// Scheduling, 1993). It speaks of the schedule, for any rows, and not of a plan that was opened, so it serves rows too
+/// whose lengths are known only afterwards.
 pub fn response_bounds_every_finish()
     ensures { ResponseBounds }
 {}

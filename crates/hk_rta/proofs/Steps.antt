@@ -1,14 +1,12 @@
 -- How the work in a window grows with the window.
-use Rattle.std.proofs.Common.{◌≡◌, ℕ, ◌+◌, ◌*◌, ◌^◌, ◌≤◌, List, All, length, take, arith, inl, inr, length-take}
+use Rattle.std.proofs.Common.{◌≡◌, ℕ, ◌+◌, ◌^◌, ◌≤◌, List, length, take, arith, inl, inr}
 use Rattle.std.proofs.Math.Nat.{mul-le-mul_left, mul-le-mul_right, div-zero, mod-zero}
 use Rattle.std.proofs.lemmas.Bool.{cases_lt}
 use Rattle.std.proofs.lemmas.Grind.{div_ceil_times}
-use Rattle.std.proofs.lemmas.List.Elements.{All-weaker, All-take}
-use Rattle.std.proofs.lemmas.List.Sums.{sum_by-le, sum_by-le-sum_by}
+use Rattle.std.proofs.lemmas.List.Sums.{sum_by-le-sum_by}
 use Rattle.std.proofs.lemmas.Nat.{mul-le}
 use Rattle.hk_rta.specs.declared.Timing.{Timing}
 use Rattle.hk_rta.specs.declared.Load.{Load}
-use Rattle.hk_rta.specs.declared.TheConstants.{MAX_TASKS, MAX_TICKS, MAX_WORK}
 use Rattle.hk_rta.specs.Demand.{starts_in, demand_of, demand, work_of, work_in, cost_at, IsTimed, IsLoad}
 use Rattle.hk_rta.specs.Busy.{Suffices}
 use Rattle.hk_rta.specs.Response.{Solves}
@@ -35,37 +33,26 @@ starts-le window period some =
 -- in a longer window the tasks bring at least as much work
 pub demand_grows : (tasks : List Timing) (a b : ℕ) → a ≤ b → demand tasks a ≤ demand tasks b
 demand_grows tasks a b h =
-    sum_by-le-sum_by (demand_of a) (demand_of b) tasks (λ t. mul-le-mul_right t.cost (starts_grow a b t.period h))
+    sum_by-le-sum_by (demand_of a) (demand_of b) tasks
+    (λ t. mul-le-mul_right t.cost (starts_grow (a + t.jitter) (b + t.jitter) t.period (omega (arith, h))))
 
 -- in a longer window the loads bring at least as much work
 pub work_grows : (loads : List Load) (a b : ℕ) → a ≤ b → work_in loads a ≤ work_in loads b
 work_grows loads a b h =
-    sum_by-le-sum_by (work_of a) (work_of b) loads (λ l. mul-le-mul_right l.work (starts_grow a b l.period h))
+    sum_by-le-sum_by (work_of a) (work_of b) loads
+    (λ l. mul-le-mul_right l.work (starts_grow (a + l.jitter) (b + l.jitter) l.period (omega (arith, h))))
 
 -- a task in range brings at most so much work into a window in range
-pub demand_of-le : (window : ℕ) (task : Timing) → window ≤ MAX_TICKS → IsTimed task → demand_of window task ≤ 2 ^ 48
+pub demand_of-le : (window : ℕ) (task : Timing) → window ≤ 2 ^ 24 → IsTimed task → demand_of window task ≤ 2 ^ 49
 demand_of-le window task h t =
-    mul-le (starts_in window task.period) task.cost MAX_TICKS MAX_TICKS
-    (omega (arith, starts-le window task.period t.period.0)) t.cost.1
+    mul-le (starts_in (window + task.jitter) task.period) task.cost (2 ^ 25) (2 ^ 24)
+    (omega (arith, t.jitter, starts-le (window + task.jitter) task.period t.period.0)) t.cost.1
 
 -- and a load
-pub work_of-le : (window : ℕ) (load : Load) → window ≤ MAX_TICKS → IsLoad load → work_of window load ≤ 2 ^ 61
+pub work_of-le : (window : ℕ) (load : Load) → window ≤ 2 ^ 24 → IsLoad load → work_of window load ≤ 2 ^ 62
 work_of-le window load h t =
-    mul-le (starts_in window load.period) load.work MAX_TICKS MAX_WORK
-    (omega (arith, starts-le window load.period t.period.0)) t.work
-
--- tasks in range bring at most so much work into a window in range
-pub demand-le : (tasks : List Timing) (window : ℕ) → length tasks ≤ MAX_TASKS → window ≤ MAX_TICKS → All IsTimed tasks → demand tasks window ≤ 31 * 2 ^ 48
-demand-le tasks window few h timed =
-    let each : demand tasks window ≤ length tasks * 2 ^ 48 =
-    sum_by-le (demand_of window) (2 ^ 48) tasks
-    (All-weaker IsTimed (λ t. demand_of window t ≤ 2 ^ 48) (λ t ok. demand_of-le window t h ok) tasks timed) in
-    omega (arith, each)
-
--- the first tasks bring at most so much work into a window in range
-pub demand-take-le : (tasks : List Timing) (i window : ℕ) → length tasks ≤ MAX_TASKS → window ≤ MAX_TICKS → All IsTimed tasks → demand (take i tasks) window ≤ 31 * 2 ^ 48
-demand-take-le tasks i window few h timed =
-    demand-le (take i tasks) window (omega (arith, length-take i tasks)) h (All-take IsTimed i tasks timed)
+    mul-le (starts_in (window + load.jitter) load.period) load.work (2 ^ 25) (2 ^ 37)
+    (omega (arith, t.jitter, starts-le (window + load.jitter) load.period t.period.0)) t.work
 
 -- one step of the iteration from below stays at or below each solution
 pub solves_above : (tasks : List Timing) (i length r : ℕ) → length ≤ r → Solves tasks i r → cost_at tasks i + demand (take i tasks) length ≤ r

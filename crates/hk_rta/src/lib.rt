@@ -2,7 +2,7 @@
 //! memory.
 #![tactic(auto)]
 
-ghost use Rattle.std.specs.Prelude.{◌≡◌, ℕ, ◌+◌, ◌<◌, ◌≤◌, ◌^◌, ◌-◌, length, min, All, MatchOption, IfSome, IsNone, IsTrue, ◌↔◌};
+ghost use Rattle.std.specs.Prelude.{◌≡◌, ℕ, ◌+◌, ◌*◌, ◌<◌, ◌≤◌, ◌^◌, ◌-◌, length, min, All, MatchOption, IfSome, IsNone, IsTrue, ◌↔◌};
 ghost use Rattle.hk_rta.specs.Busy.{Busy, IsOverfull};
 ghost use Rattle.hk_rta.specs.Demand.{IsTimed, IsLoad, demand, work_in, deadline_at};
 ghost use Rattle.hk_rta.specs.Response.{Response, IsLate};
@@ -17,39 +17,47 @@ pub const MAX_TICKS: u64 = 16_777_216;
 pub const MAX_WORK: u64 = 137_438_953_472;
 
 /// What the analysis knows of a task, in ticks: the most that one of its jobs takes, the least time between two
-/// arrivals, and the time from an arrival by which the job is to end.
+/// arrivals, the time from an arrival by which the job is to end, and the most that passes from an arrival until the
+/// job is ready.
 #[derive(Clone, Copy, Debug, PartialEq, Eq)]
 pub struct Timing {
     pub cost: u64,
     pub period: u64,
     pub deadline: u64,
+    pub jitter: u64,
 }
 
-/// Work that comes again and again, in ticks: so much of it at each arrival, and arrivals at least a period apart.
+/// Work that comes again and again, in ticks: so much of it at each arrival, arrivals at least a period apart, and the
+/// work at most `jitter` after its arrival.
 #[derive(Clone, Copy, Debug, PartialEq, Eq)]
 pub struct Load {
     pub period: u64,
+    pub jitter: u64,
     pub work: u64,
 }
 
 /// The response time of task `i` in ticks, under fixed priorities and preemption, where the tasks before it go
-/// first: the least positive R that is its own cost and, for each task before it, the cost as often as its period
-/// begins in R ticks (M. Joseph and P. Pandya, Finding Response Times in a Real-Time System, 1986). None where no
-/// such R is at most the deadline of task `i`. It bounds every job where no deadline is above its period.
+/// first: its own jitter, and the least positive R that is its own cost and, for each task before it, the cost as
+/// often as its period begins in R ticks and its jitter (M. Joseph and P. Pandya, Finding Response Times in a
+/// Real-Time System, 1986; with jitter: N. Audsley, A. Burns, M. Richardson, K. Tindell and A. Wellings, Applying New
+/// Scheduling Theory to Static Priority Pre-emptive Scheduling, 1993). None where the two together are above the
+/// deadline of task `i`, or no such R is. It counts from the arrival, and bounds every job where no deadline is above
+/// its period.
 pub fn response(tasks: &[Timing], i: usize) -> Option<u64>
     requires within { i < length tasks.now }
-    requires few { length tasks.now ≤ MAX_TASKS }
+    requires few { length tasks.now ≤ 31 }
     requires timed { All IsTimed tasks.now }
     ensures found { IfSome result (λ r. Response tasks.now i r) }
     ensures in_time { IfSome result (λ r. r ≤ deadline_at tasks.now i) }
     ensures none { IsNone result ↔ IsLate tasks.now i }
 {
     let task = tasks[i];
+    let longest = task.deadline.checked_sub(task.jitter)?;
     let mut length = task.cost;
-    while length <= task.deadline {
+    while length <= longest {
         let needed = task.cost + demand(&tasks[..i], length);
         if needed == length {
-            return Some(length);
+            return Some(length + task.jitter);
         }
         length = needed;
     }
@@ -57,12 +65,13 @@ pub fn response(tasks: &[Timing], i: usize) -> Option<u64>
 }
 
 /// The length of a busy period in ticks: the least window, from one tick to `cap`, in which there is room for `base`
-/// ticks of work that wait as it begins and for the work that each load brings in it. None where there is none.
+/// ticks of work that wait as it begins and for the work that each load brings in it, at the arrivals in it and in the
+/// load's jitter before. None where there is none.
 pub fn busy(loads: &[Load], base: u64, cap: u64) -> Option<u64>
-    requires few { length loads.now ≤ MAX_TASKS }
+    requires few { length loads.now ≤ 31 }
     requires loads { All IsLoad loads.now }
-    requires base { base ≤ MAX_WORK }
-    requires cap { cap ≤ MAX_TICKS }
+    requires base { base ≤ 2 ^ 37 }
+    requires cap { cap ≤ 2 ^ 24 }
     ensures found { IfSome result (λ x. Busy loads.now base x) }
     ensures in_time { IfSome result (λ x. x ≤ cap) }
     ensures none { IsNone result ↔ IsOverfull loads.now base cap }
@@ -78,16 +87,17 @@ pub fn busy(loads: &[Load], base: u64, cap: u64) -> Option<u64>
     None
 }
 
-/// The work that jobs of the tasks bring which arrive in a window.
+/// The work that jobs of the tasks bring which become ready in a window.
 fn demand(tasks: &[Timing], window: u64) -> u64
-    requires few { length tasks.now ≤ MAX_TASKS }
+    requires few { length tasks.now ≤ 31 }
     requires timed { All IsTimed tasks.now }
-    requires window { window ≤ MAX_TICKS }
-    ensures { result ≡ demand tasks.now window }
+    requires window { window ≤ 2 ^ 24 }
+    ensures value { result ≡ demand tasks.now window }
+    ensures few { result ≤ 31 * 2 ^ 49 }
 {
     let mut sum = 0;
     for task in tasks {
-        sum += window.div_ceil(task.period) * task.cost;
+        sum += (window + task.jitter).div_ceil(task.period) * task.cost;
     }
     sum
 }
@@ -95,12 +105,13 @@ fn demand(tasks: &[Timing], window: u64) -> u64
 /// The work that the loads bring in a window, or [`u64::MAX`] where it is more.
 fn work(loads: &[Load], window: u64) -> u64
     requires loads { All IsLoad loads.now }
-    requires window { window ≤ MAX_TICKS }
+    requires window { window ≤ 2 ^ 24 }
     ensures { result ≡ min (work_in loads.now window) (2 ^ 64 - 1) }
 {
     let mut sum: u64 = 0;
     for load in loads {
-        sum = sum.saturating_add(window.div_ceil(load.period) * load.work);
+        let arrivals = (window + load.jitter).div_ceil(load.period);
+        sum = sum.saturating_add(arrivals * load.work);
     }
     sum
 }
@@ -116,27 +127,31 @@ mod tests {
         ensures { IsTrue result ↔ IsTimed task.now }
     {
         let time = 1..=MAX_TICKS;
-        time.contains(&task.cost) && time.contains(&task.period) && time.contains(&task.deadline)
+        time.contains(&task.cost)
+            && time.contains(&task.period)
+            && time.contains(&task.deadline)
+            && task.jitter <= MAX_TICKS
     }
 
     fn is_load(load: &Load) -> bool
         ensures { IsTrue result ↔ IsLoad load.now }
     {
-        (1..=MAX_TICKS).contains(&load.period) && load.work <= MAX_WORK
+        (1..=MAX_TICKS).contains(&load.period) && load.jitter <= MAX_TICKS && load.work <= MAX_WORK
     }
 
-    /// The response time of the last task of a list of (cost, period, deadline).
+    /// The response time of the last task of a list of (cost, period, deadline, jitter).
     fn last(
         rt: &impl Abort,
         alloc: Global,
-        tasks: &[(u64, u64, u64)],
+        tasks: &[(u64, u64, u64, u64)],
     ) -> Result<Option<u64>, AllocError> {
         let tasks: Vec<Timing> = tasks
             .iter()
-            .map(|(cost, period, deadline)| Timing {
+            .map(|(cost, period, deadline, jitter)| Timing {
                 cost: *cost,
                 period: *period,
                 deadline: *deadline,
+                jitter: *jitter,
             })
             .collect(alloc)?;
         assert!(rt; !tasks.is_empty() && tasks.len() <= MAX_TASKS);
@@ -144,18 +159,19 @@ mod tests {
         Ok(response(&tasks, tasks.len() - 1))
     }
 
-    /// The busy period of a list of (period, work).
+    /// The busy period of a list of (period, jitter, work).
     fn period(
         rt: &impl Abort,
         alloc: Global,
-        loads: &[(u64, u64)],
+        loads: &[(u64, u64, u64)],
         base: u64,
         cap: u64,
     ) -> Result<Option<u64>, AllocError> {
         let loads: Vec<Load> = loads
             .iter()
-            .map(|(period, work)| Load {
+            .map(|(period, jitter, work)| Load {
                 period: *period,
+                jitter: *jitter,
                 work: *work,
             })
             .collect(alloc)?;
@@ -167,47 +183,70 @@ mod tests {
     #[test]
     fn least_responses(rt: HostRuntime) -> Result<(), Fail> {
         const BIG: u64 = 16_777_216;
-        let cases: [(&[(u64, u64, u64)], Option<u64>); 27] = [
-            (&[(1, 4, 4)], Some(1)),
-            (&[(1, 4, 4), (2, 6, 6)], Some(3)),
-            (&[(1, 4, 4), (2, 6, 6), (3, 12, 12)], Some(10)),
-            (&[(1, 4, 4), (2, 6, 6), (3, 12, 10)], Some(10)),
-            (&[(1, 4, 4), (2, 6, 6), (3, 12, 9)], None),
+        let cases: [(&[(u64, u64, u64, u64)], Option<u64>); 38] = [
+            (&[(1, 4, 4, 0)], Some(1)),
+            (&[(1, 4, 4, 0), (2, 6, 6, 0)], Some(3)),
+            (&[(1, 4, 4, 0), (2, 6, 6, 0), (3, 12, 12, 0)], Some(10)),
+            (&[(1, 4, 4, 0), (2, 6, 6, 0), (3, 12, 10, 0)], Some(10)),
+            (&[(1, 4, 4, 0), (2, 6, 6, 0), (3, 12, 9, 0)], None),
             // the utilisation is exactly 1, and the periods are harmonic
-            (&[(1, 2, 2), (1, 4, 4)], Some(2)),
-            (&[(1, 2, 2), (1, 4, 4), (2, 8, 8)], Some(8)),
+            (&[(1, 2, 2, 0), (1, 4, 4, 0)], Some(2)),
+            (&[(1, 2, 2, 0), (1, 4, 4, 0), (2, 8, 8, 0)], Some(8)),
             // the greatest numbers
-            (&[(BIG, BIG, BIG)], Some(BIG)),
-            (&[(BIG, BIG, BIG), (BIG, BIG, BIG)], None),
-            (&[(BIG - 1, BIG, BIG), (1, BIG, BIG)], Some(BIG)),
-            (&[(BIG, 1, BIG), (BIG, 1, BIG), (BIG, 1, BIG)], None),
+            (&[(BIG, BIG, BIG, 0)], Some(BIG)),
+            (&[(BIG, BIG, BIG, 0), (BIG, BIG, BIG, 0)], None),
+            (&[(BIG - 1, BIG, BIG, 0), (1, BIG, BIG, 0)], Some(BIG)),
+            (
+                &[(BIG, 1, BIG, 0), (BIG, 1, BIG, 0), (BIG, 1, BIG, 0)],
+                None,
+            ),
             // thirty tasks before the last
-            (&[(1, 31, 31); 31], Some(31)),
-            (&[(1, 31, 30); 31], None),
-            (&[(1, 30, 31); 31], None),
+            (&[(1, 31, 31, 0); 31], Some(31)),
+            (&[(1, 31, 30, 0); 31], None),
+            (&[(1, 30, 31, 0); 31], None),
             // 3 and 7 solve these equations too, and a search from the deadline finds them first
-            (&[(1, 2, 2), (1, 4, 3)], Some(2)),
-            (&[(2, 5, 5), (3, 12, 7)], Some(5)),
+            (&[(1, 2, 2, 0), (1, 4, 3, 0)], Some(2)),
+            (&[(2, 5, 5, 0), (3, 12, 7, 0)], Some(5)),
             // a window that ends as the next period begins
-            (&[(2, 4, 4), (2, 8, 8)], Some(4)),
-            (&[(2, 4, 4), (3, 8, 8)], Some(7)),
+            (&[(2, 4, 4, 0), (2, 8, 8, 0)], Some(4)),
+            (&[(2, 4, 4, 0), (3, 8, 8, 0)], Some(7)),
             // no job of the last task is ever done
-            (&[(1, 1, 1), (1, 100, 100)], None),
+            (&[(1, 1, 1, 0), (1, 100, 100, 0)], None),
             // the cost is the deadline, and above it
-            (&[(4, 10, 4)], Some(4)),
-            (&[(5, 10, 4)], None),
+            (&[(4, 10, 4, 0)], Some(4)),
+            (&[(5, 10, 4, 0)], None),
             // worked by hand: 5, 11, 14, 17, 20
-            (&[(3, 7, 7), (3, 12, 12)], Some(6)),
-            (&[(3, 7, 7), (3, 12, 12), (5, 20, 20)], Some(20)),
-            (&[(3, 7, 7), (3, 12, 12), (5, 20, 19)], None),
+            (&[(3, 7, 7, 0), (3, 12, 12, 0)], Some(6)),
+            (&[(3, 7, 7, 0), (3, 12, 12, 0), (5, 20, 20, 0)], Some(20)),
+            (&[(3, 7, 7, 0), (3, 12, 12, 0), (5, 20, 19, 0)], None),
             // 40, 60, 75, 80
-            (&[(5, 20, 20), (10, 40, 40), (40, 80, 80)], Some(80)),
+            (
+                &[(5, 20, 20, 0), (10, 40, 40, 0), (40, 80, 80, 0)],
+                Some(80),
+            ),
             // 100, 160, 220, 240
             (
-                &[(20, 100, 100), (40, 150, 150), (100, 350, 350)],
+                &[(20, 100, 100, 0), (40, 150, 150, 0), (100, 350, 350, 0)],
                 Some(240),
             ),
-            (&[(20, 100, 100), (40, 150, 150)], Some(60)),
+            (&[(20, 100, 100, 0), (40, 150, 150, 0)], Some(60)),
+            // the first may be ready 3 late: 4 for the second by 2, 4, and 11 for the third by 3, 7, 10, 11
+            (&[(1, 4, 4, 3)], Some(4)),
+            (&[(1, 4, 4, 3), (2, 6, 6, 0)], Some(4)),
+            (&[(1, 4, 4, 3), (2, 6, 6, 0), (3, 12, 12, 0)], Some(11)),
+            (&[(1, 4, 4, 3), (2, 6, 6, 0), (3, 12, 10, 0)], None),
+            // a task's own jitter comes before its length, and doesn't make the others come more often
+            (&[(1, 4, 4, 0), (2, 6, 6, 3)], Some(6)),
+            (&[(1, 4, 4, 0), (2, 6, 5, 3)], None),
+            // a jitter above the deadline, and the greatest one
+            (&[(1, 10, 4, 5)], None),
+            (&[(1, BIG, BIG, BIG - 1)], Some(BIG)),
+            (&[(1, BIG, BIG, BIG)], None),
+            (&[(1, BIG, BIG, BIG), (1, BIG, BIG, 0)], Some(3)),
+            (
+                &[(BIG, 1, BIG, BIG), (BIG, 1, BIG, BIG), (1, BIG, BIG, 0)],
+                None,
+            ),
         ];
         for (tasks, want) in cases {
             assert_eq!(rt; last(&rt, rt.alloc(), tasks)?, want, "at {tasks:?}");
@@ -218,27 +257,33 @@ mod tests {
     #[test]
     fn least_periods(rt: HostRuntime) -> Result<(), Fail> {
         const BIG: u64 = 16_777_216;
-        let cases: [(&[(u64, u64)], u64, u64, Option<u64>); 17] = [
+        let cases: [(&[(u64, u64, u64)], u64, u64, Option<u64>); 21] = [
             (&[], 0, 0, None),
             (&[], 0, 1, Some(1)),
             (&[], 5, 5, Some(5)),
             (&[], 5, 4, None),
-            (&[(5, 0)], 3, 9, Some(3)),
-            (&[(10, 3)], 2, 9, Some(5)),
-            (&[(10, 3)], 8, 99, Some(14)),
+            (&[(5, 0, 0)], 3, 9, Some(3)),
+            (&[(10, 0, 3)], 2, 9, Some(5)),
+            (&[(10, 0, 3)], 8, 99, Some(14)),
             // more comes in each period than it holds
-            (&[(10, 13)], 1, 1_000, None),
+            (&[(10, 0, 13)], 1, 1_000, None),
             // 1, 6, 7, 9, 10
-            (&[(4, 1), (6, 2), (12, 3)], 0, 10, Some(10)),
-            (&[(4, 1), (6, 2), (12, 3)], 0, 9, None),
-            (&[(2, 1), (4, 1), (8, 2)], 0, 99, Some(8)),
-            (&[(2, 1), (4, 1), (8, 2)], 1, 1_000, None),
+            (&[(4, 0, 1), (6, 0, 2), (12, 0, 3)], 0, 10, Some(10)),
+            (&[(4, 0, 1), (6, 0, 2), (12, 0, 3)], 0, 9, None),
+            (&[(2, 0, 1), (4, 0, 1), (8, 0, 2)], 0, 99, Some(8)),
+            (&[(2, 0, 1), (4, 0, 1), (8, 0, 2)], 1, 1_000, None),
             // the greatest numbers
-            (&[(BIG, BIG)], 0, BIG, Some(BIG)),
-            (&[(BIG, BIG)], 1, BIG, None),
-            (&[(BIG, 1)], BIG - 1, BIG, Some(BIG)),
+            (&[(BIG, 0, BIG)], 0, BIG, Some(BIG)),
+            (&[(BIG, 0, BIG)], 1, BIG, None),
+            (&[(BIG, 0, 1)], BIG - 1, BIG, Some(BIG)),
             (&[], MAX_WORK, BIG, None),
-            (&[(1, MAX_WORK); 31], MAX_WORK, BIG, None),
+            // what arrived in the jitter before comes too: 1, 5, 8
+            (&[(10, 9, 3)], 2, 9, Some(8)),
+            // 1, 6, 8, 10, 11
+            (&[(4, 3, 1), (6, 0, 2), (12, 0, 3)], 0, 99, Some(11)),
+            (&[(BIG, BIG, 1)], 0, BIG, Some(2)),
+            (&[(1, BIG, MAX_WORK); 31], MAX_WORK, BIG, None),
+            (&[(1, 0, MAX_WORK); 31], MAX_WORK, BIG, None),
         ];
         for (loads, base, cap, want) in cases {
             assert_eq!(rt;

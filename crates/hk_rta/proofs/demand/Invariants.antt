@@ -5,5 +5,5 @@ use Rattle.hk_rta.proofs.demand.Given as goal
 abbrev pub invariant-loop-task : goal.invariant-loop-task
 invariant-loop-task l = record {
   so_far : l.sum ≡ demand (take l.task-index l.tasks) l.window;
-  few : l.sum ≤ l.task-index * 2 ^ 48;
+  few : l.sum ≤ l.task-index * 2 ^ 49;
 }

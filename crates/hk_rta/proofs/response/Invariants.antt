@@ -11,4 +11,4 @@ invariant-loop-length l = record {
 }
 
 abbrev pub decreases-loop-length : goal.decreases-loop-length
-decreases-loop-length l = l.task.deadline + 1 - l.length
+decreases-loop-length l = l.longest + 1 - l.length

@@ -3,5 +3,9 @@ pub mod Bound
 pub mod Chosen
 pub mod Had
 pub mod Interval
+pub mod JobBound
+pub mod JobRows
+pub mod LeastTask
+pub mod ReadyRows
 pub mod Sums
 pub mod Track

@@ -5,6 +5,8 @@ ghost use Rattle.std.specs.Prelude.{◌≡◌, ℕ, ◌+◌, ◌<◌, ◌≤◌,
 ghost use Rattle.std.specs.Option.{ForSome};
 ghost use Rattle.hk_plan.specs.Alone.{chosen, first_of, row_at, IsUnended, TakesTicks, EndsAt, EachTickFollowsOrder};
 ghost use Rattle.hk_plan.specs.Bounds.{ResponseBounds};
+ghost use Rattle.hk_plan.specs.JobBounds.{ResponseBoundsJobs};
+ghost use Rattle.hk_plan.specs.LeastTask.{LeastTaskIsPlain};
 
 use std::alloc::{AllocError, AllocFailed, Global};
 use std::marker::Model;
@@ -16,6 +18,18 @@ pub struct Row {
     pub task: u8,
     pub arrival: u64,
     pub ticks: u64,
+}
+
+/// What a choice among ready jobs is told of one: its task; its number within the task; the moment at which it
+/// arrived; the moment by which it is to end, which is its arrival and the task's deadline; and how many ticks it has
+/// had.
+#[derive(Clone, Copy, Debug, PartialEq, Eq)]
+pub struct Ready {
+    pub task: u8,
+    pub job: u64,
+    pub arrival: u64,
+    pub deadline: u64,
+    pub done: u64,
 }
 
 /// No memory was found.
@@ -126,6 +140,21 @@ pub fn each_tick_follows_order()
 /// whose lengths are known only afterwards.
 pub fn response_bounds_every_finish()
     ensures { ResponseBounds }
+{}
+
+/// The law of the choice of the least task: where some rows list the jobs of some tasks, each in its place, the schedule
+/// of the jobs by that choice is the plain schedule of the rows: each tick goes to the same job or to nobody, and each
+/// job ends at the same moment.
+pub fn least_task_is_plain()
+    ensures { LeastTaskIsPlain }
+{}
+
+/// The law of response times over jobs: where the jobs of each task keep to its timing, that is, take from one tick to
+/// the cost, become ready at their arrival or at most the jitter after it, and arrive at least a period apart, and the
+/// deadline of a task is at most its period, each job of that task ends at most the response time after its arrival, in
+/// the schedule by the choice of the least task, if that is at most the deadline.
+pub fn response_bounds_every_job()
+    ensures { ResponseBoundsJobs }
 {}
 
 /// The place of the row that goes first among those that have arrived by a moment and have had fewer ticks than

@@ -9,6 +9,7 @@ mod memory;
 mod packing;
 mod row;
 mod shape;
+mod sizes;
 
 pub use bounds::{MOST_PLACES, cycle_events, frame_events, object_events};
 pub use call::{Call, Reply, call_laws};
@@ -24,3 +25,4 @@ pub use packing::{
 };
 pub use row::row_laws;
 pub use shape::{MAX_FIELDS, Shape, USUAL_FIELDS};
+pub use sizes::one_geometry;

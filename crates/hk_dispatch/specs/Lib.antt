@@ -5,4 +5,9 @@ pub mod Ticks
 pub mod Session
 pub mod Told
 pub mod Replay
+pub mod Quiet
+pub mod Live
+pub mod HighJobs
 pub mod InStep
+pub mod Kept
+pub mod Laws

@@ -4,7 +4,7 @@ ghost use Rattle.hk_words.specs.Geometry.{tasks};
 ghost use Rattle.hk_words.specs.Calls.{RegistersFit};
 ghost use Rattle.hk_model.specs.History.{is_question};
 ghost use Rattle.hk_model.specs.Replies.{said};
-ghost use Rattle.hk_core.specs.State.{flight_of};
+ghost use Rattle.hk_core.specs.State.{IsSized, flight_of};
 ghost use Rattle.hk_core.specs.Begin.{refusal};
 ghost use Rattle.hk_script.specs.declared.walk.Need.TheVariants.{Heap};
 ghost use Rattle.hk_dispatch.specs.InStep.{SeatInStep, MayBegin};
@@ -43,10 +43,11 @@ impl Left {
 /// Does the first tick of an operation: its begin, and where that isn't refused its first place.
 #[tactic(auto, using(crate::proofs::Begun::begun))]
 fn start(heap: &mut OwnedHeap, seat: u8, call: Call) -> Left
+    requires sized { IsSized heap.old }
     requires seat { seat < tasks heap.old.geometry }
     requires may { MayBegin heap.old.geometry call }
     requires idle { (flight_of heap.old.flights seat).place ≡ 0 }
-    ensures core { heap.new ≡ core_first heap.old seat call (refusal heap.old seat call) }
+    ensures heap { heap.new ≡ core_first heap.old seat call (refusal heap.old seat call) }
     ensures left { result ≡ leaves_first heap.old seat call (refusal heap.old seat call) }
 {
     if let Err(fault) = heap.begin(seat, call) {
@@ -57,10 +58,11 @@ fn start(heap: &mut OwnedHeap, seat: u8, call: Call) -> Left
 
 /// Does one tick of an operation of a seat, of which it has had so many.
 pub(crate) fn operate(heap: &mut OwnedHeap, seat: u8, call: Call, spent: u64) -> Left
+    requires sized { IsSized heap.old }
     requires seat { seat < tasks heap.old.geometry }
     requires may { MayBegin heap.old.geometry call }
     requires in_step { SeatInStep (flight_of heap.old.flights seat) (Some (Heap call)) spent }
-    ensures core { heap.new ≡ core_on heap.old seat call spent }
+    ensures heap { heap.new ≡ core_on heap.old seat call spent }
     ensures left { result ≡ leaves_on heap.old seat call spent }
 {
     if spent == 0 {

@@ -1,0 +1,130 @@
+-- What holds of a session at every moment of its run, beside what it promises. Each fact takes the columns that it reads.
+use Rattle.std.specs.Prelude.{◌≡◌, ℕ, zero, suc, ◌+◌, ◌*◌, ◌<◌, ◌≤◌, Bool, true, false, ◌&&◌, nat_lt, List, length, slice_index, Contains, Option, Some, None, if◌then◌else◌}
+use Rattle.hk_words.specs.declared.geometry.Geometry.{Geometry}
+use Rattle.hk_words.specs.Geometry.{tasks, space_words}
+use Rattle.hk_words.specs.Calls.{RegistersFit}
+use Rattle.hk_words.specs.declared.call.Reply.{Reply}
+use Rattle.hk_model.specs.History.{History, is_question}
+use Rattle.hk_core.specs.declared.flight.Flight.{Flight}
+use Rattle.hk_core.specs.declared.spot.Spot.{Spot}
+use Rattle.hk_core.specs.State.{State, flight_of}
+use Rattle.hk_core.specs.Run.{Action}
+use Rattle.hk_core.specs.View.{words_of, names_of}
+use Rattle.hk_core.specs.Flights.{has_raised, cycle_of}
+use Rattle.hk_core.specs.Lines.{cleared}
+use Rattle.hk_core.specs.Lawful.{Lawful}
+use Rattle.hk_collect.specs.Measure.{in_attempt, IsUntouched, IsCalm, most_useful, least_useful}
+use Rattle.hk_collect.specs.Used.{Trace, traced, next_birth}
+use Rattle.hk_plan.specs.declared.Ready.{Ready}
+use Rattle.hk_script.specs.declared.statement.Statement.{Statement}
+use Rattle.hk_script.specs.declared.walk.Need.{Need}
+use Rattle.hk_script.specs.Walks.{need_of, Fits}
+use Rattle.hk_script.specs.Runs.{need_ticks, need_words, taken_by, AreReplies, taken}
+use Rattle.hk_sheet.specs.declared.sheet.High.{High}
+use Rattle.hk_sheet.specs.declared.sheet.Sheet.{Sheet}
+use Rattle.hk_admit.specs.Analysis.{largest_object, some_makes}
+use Rattle.hk_dispatch.specs.Tasks.{Task, tasks_of, task_at, high_at, is_high}
+use Rattle.hk_dispatch.specs.Moment.{Course, Moment, core_of, history_of, used_at, course_at, need_at}
+use Rattle.hk_dispatch.specs.Turns.{Turn, to_task, to_collector, to_nobody, is_operation, in_mid_course, first_low, turn}
+use Rattle.hk_dispatch.specs.Session.{state}
+use Rattle.hk_dispatch.specs.Quiet.{NoHighWaits}
+use Rattle.hk_dispatch.specs.InStep.{SeatInStep, MayBegin}
+use Rattle.hk_dispatch.specs.HighJobs.{high_arrivals_before}
+
+-- A task had a tick since the open attempt began. After a tick of a task that is so where an attempt is open; a tick of the
+-- collector leaves it while the attempt goes on.
+abbrev pub met_after : (before : Bool) → (attempt_open : Bool) → Turn → Bool
+met_after before attempt_open (to_task seat) = attempt_open
+met_after before attempt_open to_collector = before && attempt_open
+met_after before attempt_open to_nobody = before
+
+unfoldable pub met : Geometry → (List Ready → ℕ) → Sheet → (t : ℕ) → Bool
+met g choice sheet zero = false
+met g choice sheet (suc t) =
+    met_after (met g choice sheet t) (in_attempt (core_of (state g choice sheet (suc t))).spot.line) (turn choice sheet (state g choice sheet t) t)
+
+-- THE HEAP
+
+-- The machine is lawful for the history, and calm; the useful events are at most those of the spot, and those of an open
+-- attempt are among them; an attempt that wasn't met is untouched; and the words used are paid for. Without it there is no
+-- measure of a cycle, and no balance.
+pub record HeapKept (rate : ℕ) (c : State) (history : History) (useful debt used : ℕ) (met_now : Bool) : Type 0 where
+  pub lawful : Lawful c history
+  pub calm : IsCalm c
+  pub useful_few : useful ≤ most_useful c.geometry c.spot
+  pub counted : least_useful c.spot ≤ useful
+  pub untouched : met_now ≡ false → IsUntouched c
+  pub balance : rate * used ≤ useful + debt
+
+-- Each birth since the flip is young, and who has raised W0 did so in this cycle. Without it a reserved object could have been
+-- made after the flip.
+pub record AllYoung (r : Trace) : Type 0 where
+  pub births : (b : ℕ) → next_birth r.running.core.geometry r.at_flip ≤ b → b < next_birth r.running.core.geometry r.running.history → Contains r.young b
+  pub raised : (seat : ℕ) → seat < tasks r.running.core.geometry → has_raised (flight_of r.running.core.flights seat) ≡ true
+      → cycle_of (flight_of r.running.core.flights seat) ≡ (words_of r.running.core.geometry r.running.core.row).cycle
+
+-- No object is larger than so many words. Without it a lost attempt could have any number of events.
+abbrev pub ObjectsWithin : Geometry → History → (words : ℕ) → Type 0
+ObjectsWithin g history words = (b : ℕ) → 1 + (names_of g history).refs b + (names_of g history).nums b ≤ words
+
+-- So many events are enough for the cycles so far, since each clears the words of a space. Without it the cycles could end.
+abbrev pub IsWorked : Geometry → Spot → (events : ℕ) → Type 0
+IsWorked g t events = t.cycle * space_words g + cleared g t.line ≤ events + 2 * space_words g
+
+-- THE TASKS
+
+-- The walk of a task's job fits the script and isn't at its end; the job has had fewer ticks of the present statement than that
+-- takes; one that has had a tick has become ready; and fewer jobs ended than ticks were given.
+pub record CourseKept (task : Task) (course : Course) (t : ℕ) : Type 0 where
+  pub job_is : course.walk.job ≡ course.job
+  pub fits : Fits task.script course.walk
+  pub within : course.walk.place < length task.script
+  pub turns : length course.walk.turns ≡ 16
+  pub variables : length course.walk.variables ≡ 8
+  pub spent_few : course.spent < taken_by need_ticks (need_of task.script course.walk)
+  pub spent_had : course.spent ≤ course.had
+  pub began : 0 < course.had → (ready : ℕ) × (task.ready course.job ≡ Some ready) × (ready < t)
+  pub jobs_few : course.job + course.had ≤ t
+
+-- The words of the present statement that were taken: those of a New after its third place.
+abbrev pub taken_already : Option Need → (spent : ℕ) → ℕ
+taken_already wants spent = if nat_lt 2 spent then taken_by need_words wants else 0
+
+-- Whatever the replies to come, a high job takes at most so many ticks and words in all. Without it nothing bounds a job.
+pub record KeepsDeclared (script : List Statement) (course : Course) (ticks words : ℕ) : Type 0 where
+  pub ticks_few : (replies : List Reply) → AreReplies script course.walk replies
+      → course.had + taken need_ticks script course.walk replies ≤ ticks + course.spent
+  pub words_few : (replies : List Reply) → AreReplies script course.walk replies
+      → course.took + taken need_words script course.walk replies ≤ words + taken_already (need_of script course.walk) course.spent
+
+-- at most one low operation is in mid-course
+abbrev pub OneLow : Sheet → Moment → Type 0
+OneLow sheet m = (a b : ℕ) → is_high sheet a ≡ false → is_high sheet b ≡ false
+    → in_mid_course sheet m a ≡ true → in_mid_course sheet m b ≡ true → a ≡ b
+
+-- An open attempt that wasn't met began where no high job waited and no low operation was in mid-course, and it is so still.
+-- Without it an attempt could be charged twice in a busy interval.
+pub record AttemptFresh (sheet : Sheet) (m : Moment) (met_now : Bool) (t : ℕ) : Type 0 where
+  pub high : in_attempt (core_of m).spot.line ≡ true → met_now ≡ false → NoHighWaits sheet m t
+  pub low : in_attempt (core_of m).spot.line ≡ true → met_now ≡ false → first_low sheet (in_mid_course sheet m) ≡ None
+
+-- THE WHOLE
+
+pub record Kept (g : Geometry) (choice : List Ready → ℕ) (sheet : Sheet) (attempt t : ℕ) (m : Moment) : Type 0 where
+  pub geometry : (core_of m).geometry ≡ g
+  pub heap : HeapKept sheet.heap.rate (core_of m) (history_of m) m.useful m.debt (used_at m) (met g choice sheet t)
+  pub run : (actions : List Action) × (m.trace ≡ traced g actions)
+  pub young : AllYoung m.trace
+  pub objects : ObjectsWithin g (history_of m) (largest_object sheet)
+  pub worked : IsWorked g (core_of m).spot m.events
+  pub events_few : m.events ≤ t
+  pub begun : (seat : ℕ) → slice_index (core_of m).begun seat ≤ t
+  pub courses : length m.courses ≡ length (tasks_of sheet)
+  pub course : (seat : ℕ) → seat < length (tasks_of sheet) → CourseKept (task_at sheet seat) (course_at m seat) t
+  pub declared : (seat : ℕ) → seat < length sheet.high
+      → KeepsDeclared (high_at sheet seat).script (course_at m seat) (high_at sheet seat).timing.cost (high_at sheet seat).words
+  pub in_step : (seat : ℕ) → seat < length (tasks_of sheet) → SeatInStep (flight_of (core_of m).flights seat) (need_at sheet m seat) (course_at m seat).spent
+  pub one_low : OneLow sheet m
+  pub fresh_attempt : AttemptFresh sheet m (met g choice sheet t) t
+  pub account : m.events + m.debt ≡ sheet.heap.rate * m.taken + m.lost
+  pub no_debt : some_makes sheet ≡ false → m.debt ≡ 0

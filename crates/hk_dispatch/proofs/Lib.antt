@@ -1,1 +1,5 @@
+pub mod numbers
 pub mod Begun
+pub mod InStep
+pub mod Courses
+pub mod SeatsInStep

@@ -13,7 +13,6 @@ cat > "$work/crates/response_bench/src/main.rt" <<'PROGRAM'
 #![tactic(auto)]
 ghost use Rattle.std.specs.Prelude.{◌≡◌, ℕ, ◌≤◌, ◌↔◌, length, All, IsTrue};
 ghost use Rattle.hk_rta.specs.Demand.{IsTimed};
-ghost use Rattle.hk_rta.specs.declared.TheConstants.{MAX_TASKS};
 
 use hk_rta::{MAX_TASKS, MAX_TICKS, Timing, response};
 use std::alloc::{AllocError, Global};
@@ -25,7 +24,10 @@ fn is_timed(task: &Timing) -> bool
     ensures { IsTrue result ↔ IsTimed task.now }
 {
     let time = 1..=MAX_TICKS;
-    time.contains(&task.cost) && time.contains(&task.period) && time.contains(&task.deadline)
+    time.contains(&task.cost)
+        && time.contains(&task.period)
+        && time.contains(&task.deadline)
+        && task.jitter <= MAX_TICKS
 }
 
 /// Tasks with 0.95 / 31 of the processor each, whose periods go down from 2^24 by so many ticks.
@@ -34,7 +36,7 @@ fn tasks(alloc: Global, apart: u64) -> Result<Vec<Timing>, AllocError> {
     for place in 0..31_u64 {
         let period = MAX_TICKS.saturating_sub(place.saturating_mul(apart));
         let cost = period.saturating_mul(95) / 3100;
-        tasks.push(Timing { cost, period, deadline: period })?;
+        tasks.push(Timing { cost, period, deadline: period, jitter: 0 })?;
     }
     tasks.reverse();
     Ok(tasks)
@@ -42,7 +44,7 @@ fn tasks(alloc: Global, apart: u64) -> Result<Vec<Timing>, AllocError> {
 
 /// The sum of all response times.
 fn all(tasks: &[Timing]) -> u64
-    requires few { length tasks.now ≤ MAX_TASKS }
+    requires few { length tasks.now ≤ 31 }
     requires timed { All IsTimed tasks.now }
 {
     let mut sum: u64 = 0;

@@ -33,8 +33,7 @@ use Rattle.hk_core.specs.Lines as l
 use Rattle.hk_core.specs.Colours.{spaces_of, is_within, white_by, shades_of}
 use Rattle.hk_core.specs.Facts.{IsSettled, IsRecent, own_entry}
 use Rattle.hk_core.specs.Lawful.{Lawful}
-use Rattle.hk_core.proofs.Columns.{raw_w0, raw_header, raw_mark, fired_if_none}
-use Rattle.hk_core.proofs.Rows.{words_some}
+use Rattle.hk_core.proofs.Columns.{raw_w0, raw_header, raw_mark, fired_if_none, words_some}
 use Rattle.hk_core.proofs.kinds.Seats.{kept_means}
 use Rattle.hk_core.proofs.kinds.Enter.{object_of, entering_words}
 use Rattle.hk_core.proofs.kinds.Leave.{leaving_words}

@@ -28,7 +28,7 @@ use Rattle.hk_core.specs.Flights as f
 use Rattle.hk_core.specs.Facts.{IsRecent}
 use Rattle.hk_core.specs.Colours.{spaces_of, shades_of, held_by, grey_by, is_within, IsKeptBirth, IsNullOrKept}
 use Rattle.hk_core.specs.Lawful.{Lawful}
-use Rattle.hk_core.proofs.Rows.{words_some}
+use Rattle.hk_core.proofs.Columns.{words_some}
 use Rattle.hk_core.proofs.kinds.ClaimWords.{words-claim}
 use Rattle.hk_core.proofs.kinds.ClaimSeats.{load_item_good, store_item_good}
 use Rattle.hk_core.proofs.kinds.Enter.{object_of, entering_words}

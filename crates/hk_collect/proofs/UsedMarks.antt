@@ -25,9 +25,8 @@ use Rattle.hk_core.specs.View.{Words, words_of, names_of, contents_of, flight_at
 use Rattle.hk_core.specs.Lines as l
 use Rattle.hk_core.specs.Colours.{Spaces, spaces_of, is_within}
 use Rattle.hk_core.specs.Lawful.{Lawful}
-use Rattle.hk_core.proofs.Columns.{fired_kept, old_at}
+use Rattle.hk_core.proofs.Columns.{fired_kept, old_at, words_some}
 use Rattle.hk_core.proofs.Inside.{shapes_fit}
-use Rattle.hk_core.proofs.Rows.{words_some}
 use Rattle.hk_core.proofs.kinds.ClaimWords.{words-claim}
 use Rattle.hk_core.proofs.kinds.Seats.{kept_means}
 use Rattle.hk_collect.proofs.spots.SpotMove.{item_there}

@@ -1,7 +1,7 @@
 -- The actions of seats, in any order: a begin whose condition holds keeps a lawful state lawful, and so does a step, where
 -- the step of the seat does; one whose condition doesn't hold changes nothing.
 use Rattle.std.proofs.Common.{◌≡◌, ℕ, ◌<◌, ◌≤◌, Bool, true, false, refl, arith}
-use Rattle.std.proofs.lemmas.Bool.{and_parts, ltb-true, eqb-true}
+use Rattle.std.proofs.lemmas.Bool.{and_parts, ltb-true, eqb-true, not-true}
 use Rattle.std.proofs.lemmas.Bool.Decides.{nat_tests}
 use Rattle.std.specs.Prelude.{nat_lt, nat_eq, not, ◌&&◌, if◌then◌else◌}
 use Rattle.hk_words.specs.declared.call.Call.{Call}
@@ -24,10 +24,6 @@ if_lawful : (test : Bool) (a b : Running) → (test ≡ true → IsLawfulRun a) 
 if_lawful true a b yes' no' = yes' refl
 if_lawful false a b yes' no' = no'
 
-not_true : (b : Bool) → not b ≡ true → b ≡ false
-not_true true e = absurd (cc)
-not_true false e = refl
-
 in_flight : (place : ℕ) → nat_eq place 0 ≡ false → 1 ≤ place
 in_flight place e = grind (arith, nat_tests)
 
@@ -40,7 +36,7 @@ lawful_act_begin r seat call h =
     let idle = and_parts (nat_lt seat (tasks r.core.geometry)) (nat_eq (flight_of r.core.flights seat).place 0) p.0 in
     let fit = and_parts (not (is_question call)) (registers_fit r.core.geometry.registers call) p.1 in
     lawful_after_begin r.core r.history seat call (ltb-true seat (tasks r.core.geometry) idle.0) (eqb-true (flight_of r.core.flights seat).place 0 idle.1)
-    (not_true (is_question call) fit.0) ((registers_tested r.core.geometry.registers call).0 fit.1) h)
+    (not-true (is_question call) fit.0) ((registers_tested r.core.geometry.registers call).0 fit.1) h)
     h
 
 pub lawful_act_step : (r : Running) (seat : ℕ) → IsLawfulRun r
@@ -51,5 +47,5 @@ lawful_act_step r seat h steps =
     if_lawful (is_busy r.core seat) (record { core = next r.core seat; history = history_after r.core seat r.history }) r
     (λ e.
     let p = and_parts (nat_lt seat (tasks r.core.geometry)) (not (nat_eq (flight_of r.core.flights seat).place 0)) e in
-    steps (ltb-true seat (tasks r.core.geometry) p.0) (in_flight (flight_of r.core.flights seat).place (not_true (nat_eq (flight_of r.core.flights seat).place 0) p.1)))
+    steps (ltb-true seat (tasks r.core.geometry) p.0) (in_flight (flight_of r.core.flights seat).place (not-true (nat_eq (flight_of r.core.flights seat).place 0) p.1)))
     h

@@ -1,6 +1,6 @@
 -- In a lawful state a seat in flight can step: its flight fits, its event may be fired, and a New finds a number in its
 -- entry.
-use Rattle.std.proofs.Common.{◌≡◌, ◌≢◌, ℕ, zero, suc, ◌+◌, ◌*◌, ◌^◌, ◌<◌, ◌≤◌, ◌⊎◌, Bool, true, false, inl, inr, refl, sym, ◌∙◌, arith, List, Option, Some, None}
+use Rattle.std.proofs.Common.{◌≡◌, ◌≢◌, ℕ, zero, suc, ◌+◌, ◌*◌, ◌^◌, ◌<◌, ◌≤◌, Bool, true, false, inl, inr, refl, sym, ◌∙◌, arith, List, Option, Some, None}
 use Rattle.std.proofs.lemmas.Bool.{cases_Bool, eqb-true, ltb-true, leb-true, le-leb, and_parts}
 use Rattle.std.proofs.lemmas.Bool.Decides.{nat_tests}
 use Rattle.std.specs.Prelude.{nat_eq, nat_le, not, ◌&&◌, if◌then◌else◌}
@@ -36,6 +36,7 @@ use Rattle.hk_core.proofs.Inside.{LiesInSpaces, shapes_fit, good_sound, number_i
 use Rattle.hk_core.proofs.Reserved.{reserved_small}
 use Rattle.hk_core.proofs.kinds.Enter.{object_of}
 use Rattle.hk_core.proofs.kinds.Words.{room_in_object, some_in_object, version_room, frame_version_room}
+use Rattle.hk_core.proofs.Shared.{some_good}
 
 -- an event that depends on a test may be fired where each branch's may
 by_test : (row : List ℕ) (test : Bool) (a b : Option Event) → (test ≡ true → CanFireIf row a) → (test ≡ false → CanFireIf row b) → CanFireIf row (if test then a else b)
@@ -45,10 +46,6 @@ by_test row false a b yes' no' = no' refl
 -- a word whose test for null fails isn't null
 not_null : (word : ℕ) → nat_eq word 0 ≡ false → word ≢ 0
 not_null word e = grind (arith, nat_tests)
-
-some_good : (P : Type 0) (word : ℕ) → word ≢ 0 → (word ≡ 0) ⊎ P → P
-some_good P word some (inl null) = absurd (some null)
-some_good P word some (inr good) = good
 
 -- what is learnt from a rest, and from the load of a list entry
 nothing_small : (row : List ℕ) → learnt row None < 2 ^ 32

@@ -12,8 +12,8 @@ use Rattle.hk_model.specs.View.{upd, upd2}
 use Rattle.hk_model.proofs.Updates.{is_upd, is_upd2}
 use Rattle.hk_core.specs.declared.event.Event.{Event}
 use Rattle.hk_core.specs.Event as event
-use Rattle.hk_core.specs.Event.{fired, fired_if, old_of, word_after}
-use Rattle.hk_core.specs.View.{raw, word_if}
+use Rattle.hk_core.specs.Event.{fired, fired_if, old_of, learnt, word_after}
+use Rattle.hk_core.specs.View.{Words, raw, word_if, words_of}
 
 -- A word where a test says that there is a slot.
 
@@ -308,3 +308,15 @@ fired_if_some row e = refl
 pub fired_if_none : (row : List ℕ) → fired_if row None ≡ row
 unfolding fired_if
 fired_if_none row = refl
+
+-- nothing is learnt from an event that is left out
+pub nothing_learnt : (row : List ℕ) → learnt row None ≡ 0
+unfolding learnt
+nothing_learnt row = refl
+
+-- the words after an event that isn't left out, and after one that is
+pub words_some : (g : Geometry) (row : List ℕ) (e : Event) (w : Words) → words_of g (fired row e) ≡ w → words_of g (fired_if row (Some e)) ≡ w
+words_some g row e w h = ap (words_of g) (fired_if_some row e) ∙ h
+
+pub words_none : (g : Geometry) (row : List ℕ) → words_of g (fired_if row None) ≡ words_of g row
+words_none g row = ap (words_of g) (fired_if_none row)

@@ -103,15 +103,15 @@ count_some p s (suc n) below h =
       | inr d ↦ let i : 0 < count_below n p = count_some p s n (omega arith) h in omega arith
     ]
 
+pub one_at_most : (b : Bool) → one_if b ≤ 1
+one_at_most true = omega arith
+one_at_most false = omega arith
+
 -- at most all seats pass the test
 pub count_bounded : (p : ℕ → Bool) (n : ℕ) → count_below n p ≤ n
 unfolding count_below
 count_bounded p zero = omega arith
 count_bounded p (suc n) = let i : count_below n p ≤ n = count_bounded p n in let x : one_if (p n) ≤ 1 = one_at_most (p n) in omega arith
-  where
-    one_at_most : (b : Bool) → one_if b ≤ 1
-    one_at_most true = omega arith
-    one_at_most false = omega arith
 
 -- where a seat fails the test, fewer than all seats pass it
 pub count_room : (p : ℕ → Bool) (s n : ℕ) → s < n → p s ≡ false → count_below n p < n
@@ -122,10 +122,6 @@ count_room p s (suc n) below h =
       | inl e ↦ let x : one_if (p n) ≡ 0 = ap one_if (ap p (sym e) ∙ h) in let i : count_below n p ≤ n = count_bounded p n in omega arith
       | inr d ↦ let i : count_below n p < n = count_room p s n (omega arith) h in let x : one_if (p n) ≤ 1 = one_at_most (p n) in omega arith
     ]
-  where
-    one_at_most : (b : Bool) → one_if b ≤ 1
-    one_at_most true = omega arith
-    one_at_most false = omega arith
 
 -- a test on some seat gives the same answer where the change leaves the test of the seat as it was
 pub any_kept : {A : Type 0} (p : A → Bool) (f : ℕ → A) (s : ℕ) (v : A) (n : ℕ) → p v ≡ p (f s)

@@ -25,7 +25,8 @@ use Rattle.hk_core.specs.Replied.{AddsOne, AnswersEntry}
 use Rattle.hk_core.proofs.Places.{others_kept, takes_next, ends, begins_alone, begins_first, refused_kept, flight_stepped}
 use Rattle.hk_core.proofs.Replied.{is_done, done_at, StepKind, EndKind, quiet, acts, past, over, at_once, step_kind, end_kind}
 use Rattle.hk_core.proofs.Turns.{GoesBy, acted, has_flight, goes_by, differ, begin_sized, begin_geometry, step_geometry}
-use Rattle.hk_core.proofs.kinds.Read.{refuted}
+use Rattle.hk_core.proofs.Shared.{refuted}
+use Rattle.std.proofs.lemmas.List.{append-nil}
 
 -- SEATS
 
@@ -147,13 +148,9 @@ module _ (g : Geometry) (x : Flight) (old : ℕ) where
 
 -- ENTRIES OF A SEAT
 
-append_nil : {A : Type 0} (xs : List A) → xs ++ [] ≡ xs
-append_nil [] = refl
-append_nil (x ∷ xs) = ap (λ ys. x ∷ ys) (append_nil xs)
-
 -- an entry of another seat, or none, adds nothing to those of a seat
 others_entry : (history : History) (seat : ℕ) (o : Option Entry) → ((e : Entry) → o ≡ Some e → e.seat ≢ seat) → of_seat (history ++ option_to_list o) seat ≡ of_seat history seat
-others_entry history seat None other = ap (λ (h : History). of_seat h seat) (append_nil history)
+others_entry history seat None other = ap (λ (h : History). of_seat h seat) (append-nil history)
 others_entry history seat (Some e) other = of_seat-push_other history e seat (other e refl)
 
 -- WHAT HOLDS ALONG THE WAY
@@ -178,7 +175,7 @@ module _ (g : Geometry) (x : Flight) (old seat : ℕ) (earlier history : History
 
   -- no entry, and one of the flight
   longer_none : effect_of g x old ≡ None → of_seat longer seat ≡ of_seat history seat
-  longer_none none = ap (λ (o : Option Entry). of_seat (history ++ option_to_list o) seat) none ∙ ap (λ (k : History). of_seat k seat) (append_nil history)
+  longer_none none = ap (λ (o : Option Entry). of_seat (history ++ option_to_list o) seat) none ∙ ap (λ (k : History). of_seat k seat) (append-nil history)
 
   longer_one : (e : Entry) → effect_of g x old ≡ Some e → e.seat ≡ x.seat → is_done x ≡ false → of_seat longer seat ≡ earlier ++ e ∷ []
   longer_one e is own late =

@@ -3,6 +3,7 @@ mod OpeningHeap
 mod OpeningRow
 mod OpeningFacts
 pub mod OpeningLawful
+pub mod Shared
 pub mod Update
 pub mod Waiting
 pub mod Counts

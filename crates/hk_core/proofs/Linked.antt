@@ -1,27 +1,18 @@
 -- The word at the place that a claim in hand has still to link lies in no kept object.
-use Rattle.std.proofs.Common.{◌≡◌, ℕ, ◌+◌, ◌-◌, ◌<◌, ◌≤◌, true, false, inl, inr, sym, ◌∙◌, ap, arith, Option, Some, None}
+use Rattle.std.proofs.Common.{◌≡◌, ℕ, ◌+◌, ◌-◌, ◌<◌, ◌≤◌, true, false, inl, inr, sym, ◌∙◌, ap, arith, Some}
 use Rattle.std.proofs.lemmas.Bool.{cases_Bool, cases_eq}
 use Rattle.hk_words.specs.Geometry.{tasks}
 use Rattle.hk_words.specs.Layout as layout
 use Rattle.hk_model.specs.History.{History}
 use Rattle.hk_core.specs.State.{State}
-use Rattle.hk_core.specs.View.{Names, words_of, names_of, flight_at, size_at}
+use Rattle.hk_core.specs.View.{words_of, names_of, flight_at}
 use Rattle.hk_core.specs.Flights.{to_link}
 use Rattle.hk_core.specs.Inside.{kept_in, size_in}
 use Rattle.hk_core.specs.Colours.{spaces_of, shades_of, Covers}
 use Rattle.hk_core.specs.Lines.{is_resting}
 use Rattle.hk_core.specs.Lawful.{Lawful, hands_of}
 use Rattle.hk_core.proofs.kinds.WriteCell.{shades_mean}
-
-some_words : (names : Names) (n : ℕ) → 0 < size_at names n
-unfolding size_at
-some_words names n = omega arith
-
-one_number : {A : Type 0} (o : Option ℕ) (m n : ℕ) → o ≡ Some m → o ≡ Some n → (m ≡ n → A) → A
-one_number o m n a b same = same (let e : Some m ≡ Some n = sym a ∙ b in let x : m ≡ n = cc in x)
-
-no_number : {A : Type 0} (o : Option ℕ) (m : ℕ) → o ≡ None → o ≡ Some m → A
-no_number o m a b = absurd (cc)
+use Rattle.hk_core.proofs.Shared.{never_both, one_value, size_some}
 
 pub link_in_no_object : (c : State) (history : History) → Lawful c history → (k item cycle offset : ℕ) → k ≤ tasks c.geometry
     → hands_of c.geometry (flight_at c) c.spot k ≡ to_link item cycle offset → (n : ℕ) → kept_in c history n ≡ true
@@ -36,7 +27,7 @@ link_in_no_object c history h k item cycle offset few hand n kept covered =
     let m = layout.reference_number item in
     let means = shades_mean g w (flight_at c) c.spot.line names in
     let o = h.facts.claims_unlinked k item cycle offset few hand in
-    let some : 0 < sh.size m = some_words names m in
+    let some : 0 < sh.size m = size_some names m in
     let within : offset + sh.size m ≤ w.reserved = h.facts.ranges_within offset m o.has_range in
     let fits : offset + sh.size m ≤ z.live = o.fits in
     let busy : is_resting c.spot.line ≡ false = elim (cases_Bool (is_resting c.spot.line)) [
@@ -60,8 +51,9 @@ link_in_no_object c history h k item cycle offset few hand n kept covered =
           let stands : w.place n ≡ z.current + x = omega arith in
           let moved : h.range x ≡ Some n = h.facts.moved_stands_in_range busy n x kept stands (omega arith) in
           elim (cases_eq x offset) [
-            | inl same ↦ one_number (h.range offset) m n o.has_range (ap h.range (sym same) ∙ moved)
-                (λ e. let one : w.place m ≡ w.place n = ap w.place e in elim means.spaces [ inl a ↦ absurd (omega arith) | inr a ↦ absurd (omega arith) ])
-            | inr differ ↦ no_number (h.range offset) m (h.facts.ranges_apart x n offset moved (omega arith) (omega arith)) o.has_range
+            | inl same ↦
+                let one : w.place m ≡ w.place n = ap w.place (one_value (h.range offset) m n o.has_range (ap h.range (sym same) ∙ moved)) in
+                elim means.spaces [ inl a ↦ absurd (omega arith) | inr a ↦ absurd (omega arith) ]
+            | inr differ ↦ never_both (h.range offset) m (h.facts.ranges_apart x n offset moved (omega arith) (omega arith)) o.has_range
           ]
     ]

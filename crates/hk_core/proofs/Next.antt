@@ -1,11 +1,10 @@
 -- A step of a seat keeps a lawful state lawful, where all facts hold after it. The places of every call are put together
 -- here in one way: a place shows its event, the flight after it and its entry by the tables, what the words say after the
 -- event, that the history after it is legal, and that all facts hold.
-use Rattle.std.proofs.Common.{◌≡◌, ◌≢◌, ℕ, ◌<◌, true, [], ◌∷◌, ◌++◌, List, length, length-set, refl, ◌∙◌, ap, arith, Option, Some, None}
+use Rattle.std.proofs.Common.{◌≡◌, ◌≢◌, ℕ, ◌<◌, true, [], ◌++◌, List, length, length-set, refl, ◌∙◌, ap, arith, Option, Some, None}
 use Rattle.std.specs.Prelude.{option_to_list}
 use Rattle.hk_words.specs.Geometry.{tasks}
 use Rattle.hk_model.specs.View.{upd}
-use Rattle.hk_model.proofs.Updates.{upd_other}
 use Rattle.hk_model.specs.Heap.{opening_of}
 use Rattle.hk_model.specs.History.{Entry, History, Legal}
 use Rattle.hk_core.specs.declared.event.Event.{Event}
@@ -21,6 +20,7 @@ use Rattle.hk_core.proofs.Encode.{flight_at-set}
 use Rattle.hk_core.specs.Colours.{Covers}
 use Rattle.hk_core.proofs.Inside.{inside_through}
 use Rattle.hk_core.proofs.kinds.Enter.{object_of}
+use Rattle.std.proofs.lemmas.List.{append-nil}
 
 -- what the tables say of a seat's place: its event, the flight after it, and the entry that it adds
 pub record DoesPlace (c : State) (s : ℕ) (event' : Option Event) (flight' : Flight) (entry' : Option Entry) : Type 0 where
@@ -97,17 +97,13 @@ steps_to c history s e y o w range h below does words legal facts =
       words = ap (λ (k : Option Event). words_of c.geometry (fired_if c.row k)) event ∙ words;
     }
 
-append_nil : {A : Type 0} (xs : List A) → xs ++ [] ≡ xs
-append_nil [] = refl
-append_nil (x ∷ xs) = ap (λ ys. x ∷ ys) (append_nil xs)
-
 -- so it is where the place adds no entry
 pub steps_to_silent : (c : State) (history : History) (s : ℕ) (e : Option Event) (y : Flight) (w : Words) (range : ℕ → Option ℕ)
     → Lawful c history → s < tasks c.geometry → DoesPlace c s e y None → words_of c.geometry (fired_if c.row e) ≡ w
     → FactsOf c.geometry w (upd (flight_at c) s y) (begun_at c) c.spot (names_of c.geometry history) (contents_of c.geometry history) range
     → StepsTo c history s w
 steps_to_silent c history s e y w range h below does words facts =
-    let same : history ++ [] ≡ history = append_nil history in
+    let same : history ++ [] ≡ history = append-nil history in
     steps_to c history s e y None w range h below does words (rw same h.legal) (rw same facts)
 
 -- and where the facts are said of the row after its event, and of the flight that its place leads to
@@ -158,12 +154,3 @@ steps_well_kept c history s w h step places cells = record {
         words = λ p covered other. rw step.words (cells (object_of (flight_at c t)) p kept covered other);
       };
 }
-
--- so does one that writes a word of no kept object
-pub steps_well_beside : (c : State) (history : History) (s : ℕ) (w : Words) (q v : ℕ) → Lawful c history → StepsTo c history s w
-    → w.place ≡ (words_of c.geometry c.row).place → w.cell ≡ upd (words_of c.geometry c.row).cell q v
-    → ((n : ℕ) → kept_in c history n ≡ true → ¬ Covers ((words_of c.geometry c.row).place n) (size_in c history n) q)
-    → StepsWell c history s
-steps_well_beside c history s w q v h step places cells beside =
-    steps_well_kept c history s w h step (λ n kept. ap (λ (f : ℕ → ℕ). f n) places)
-    (λ n p kept covered other. ap (λ (f : ℕ → ℕ). f p) cells ∙ upd_other (words_of c.geometry c.row).cell q v p (λ e. beside n kept (rw e at covered)))

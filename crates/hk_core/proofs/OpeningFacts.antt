@@ -18,16 +18,7 @@ use Rattle.hk_core.proofs.OpeningTables as table
 use Rattle.hk_core.proofs.OpeningTables.{count_none}
 use Rattle.hk_core.proofs.OpeningRow.{IsOpened}
 use Rattle.hk_core.proofs.OpeningHeap.{HasBoardAlone}
-
--- a premise that no test meets
-never : {A : Type 0} → false ≡ true → A
-never h = absurd (cc)
-
-never_false : {A : Type 0} → true ≡ false → A
-never_false h = absurd (cc)
-
-never_some : {A X : Type 0} {x : X} → None ≡ Some x → A
-never_some h = absurd (cc)
+use Rattle.hk_core.proofs.Shared.{never, never_false, never_some}
 
 module _ (g : Geometry) (place mark accessors version frame_accessors frame_cycle frame_version : ℕ → ℕ) (register entry : ℕ → ℕ → ℕ) (cell : ℕ → ℕ)
     (o : IsOpened g place mark accessors version frame_accessors frame_cycle frame_version register entry cell)

@@ -1,11 +1,11 @@
 -- A lawful state keeps all its promises.
-use Rattle.std.proofs.Common.{◌≡◌, ◌≢◌, ℕ, ◌+◌, refl, sym, ◌∙◌, ap, arith, Option, Some}
+use Rattle.std.proofs.Common.{◌≡◌, ◌≢◌, ℕ, ◌+◌, sym, ◌∙◌, ap, arith, Option, Some}
 use Rattle.hk_words.specs.declared.geometry.Geometry.{Geometry}
 use Rattle.hk_model.specs.History.{History}
 use Rattle.hk_core.specs.declared.flight.Flight.{Flight}
 use Rattle.hk_core.specs.declared.spot.Spot.{Spot}
 use Rattle.hk_core.specs.State.{State}
-use Rattle.hk_core.specs.View.{Words, Names, Contents, refs_at, nums_at, size_at, words_of, names_of, contents_of, flight_at, begun_at}
+use Rattle.hk_core.specs.View.{Words, Names, Contents, words_of, names_of, contents_of, flight_at, begun_at}
 use Rattle.hk_core.specs.Flights.{Hand}
 use Rattle.hk_core.specs.Colours.{Spaces, spaces_of, Shades, shades_of, Apart, IsKeptBirth}
 use Rattle.hk_core.specs.Lawful.{Facts, Lawful, hands_of}
@@ -17,11 +17,7 @@ use Rattle.hk_core.proofs.PromisedNumbers.{ShadesSay, shades_say, no_number_no_p
 use Rattle.hk_core.proofs.PromisedLists.{lists_stand}
 use Rattle.hk_core.proofs.PromisedWords.{ranges_stand, space_stands}
 use Rattle.hk_core.proofs.PromisedColours.{black_stands, reads_stand, clean_when_settled}
-
--- the words of the object that a number bears
-size_borne : (names : Names) (n b : ℕ) → names.bearer n ≡ Some b → size_at names n ≡ 1 + names.refs b + names.nums b
-unfolding size_at refs_at nums_at
-size_borne names n b e = rw e refl
+use Rattle.hk_core.proofs.Shared.{size_borne}
 
 module _ (g : Geometry) (w : Words) (z : Spaces) (sh : Shades) (flight : ℕ → Flight) (begun : ℕ → ℕ) (hand : ℕ → Hand) (t : Spot)
     (names : Names) (contents : Contents) (range : ℕ → Option ℕ) (h : Facts g w z sh flight begun hand t names contents range)

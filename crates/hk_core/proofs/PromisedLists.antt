@@ -23,9 +23,9 @@ use Rattle.hk_core.specs.Facts as fact
 use Rattle.hk_core.specs.Facts.{IsOwn, IsUnread, own_entry}
 use Rattle.hk_core.specs.Lawful.{Facts}
 use Rattle.hk_core.specs.Stands.{IsUnreadEntry, IsOnNoList, ListsStand}
-use Rattle.hk_core.proofs.kinds.Read.{refuted}
 use Rattle.hk_core.proofs.kinds.WriteCell.{ShadesMean, fresh_when_done}
 use Rattle.hk_core.proofs.PromisedNumbers.{mark_fresh, kept_when_reached, item_null_or_good}
+use Rattle.hk_core.proofs.Shared.{refuted}
 
 -- ENTRIES OF THE NEXT LIST
 

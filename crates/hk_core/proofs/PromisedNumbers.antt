@@ -1,6 +1,6 @@
 -- Numbers and births of a lawful state: what their colours say, and that each birth that can be reached, or that a call is
 -- inside, is kept.
-use Rattle.std.proofs.Common.{◌≡◌, ◌≢◌, ◌⊎◌, ℕ, ◌+◌, ◌<◌, ◌≤◌, Bool, true, false, inl, inr, refl, sym, ◌∙◌, arith, List, Option, Some, None}
+use Rattle.std.proofs.Common.{◌≡◌, ◌≢◌, ◌⊎◌, ℕ, ◌+◌, ◌<◌, ◌≤◌, Bool, true, false, inl, inr, refl, arith, List, Option, Some, None}
 use Rattle.std.proofs.lemmas.Bool.{cases_lt, and_parts, and_from, or_cases, or_left, not_from_false, ltb-true, leb-true, eqb-true, lt-ltb, le-ltb, ne_eqb}
 use Rattle.std.proofs.lemmas.Bool.Decides.{nat_tests}
 use Rattle.std.specs.Prelude.{nat_eq, nat_le, is_some}
@@ -25,6 +25,7 @@ use Rattle.hk_core.specs.Reach.{Reach, in_register, in_cell}
 use Rattle.hk_core.specs.Stands.{IsInUse}
 use Rattle.hk_core.proofs.Inside.{inside_through}
 use Rattle.hk_core.proofs.kinds.WriteCell.{BearersNumbered}
+use Rattle.hk_core.proofs.Shared.{some_kept}
 
 -- COLOURS
 
@@ -70,11 +71,6 @@ mark_fresh cycle marking mark fresh = elim (or_cases (nat_eq mark cycle) _ fresh
 pub borne_by : (o : Option ℕ) → is_some o ≡ true → (b : ℕ) × (o ≡ Some b)
 borne_by None e = absurd (cc)
 borne_by (Some b) e = (b, refl)
-
--- of what is null or satisfies P, a birth satisfies P
-some_kept : (P : ℕ → Type 0) (plain : Option ℕ) (birth : ℕ) → (plain ≡ None) ⊎ ((b : ℕ) × (plain ≡ Some b) × P b) → plain ≡ Some birth → P birth
-some_kept P plain birth (inl none) e = let no : None ≡ Some birth = sym none ∙ e in absurd (cc)
-some_kept P plain birth (inr found) e = let same : Some found.0 ≡ Some birth = sym found.1 ∙ e in let is : found.0 ≡ birth = cc in rw (← is) found.2
 
 -- a call at a place from a first one on is in flight
 flies : (first last p : ℕ) → 1 ≤ first → f.is_between first last p ≡ true → nat_le 1 p ≡ true

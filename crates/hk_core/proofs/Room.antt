@@ -1,5 +1,5 @@
 -- What the steps of a New do about room, and when a step answers that there was none.
-use Rattle.std.proofs.Common.{◌≡◌, ℕ, ◌<◌, ◌≤◌, Bool, true, false, [], ◌∷◌, ◌++◌, List, length, inl, inr, refl, sym, ◌∙◌, ap, arith, Option, Some, None}
+use Rattle.std.proofs.Common.{◌≡◌, ℕ, ◌<◌, ◌≤◌, Bool, true, false, [], ◌∷◌, ◌++◌, length, inl, inr, refl, sym, ◌∙◌, ap, arith, Option, Some, None}
 use Rattle.std.proofs.lemmas.Bool.{cases_Bool, cases_eq, and_parts, not-true, eqb-true}
 use Rattle.std.specs.Prelude.{nat_eq, not, ◌&&◌, ◌||◌, ◌↔◌, option_to_list, if◌then◌else◌}
 use Rattle.hk_words.specs.declared.call.Call.{Call}
@@ -26,12 +26,13 @@ use Rattle.hk_core.specs.Flights as f
 use Rattle.hk_core.specs.Lawful.{Lawful}
 use Rattle.hk_core.specs.Refused.{finds_too_few, refused_entry, TellsRoom, EndsFull}
 use Rattle.hk_core.proofs.Next.{DoesPlace, flight_at-next, found_at_place, history_at_place}
-use Rattle.hk_core.proofs.kinds.Read.{refuted}
 use Rattle.hk_core.proofs.kinds.NewLoads.{new_on}
 use Rattle.hk_core.proofs.kinds.NewHistory.{made}
 use Rattle.hk_core.proofs.kinds.NewTables.{refused_if}
 use Rattle.hk_core.proofs.kinds.NewSteps.{NewDoes, new_does_1, new_does_2, new_does_3, new_does_4, new_does_5, new_does_6, new_does_7}
 use Rattle.hk_core.proofs.kinds.NewSteps.{new_rest_does_2, new_rest_does_3, new_rest_does_4, new_rest_does_5, new_rest_does_6, new_rest_does_7}
+use Rattle.hk_core.proofs.Shared.{refuted}
+use Rattle.std.proofs.lemmas.List.{append-nil}
 
 -- the entry of a place that finds too few words, and of one that finds room
 refused_where_full : (full : Bool) (seat s dest : ℕ) (shape : Shape) (word : ℕ) → full ≡ true → seat ≡ s
@@ -46,10 +47,6 @@ none_added added e = absurd (cc)
 
 birth_added : (s dest : ℕ) (shape : Shape) (n : ℕ) (added : Entry) → Some (made s dest shape n) ≡ Some added → is_refused added ≡ false
 birth_added s dest shape n added e = let same : made s dest shape n ≡ added = cc in rw (← same) refl
-
-append_nil : {A : Type 0} (xs : List A) → xs ++ [] ≡ xs
-append_nil [] = refl
-append_nil (x ∷ xs) = ap (λ ys. x ∷ ys) (append_nil xs)
 
 -- what a place of a New does about room: its test, the flight and the entry
 record PlaceTells (x y : Flight) (few : Bool) (o : Option Entry) (w0 s dest : ℕ) (shape : Shape) : Type 0 where
@@ -87,7 +84,7 @@ module _ (c : State) (history : History) (h : Lawful c history) (s dest : ℕ) (
         plain = λ short. ap (after (opening_of c.geometry)) (entry short)
             ∙ after-push (opening_of c.geometry) history (refused_entry s dest shape (layout.w0_words w0))
             ∙ after_entry-refused (after (opening_of c.geometry) history) (refused_entry s dest shape (layout.w0_words w0)) refl;
-        silent = λ full. longer ∙ ap (λ (k : Option Entry). history ++ option_to_list k) (t.silent full) ∙ append_nil history;
+        silent = λ full. longer ∙ ap (λ (k : Option Entry). history ++ option_to_list k) (t.silent full) ∙ append-nil history;
         nowhere_else = λ enough added here. t.nowhere_else (sym is ∙ enough) added (sym adds ∙ here);
       }
 

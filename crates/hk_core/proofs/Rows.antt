@@ -6,13 +6,12 @@ use Rattle.hk_words.specs.declared.geometry.Geometry.{Geometry}
 use Rattle.hk_words.specs.Geometry.{tasks, numbers, space_words}
 use Rattle.hk_words.specs.Layout as layout
 use Rattle.hk_words.specs.Row.{w0_at, header_at, frame_at, space_at}
-use Rattle.hk_model.specs.View.{upd}
 use Rattle.hk_model.specs.History.{Entry, History}
 use Rattle.hk_core.specs.declared.event.Event.{Event}
 use Rattle.hk_core.specs.declared.event.Event.TheVariants as event
 use Rattle.hk_core.specs.declared.flight.Flight.{Flight}
 use Rattle.hk_core.specs.declared.spot.Spot.{Spot}
-use Rattle.hk_core.specs.Event.{fired, fired_if, learnt, old_of}
+use Rattle.hk_core.specs.Event.{learnt, old_of}
 use Rattle.hk_core.specs.State.{State, idle}
 use Rattle.hk_core.specs.Step as table
 use Rattle.hk_core.specs.Step.{number_cell, event_of, took_of, effect_of, next, history_after}
@@ -20,7 +19,7 @@ use Rattle.hk_core.specs.View.{Words, Names, Contents, decoded, words_of, names_
 use Rattle.hk_core.specs.Flights as f
 use Rattle.hk_core.specs.Colours.{shades_of}
 use Rattle.hk_core.specs.Lawful.{FactsOf, Lawful}
-use Rattle.hk_core.proofs.Columns.{raw_w0, raw_header, raw_space, fired_if_some, fired_if_none}
+use Rattle.hk_core.proofs.Columns.{raw_w0, raw_header, raw_space, words_some}
 use Rattle.hk_core.proofs.Next.{DoesPlace, StepsTo, steps_to_silent}
 use Rattle.hk_core.proofs.kinds.Seats.{FlightsFacts, moved_on, kept_means}
 use Rattle.hk_core.proofs.kinds.Enter as enter
@@ -58,10 +57,6 @@ does_place c s e flight entry y o t is_flight is_entry = record {
 pub flights_facts : (g : Geometry) (w : Words) (flight : ℕ → Flight) (begun : ℕ → ℕ) (t : Spot) (names : Names) (contents : Contents) (range : ℕ → Option ℕ)
     → FactsOf g w flight begun t names contents range → FlightsFacts g w (shades_of g w flight t.line names) names contents.register flight
 flights_facts g w flight begun t names contents range h = assumption
-
--- the words after an event that isn't left out
-pub words_some : (g : Geometry) (row : List ℕ) (e : Event) (w : Words) → words_of g (fired row e) ≡ w → words_of g (fired_if row (Some e)) ≡ w
-words_some g row e w h = ap (words_of g) (fired_if_some row e) ∙ h
 
 -- what a call finds in the header of an object and at a place of the spaces
 pub found_place : (g : Geometry) (row : List ℕ) (n amount : ℕ) → n < numbers g
@@ -188,11 +183,3 @@ module _ (c : State) (history : History) (s : ℕ) (below : s < tasks c.geometry
       (does_place c s (Some leaves) _ _ (idle x.seat) None tables refl refl)
       (words_some g c.row leaves (leaving_frame_words w s) (words-leave_frame g c.row h.sized.row s below (omega arith)))
       (frame.leave_frame g w (flight_at c) (begun_at c) c.spot (names_of g history) (contents_of g history) h.range s below e busy h.facts)
-
-  -- a call rests: no word changes
-  pub rests : (y : Flight) → TablesSay c.geometry (flight_at c s) None (λ old. y) (λ old. None)
-      → FactsOf c.geometry (words_of c.geometry c.row) (upd (flight_at c) s y) (begun_at c) c.spot (names_of c.geometry history) (contents_of c.geometry history) h.range
-      → StepsTo c history s (words_of c.geometry c.row)
-  rests y tables facts =
-      steps_to_silent c history s None y (words_of c.geometry c.row) h.range h below (does_place c s None (λ old. y) (λ old. None) y None tables refl refl)
-      (ap (words_of c.geometry) (fired_if_none c.row)) facts

@@ -22,10 +22,9 @@ use Rattle.hk_core.specs.Flights as f
 use Rattle.hk_core.specs.Colours.{shades_of}
 use Rattle.hk_core.specs.Lawful.{FactsOf, Lawful}
 use Rattle.hk_core.specs.Inside.{cell_written}
-use Rattle.hk_core.proofs.Columns.{fired_if_none}
+use Rattle.hk_core.proofs.Columns.{fired_if_none, words_some}
 use Rattle.hk_core.proofs.Next.{StepsTo, StepsWell, steps_to, steps_to_silent, steps_on_row, steps_well, steps_well_kept}
 use Rattle.hk_core.proofs.Inside.{shapes_fit, reference_in_spaces}
-use Rattle.hk_core.proofs.Rows.{words_some}
 use Rattle.hk_core.proofs.RowOfLoad.{load_steps}
 use Rattle.hk_core.proofs.RowOfStore.{store_steps}
 use Rattle.hk_core.proofs.Plain.{get_steps, put_steps, move_steps, clear_steps}

@@ -1,5 +1,5 @@
 -- The number that a New loads from its entry is in use nowhere.
-use Rattle.std.proofs.Common.{◌≡◌, ◌≢◌, ◌⊎◌, ℕ, ◌<◌, ◌≤◌, Bool, true, false, inl, inr, refl, sym, ◌∙◌, ap, arith, length, Option, Some, None}
+use Rattle.std.proofs.Common.{◌≡◌, ◌≢◌, ℕ, ◌<◌, ◌≤◌, Bool, true, false, inl, inr, refl, ◌∙◌, ap, arith, length, Some}
 use Rattle.std.proofs.lemmas.Bool.{cases_Bool, le-leb}
 use Rattle.std.proofs.lemmas.Bool.Decides.{nat_tests}
 use Rattle.std.specs.Prelude.{not, nat_le, ◌&&◌}
@@ -30,14 +30,7 @@ use Rattle.hk_core.proofs.kinds.Seats.{kept_means}
 use Rattle.hk_core.proofs.kinds.NewFlight.{new_is_making, new_has_header}
 use Rattle.hk_core.proofs.kinds.NewLoads.{new_on}
 use Rattle.hk_core.proofs.kinds.NewSteps.{new_does_4}
-
-some_kept : (P : ℕ → Type 0) (plain : Option ℕ) (birth : ℕ) → (plain ≡ None) ⊎ ((b : ℕ) × (plain ≡ Some b) × P b) → plain ≡ Some birth → P birth
-some_kept P plain birth (inl none) e = let no : None ≡ Some birth = sym none ∙ e in absurd (cc)
-some_kept P plain birth (inr found) e = let same : Some found.0 ≡ Some birth = sym found.1 ∙ e in let is : found.0 ≡ birth = cc in rw (← is) found.2
-
-some_good : (P : Type 0) (word : ℕ) → word ≢ 0 → (word ≡ 0) ⊎ P → P
-some_good P word some (inl null) = absurd (some null)
-some_good P word some (inr good) = good
+use Rattle.hk_core.proofs.Shared.{some_good, some_kept}
 
 -- a place from a first one on isn't 0
 in_flight : (first last p : ℕ) → 1 ≤ first → f.is_between first last p ≡ true → nat_le 1 p ≡ true

@@ -17,6 +17,10 @@ upd_cases {A} f n v k =
 pub upd_own : {A : Type 0} (f : ℕ → A) (n : ℕ) (v : A) → v ≡ f n → upd f n v ≡ f
 upd_own {A} f n v e = sym (is_upd f f n v (sym e) (λ k d. refl))
 
+-- what holds of a value at another index holds after the change
+pub unwritten : {A : Type 0} (f : ℕ → A) (n : ℕ) (v : A) (k : ℕ) (P : A → Type 0) → k ≢ n → P (f k) → P (upd f n v k)
+unwritten f n v k P differ o = rw (upd_other f n v k differ) o
+
 -- a function of the values of a changed column
 pub map_upd : {A B : Type 0} (h : A → B) (f : ℕ → A) (n : ℕ) (v : A) (w : B) → h v ≡ w → ◌≡◌ {A = ℕ → B} (λ k. h (upd f n v k)) (upd (λ k. h (f k)) n w)
 map_upd {A} {B} h f n v w e =

@@ -160,10 +160,6 @@ pub record PromisesOf (g : Geometry) (w : Words) (z : Spaces) (sh : Shades) (fli
   pub spot : SpotStands g w z sh flight t names contents
   pub versions : VersionsStand g w begun
 
--- a state stands for the plain heap after a history
-abbrev pub StandsFor : State → History → Type 0
-StandsFor c history = Stands c.geometry (words_of c.geometry c.row) (flight_at c) (names_of c.geometry history) (contents_of c.geometry history)
-
 -- what a state promises for a history: the history is legal, the state stands for the plain heap after it, and, for some
 -- ranges, the rest holds
 pub record Promises (c : State) (history : History) : Type 0 where

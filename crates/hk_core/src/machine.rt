@@ -148,15 +148,6 @@ impl Core {
         self.row[index as usize]
     }
 
-    /// Whether an event may be fired: its word is one of the row, and a sum or a difference stays in the range.
-    #[tactic(auto, unfolding(crate::specs::Event::old_of))]
-    pub fn can_fire(&self, event: &Event) -> bool
-        ensures { IsTrue result ↔ CanFire self.now.row event.now }
-    {
-        let index = event.word();
-        index < self.geometry.words() && event.amount_fits(self.row[index as usize])
-    }
-
     /// Does one event, and answers what the word was. It changes that word alone.
     #[tactic(auto, unfolding(crate::specs::Event::fired, crate::specs::Event::old_of))]
     pub fn fire(&mut self, event: Event) -> u64

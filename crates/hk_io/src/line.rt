@@ -2,7 +2,7 @@
 ghost use Rattle.std.specs.Prelude.{◌≡◌, ◌+◌, ◌≤◌, [], ◌∷◌, ◌++◌, length};
 ghost use Rattle.std.specs.Fmt.{decimal};
 ghost use Rattle.hk_io.specs.Line.{with_word, with_number, with_end};
-ghost use Rattle.hk_io.specs.declared.line.TheConstants.{LINE_ROOM};
+ghost use Rattle.hk_io.specs.Limits.{longest_line};
 
 use crate::buffer::Buffer;
 use std::marker::Model;
@@ -36,7 +36,7 @@ impl Line {
 
     /// Adds a word, behind a space where the line isn't empty.
     pub fn word(&mut self, bytes: &[u8])
-        requires { length (with_word self.old bytes.now) ≤ LINE_ROOM }
+        requires { length (with_word self.old bytes.now) ≤ longest_line }
         ensures { self.new ≡ with_word self.old bytes.now }
     {
         if !self.held.as_slice().is_empty() {
@@ -47,7 +47,7 @@ impl Line {
 
     /// Adds a word, the decimal digits of a number.
     pub fn number(&mut self, value: u64)
-        requires { length (with_number self.old value) ≤ LINE_ROOM }
+        requires { length (with_number self.old value) ≤ longest_line }
         ensures { self.new ≡ with_number self.old value }
     {
         // the space alone
@@ -57,7 +57,7 @@ impl Line {
 
     /// Adds the newline.
     pub fn end(&mut self)
-        requires { length (with_end self.old) ≤ LINE_ROOM }
+        requires { length (with_end self.old) ≤ longest_line }
         ensures { self.new ≡ with_end self.old }
     {
         self.held.push(b"\n");
@@ -66,13 +66,13 @@ impl Line {
     /// The bytes of the line.
     pub fn bytes(&self) -> &[u8]
         ensures value { result.now ≡ self.now }
-        ensures room { length self.now ≤ LINE_ROOM }
+        ensures room { length self.now ≤ longest_line }
     {
         self.held.as_slice()
     }
 
     fn digits(&mut self, value: u64)
-        requires { length self.old + length (decimal value) ≤ LINE_ROOM }
+        requires { length self.old + length (decimal value) ≤ longest_line }
         ensures { self.new ≡ self.old ++ decimal value }
     {
         if value >= 10 {

@@ -14,7 +14,7 @@ pub trait Source {
     ghost faults: { Self → ℕ };
 
     /// Reads the next bytes into the front of `buf`, and answers how many. `Ok(0)` is the end of input. After a
-    /// failure no byte is lost.
+    /// failure no byte is lost. A failure is never answered `Ok`: the count of faults is then as it was.
     fn read(&mut self, buf: &mut [u8]) -> Result<usize, Failed>
         requires { 0 < length buf.old }
         ensures within { IfOk result (λ count. count ≤ length buf.new) }
@@ -34,7 +34,7 @@ pub trait Sink {
     ghost faults: { Self → ℕ };
 
     /// Takes bytes from the front of `piece`, at least one, and answers how many. After a failure nothing was
-    /// taken by this call.
+    /// taken by this call. A failure is never answered `Ok`: the count of faults is then as it was.
     fn write(&mut self, piece: &[u8]) -> Result<usize, Failed>
         requires { 0 < length piece.now }
         ensures some { IfOk result (λ count. 0 < count) }

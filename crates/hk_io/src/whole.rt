@@ -3,7 +3,7 @@ ghost use Rattle.std.specs.Prelude.{◌≡◌, ℕ, ◌+◌, ◌<◌, ◌≤◌,
 ghost use Rattle.std.specs.Io.KnownBytes.{Appends, Consumes, IsAtEnd};
 ghost use Rattle.hk_io.specs.Bytes.{AppendsPrefix, ConsumesFront};
 ghost use Rattle.hk_io.specs.Faults.{Rose, HasCause};
-ghost use Rattle.hk_io.specs.declared.whole.TheConstants.{MAX_INPUT};
+ghost use Rattle.hk_io.specs.Limits.{longest_input};
 
 use crate::{Failed, Sink, Source, TakeFault};
 use std::alloc::Global;
@@ -31,21 +31,23 @@ pub fn put_all<K: Sink>(sink: &mut K, bytes: &[u8]) -> Result<(), Failed>
 }
 
 /// Reads an input to its end. Where it is longer than [`MAX_INPUT`] bytes, reading stops after one byte more, and the
-/// answer is `Long`. `Failed` is answered only where the source's count of faults rose in this call: a failed read is
-/// no end of input.
+/// answer is `Long`. `Failed` is answered only where the source's count of faults rose in this call, and every other
+/// answer only where it stayed as it was: a failed read is no end of input, also where the source doesn't tell its bytes.
 pub fn take_all<S: Source>(alloc: Global, source: &mut S) -> Result<Vec<u8>, TakeFault>
     // The whole input, where it is told.
     ensures whole { IfOk result (λ bytes. IfSome (S.left source.old) (λ left. bytes.items ≡ left)) }
     ensures end { OnOk result (IsAtEnd (S.left source.new)) }
-    ensures short { IfOk result (λ bytes. vec_len bytes ≤ MAX_INPUT) }
+    ensures short { IfOk result (λ bytes. vec_len bytes ≤ longest_input) }
 
     // More came than an input has.
-    ensures long { IsErrOf result TakeFault.Long → ConsumesFront (S.left source.old) (S.left source.new) (λ count. count ≡ MAX_INPUT + 1) }
+    ensures long { IsErrOf result TakeFault.Long → ConsumesFront (S.left source.old) (S.left source.new) (λ count. count ≡ longest_input + 1) }
 
     // Reading stops, whatever the answer.
-    ensures stops { ConsumesFront (S.left source.old) (S.left source.new) (λ count. count ≤ MAX_INPUT + 1) }
+    ensures stops { ConsumesFront (S.left source.old) (S.left source.new) (λ count. count ≤ longest_input + 1) }
 
+    // A read failed, or the count of faults stayed as it was.
     ensures failed { IsErrOf result TakeFault.Failed → Rose (S.faults source.old) (S.faults source.new) }
+    ensures kept { ¬ (IsErrOf result TakeFault.Failed) → S.faults source.new ≡ S.faults source.old }
     ensures later { S.faults source.old ≤ S.faults source.new }
 {
     let mut bytes = Vec::new(alloc);

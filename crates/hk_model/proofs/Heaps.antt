@@ -6,7 +6,7 @@ use Rattle.hk_words.specs.declared.shape.Shape.{Shape}
 use Rattle.hk_words.specs.declared.call.Call.{Call}
 use Rattle.hk_words.specs.declared.call.Call.TheVariants.{Get, Put, Load, Store, Move, Clear, New, Same, IsNull}
 use Rattle.hk_words.specs.Calls.{RegistersFit}
-use Rattle.hk_model.specs.Heap.{Object, Heap, IsHeap, HoldsBoard, KeepsTasks, born, register, register_count, of_object, refs, nums, link, value, made, first_registers, opening}
+use Rattle.hk_model.specs.Heap.{Object, Heap, IsHeap, HoldsBoard, KeepsTasks, born, register, register_count, of_object, refs, nums, link, made, first_registers, opening}
 use Rattle.hk_model.specs.Replies.{entering, has_number, has_reference, heap_after, with_register, with_link, with_value, with_object}
 use Rattle.hk_model.proofs.Lists.{length-changed_at, measure-changed_at, get_or-set_cases, get_or-changed_row_cases, read-changed_at_same, read-changed_at_other}
 use Rattle.hk_model.proofs.Views.{get_or-replicate_same, register-with_register_elsewhere, born-with_link, born-with_value, born-with_object, register-with_link, register-with_value, register-with_object, of_object-with_link, of_object-with_value, of_object-with_object, link-with_object, registers-with_link, registers-with_value, registers-with_object}
@@ -167,30 +167,6 @@ unfolding with_register register_count
 KeepsTasks-with_register h seat reg v =
     (length-changed_at (λ own. set own reg v) h.registers seat, λ s. measure-changed_at length (λ own. set own reg v) [] (λ own. length-set own reg v) h.registers seat s)
 
-pub KeepsTasks-with_object_register : (h : Heap) (shape : Shape) (seat reg : ℕ) (v : Option ℕ) → KeepsTasks h (with_register (with_object h shape) seat reg v)
-KeepsTasks-with_object_register h shape seat reg v =
-    let a = KeepsTasks-same h (with_object h shape) (registers-with_object h shape) in
-    let b = KeepsTasks-with_register (with_object h shape) seat reg v in
-    (b.0 ∙ a.0, λ s. b.1 s ∙ a.1 s)
-
-pub KeepsTasks-heap_after : (h : Heap) (seat : ℕ) (call : Call) → KeepsTasks h (heap_after h seat call)
-unfolding heap_after
-KeepsTasks-heap_after h seat (Get reg field) = KeepsTasks-same h h refl
-KeepsTasks-heap_after h seat (Put reg field number) =
-    entering_all (KeepsTasks h) (register h seat reg) (has_number h field) h h (λ birth. with_value h birth field number) (KeepsTasks-same h h refl) (KeepsTasks-same h h refl)
-    (λ b. KeepsTasks-same h (with_value h b field number) (registers-with_value h b field number))
-KeepsTasks-heap_after h seat (Load dest reg field) =
-    entering_all (KeepsTasks h) (register h seat reg) (has_reference h field) h h (λ birth. with_register h seat dest (link h birth field)) (KeepsTasks-same h h refl) (KeepsTasks-same h h refl)
-    (λ b. KeepsTasks-with_register h seat dest (link h b field))
-KeepsTasks-heap_after h seat (Store reg field from) =
-    entering_all (KeepsTasks h) (register h seat reg) (has_reference h field) h h (λ birth. with_link h birth field (register h seat from)) (KeepsTasks-same h h refl) (KeepsTasks-same h h refl)
-    (λ b. KeepsTasks-same h (with_link h b field (register h seat from)) (registers-with_link h b field (register h seat from)))
-KeepsTasks-heap_after h seat (Move dest from) = KeepsTasks-with_register h seat dest (register h seat from)
-KeepsTasks-heap_after h seat (Clear dest) = KeepsTasks-with_register h seat dest None
-KeepsTasks-heap_after h seat (New dest shape) = KeepsTasks-with_object_register h shape seat dest (Some (born h))
-KeepsTasks-heap_after h seat (Same a b) = KeepsTasks-same h h refl
-KeepsTasks-heap_after h seat (IsNull reg) = KeepsTasks-same h h refl
-
 -- the heap at the start
 
 abbrev null : Option ℕ
@@ -214,11 +190,6 @@ unfolding first_registers
 first_registers_born count zero birth e = let z : 0 ≡ birth = cc e in omega arith
 first_registers_born count (suc reg) birth e = absurd (let n : get_or (nulls (count - 1)) reg None ≡ None = get_or-replicate_same (count - 1) reg None in cc (n, e))
 
-first_registers_null : (count reg : ℕ) → 0 < reg → get_or (first_registers count) reg null ≡ null
-unfolding first_registers
-first_registers_null count zero l = absurd (omega arith)
-first_registers_null count (suc reg) l = get_or-replicate_same (count - 1) reg None
-
 opening_register_born : (tasks count : ℕ) (board : Shape) (seat reg birth : ℕ) → register (opening tasks count board) seat reg ≡ Some birth → birth < 1
 unfolding register opening
 opening_register_born tasks count board seat reg birth e =
@@ -232,11 +203,6 @@ opening_link : (tasks count : ℕ) (board : Shape) (owner field : ℕ) → link 
 unfolding link opening of_object made
 opening_link tasks count board zero field = get_or-replicate_same board.refs field None
 opening_link tasks count board (suc owner) field = refl
-
-opening_value : (tasks count : ℕ) (board : Shape) (owner field : ℕ) → value (opening tasks count board) owner field ≡ 0
-unfolding value opening of_object made
-opening_value tasks count board zero field = get_or-replicate_same board.nums field 0
-opening_value tasks count board (suc owner) field = refl
 
 opening_refs : (tasks count : ℕ) (board : Shape) (birth : ℕ) → of_object 0 (λ o. length o.refs) (opening tasks count board) birth ≡ of_object 0 (λ o. o.shape.refs) (opening tasks count board) birth
 unfolding opening of_object
@@ -306,25 +272,3 @@ HoldsBoard-heap_after tasks count h seat (Same a b) fit held = held
 HoldsBoard-heap_after tasks count h seat (IsNull reg) fit held = held
 
 -- what the heap at the start says
-
-pub register-opening : (tasks count : ℕ) (board : Shape) (seat reg : ℕ) → 0 < reg → register (opening tasks count board) seat reg ≡ None
-unfolding register opening
-register-opening tasks count board seat reg l =
-    elim (cases_lt seat tasks) [
-      | inl m ↦ ap (λ own. get_or own reg null) (get_or-replicate tasks seat (first_registers count) [] m) ∙ first_registers_null count reg l
-      | inr m ↦ ap (λ own. get_or own reg null) (get_or_past (replicate tasks (first_registers count)) seat [] (omega (arith, length-replicate tasks (first_registers count))))
-    ]
-
-pub link-opening : (tasks count : ℕ) (board : Shape) → link (opening tasks count board) ≡ (λ owner field. None)
-link-opening tasks count board = λ i owner field. opening_link tasks count board owner field i
-
-pub value-opening : (tasks count : ℕ) (board : Shape) → value (opening tasks count board) ≡ (λ owner field. 0)
-value-opening tasks count board = λ i owner field. opening_value tasks count board owner field i
-
-pub refs-opening : (tasks count : ℕ) (board : Shape) → refs (opening tasks count board) 0 ≡ board.refs
-unfolding refs of_object opening made
-refs-opening tasks count board = refl
-
-pub nums-opening : (tasks count : ℕ) (board : Shape) → nums (opening tasks count board) 0 ≡ board.nums
-unfolding nums of_object opening made
-nums-opening tasks count board = refl

@@ -1,5 +1,5 @@
 -- Histories with one entry more.
-use Rattle.std.proofs.Common.{◌≡◌, ◌≢◌, ◌⊎◌, ◌↔◌, inl, inr, ℕ, zero, suc, ◌+◌, ◌<◌, true, false, ◌&&◌, nat_eq, refl, sym, ◌∙◌, ap, arith, List, [], ◌∷◌, ◌++◌, length, map, filter, get_or, Option, Some, None, if◌then◌else◌, length-append, append-nil, eq-eqb, ne_eqb, add-zero, subst}
+use Rattle.std.proofs.Common.{◌≡◌, ◌≢◌, ◌⊎◌, ◌↔◌, inl, inr, ℕ, zero, suc, ◌+◌, ◌<◌, true, false, nat_eq, refl, sym, ◌∙◌, ap, arith, List, [], ◌∷◌, ◌++◌, length, map, filter, get_or, Option, Some, None, if◌then◌else◌, length-append, append-nil, eq-eqb, ne_eqb, add-zero, subst}
 use Rattle.std.proofs.lemmas.Bool.{cases_lt}
 use Rattle.std.proofs.lemmas.Bool.Decides.{eqb_tells}
 use Rattle.std.proofs.lemmas.List.{map-append}
@@ -11,7 +11,7 @@ use Rattle.hk_words.specs.declared.call.Call.TheVariants.{Get, Put, Load, Store,
 use Rattle.hk_words.specs.declared.call.Reply.{Reply}
 use Rattle.hk_words.specs.declared.call.Reply.TheVariants.{Unit as Done, Num, Yes, No, Nil, Field, Full}
 use Rattle.hk_model.specs.Heap.{Heap, IsHeap, born, register, link}
-use Rattle.hk_model.specs.History.{Entry, History, is_new, is_done, is_full, is_birth, is_refused, after_entry, after, EntryLegal, Legal, of_seat, births, numbers, number_of, last_place, bearer}
+use Rattle.hk_model.specs.History.{Entry, History, is_new, is_full, is_birth, is_refused, after_entry, after, EntryLegal, Legal, of_seat, births, numbers, number_of, last_place, bearer}
 use Rattle.hk_model.specs.Replies.{has_number, has_reference, reply_of, heap_after, with_register, with_link, with_value, with_object}
 use Rattle.hk_model.specs.Laws.{IsLastBirth}
 use Rattle.hk_model.specs.View.{upd}
@@ -23,10 +23,6 @@ use Rattle.hk_model.proofs.Views.{born-with_register, born-with_link, born-with_
 pub after-push : (start : Heap) (history : History) (e : Entry) → after start (history ++ e ∷ []) ≡ after_entry (after start history) e
 unfolding after
 after-push start history e = fold_push after_entry start history e
-
-pub after_entry-done : (h : Heap) (e : Entry) → is_refused e ≡ false → after_entry h e ≡ heap_after h e.seat e.call
-unfolding after_entry
-after_entry-done h e r = rw r refl
 
 pub after_entry-refused : (h : Heap) (e : Entry) → is_refused e ≡ true → after_entry h e ≡ h
 unfolding after_entry
@@ -89,9 +85,6 @@ numbers-push_other history e b =
     rw (filter-append is_birth history (e ∷ []), b, append-nil) refl
 
 -- an entry that made an object made one, and no other entry did
-
-is_birth_of_new : (call : Call) (reply : Reply) → (is_new call && is_done reply) ≡ true → (is_new call ≡ true) × (is_done reply ≡ true)
-is_birth_of_new call reply b = elim (is_new call) as (λ v. (v && is_done reply) ≡ true → (v ≡ true) × (is_done reply ≡ true)) [ true ↦ λ e. (refl, e) | false ↦ λ e. absurd (cc e) ] b
 
 pub born-heap_after_other : (h : Heap) (seat : ℕ) (call : Call) → is_new call ≡ false → born (heap_after h seat call) ≡ born h
 unfolding heap_after

@@ -12,13 +12,6 @@ get_or-changed_at_same change [] i d l = absurd (omega arith)
 get_or-changed_at_same change (x ∷ xs) zero d l = refl
 get_or-changed_at_same change (x ∷ xs) (suc i) d l = get_or-changed_at_same change xs i d (omega arith)
 
-pub get_or-changed_at_other : {A : Type 0} (change : A → A) (xs : List A) (i k : ℕ) (d : A) → k ≢ i → get_or (changed_at change xs i) k d ≡ get_or xs k d
-get_or-changed_at_other change [] i k d n = refl
-get_or-changed_at_other change (x ∷ xs) zero zero d n = absurd (n refl)
-get_or-changed_at_other change (x ∷ xs) zero (suc k) d n = refl
-get_or-changed_at_other change (x ∷ xs) (suc i) zero d n = refl
-get_or-changed_at_other change (x ∷ xs) (suc i) (suc k) d n = get_or-changed_at_other change xs i k d (λ e. n (ap suc e))
-
 -- what is read of an element, where the change doesn't change what is read
 pub read-changed_at_kept : {A B : Type 0} (read : A → B) (change : A → A) (d : B) → ((x : A) → read (change x) ≡ read x) → (xs : List A) (i k : ℕ)
     → unwrap_or (option_map read (slice_get (changed_at change xs i) k)) d ≡ unwrap_or (option_map read (slice_get xs k)) d

@@ -1,5 +1,5 @@
 -- Each call's reply and the heap after it, where the registers and the shape are known.
-use Rattle.std.proofs.Common.{◌≡◌, ℕ, ◌<◌, ◌≤◌, ◌≢◌, Bool, true, false, refl, sym, ◌∙◌, ap, arith, Option, Some, None, is_none, Result, Ok, Err, if◌then◌else◌}
+use Rattle.std.proofs.Common.{◌≡◌, ℕ, ◌<◌, ◌≢◌, Bool, true, false, refl, sym, ◌∙◌, ap, arith, Option, Some, None, is_none, Result, Ok, Err, if◌then◌else◌}
 use Rattle.std.proofs.lemmas.Bool.Decides.{nat_tests}
 use Rattle.hk_words.specs.declared.shape.Shape.{Shape}
 use Rattle.hk_words.specs.declared.call.Call.{Call}
@@ -14,23 +14,11 @@ use Rattle.hk_model.specs.Replies.{entering, has_number, has_reference, said, is
 pub entering_done : {A : Type 0} (entered : Option ℕ) (has : ℕ → Bool) (nil no_field : A) (done : ℕ → A) (birth : ℕ) → entered ≡ Some birth → has birth ≡ true → entering entered has nil no_field done ≡ done birth
 entering_done entered has nil no_field done birth e h = rw (e, h) refl
 
-pub entering_nil : {A : Type 0} (entered : Option ℕ) (has : ℕ → Bool) (nil no_field : A) (done : ℕ → A) → entered ≡ None → entering entered has nil no_field done ≡ nil
-entering_nil entered has nil no_field done e = rw e refl
-
-pub entering_no_field : {A : Type 0} (entered : Option ℕ) (has : ℕ → Bool) (nil no_field : A) (done : ℕ → A) (birth : ℕ) → entered ≡ Some birth → has birth ≡ false → entering entered has nil no_field done ≡ no_field
-entering_no_field entered has nil no_field done birth e h = rw (e, h) refl
-
 pub has_number_true : (h : Heap) (field birth : ℕ) → field < nums h birth → has_number h field birth ≡ true
 has_number_true h field birth l = grind (arith, nat_tests)
 
-pub has_number_false : (h : Heap) (field birth : ℕ) → nums h birth ≤ field → has_number h field birth ≡ false
-has_number_false h field birth l = grind (arith, nat_tests)
-
 pub has_reference_true : (h : Heap) (field birth : ℕ) → field < refs h birth → has_reference h field birth ≡ true
 has_reference_true h field birth l = grind (arith, nat_tests)
-
-pub has_reference_false : (h : Heap) (field birth : ℕ) → refs h birth ≤ field → has_reference h field birth ≡ false
-has_reference_false h field birth l = grind (arith, nat_tests)
 
 -- the calls that enter an object, where its register refers to one and it has the field
 
@@ -98,17 +86,9 @@ pub reply_of-same : (h : Heap) (seat a b : ℕ) → reply_of h seat (Same a b) �
 unfolding reply_of
 reply_of-same h seat a b = refl
 
-pub heap_after-same : (h : Heap) (seat a b : ℕ) → heap_after h seat (Same a b) ≡ h
-unfolding heap_after
-heap_after-same h seat a b = refl
-
 pub reply_of-is_null : (h : Heap) (seat reg : ℕ) → reply_of h seat (IsNull reg) ≡ said (is_none (register h seat reg))
 unfolding reply_of
 reply_of-is_null h seat reg = refl
-
-pub heap_after-is_null : (h : Heap) (seat reg : ℕ) → heap_after h seat (IsNull reg) ≡ h
-unfolding heap_after
-heap_after-is_null h seat reg = refl
 
 -- what a look at the register and the shape tells, which answers the birth or the reply that there will be
 

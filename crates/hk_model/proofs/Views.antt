@@ -4,7 +4,7 @@ use Rattle.std.proofs.lemmas.Bool.{cases_eq, cases_lt}
 use Rattle.std.proofs.lemmas.List.{get_or-replicate, length-replicate}
 use Rattle.std.proofs.Math.ListN.{get_or-eq_default}
 use Rattle.hk_words.specs.declared.shape.Shape.{Shape}
-use Rattle.hk_model.specs.Heap.{Object, Heap, born, register, register_count, of_object, refs, nums, link, value, made}
+use Rattle.hk_model.specs.Heap.{Object, Heap, born, register, register_count, of_object, link, value, made}
 use Rattle.hk_model.specs.Replies.{with_register, with_link, with_value, with_object}
 use Rattle.hk_model.specs.View.{upd, upd2}
 use Rattle.hk_model.proofs.Lists.{get_or-changed_at_same, get_or-changed_row_other, length-changed_at, read-changed_at_kept, read-changed_at_other, read-changed_at_same, read-push_before, read-push_last, read_past}
@@ -147,10 +147,6 @@ pub register-with_object : (h : Heap) (shape : Shape) → register (with_object 
 unfolding register with_object
 register-with_object h shape = refl
 
-pub of_object-with_register : {A : Type 0} (absent : A) (read : Object → A) (h : Heap) (seat reg : ℕ) (v : Option ℕ) → of_object absent read (with_register h seat reg v) ≡ of_object absent read h
-unfolding of_object with_register
-of_object-with_register absent read h seat reg v = refl
-
 pub registers-with_link : (h : Heap) (birth field : ℕ) (v : Option ℕ) → (with_link h birth field v).registers ≡ h.registers
 unfolding with_link
 registers-with_link h birth field v = refl
@@ -168,14 +164,6 @@ registers-with_object h shape = refl
 of_object_unborn : {A : Type 0} (absent : A) (read : Object → A) (h : Heap) (birth : ℕ) → born h ≤ birth → of_object absent read h birth ≡ absent
 unfolding of_object born
 of_object_unborn absent read h birth l = read_past read absent h.objects birth l
-
-pub refs_unborn : (h : Heap) (birth : ℕ) → born h ≤ birth → refs h birth ≡ 0
-unfolding refs
-refs_unborn h birth l = of_object_unborn 0 (λ o. o.shape.refs) h birth l
-
-pub nums_unborn : (h : Heap) (birth : ℕ) → born h ≤ birth → nums h birth ≡ 0
-unfolding nums
-nums_unborn h birth l = of_object_unborn 0 (λ o. o.shape.nums) h birth l
 
 pub link_unborn : (h : Heap) (birth field : ℕ) → born h ≤ birth → link h birth field ≡ None
 unfolding link

@@ -72,11 +72,6 @@ is_birth e = is_new e.call && is_done e.reply
 abbrev pub is_refused : Entry → Bool
 is_refused e = is_new e.call && is_full e.reply
 
--- the number of an entry, of the number that was given to the object of a New and the words that the call found used
-abbrev pub entry_number : Call → Reply → ℕ → ℕ → ℕ
-entry_number call reply given used =
-    if is_new call && is_done reply then given else if is_new call && is_full reply then used else 0
-
 -- the heap after an entry: a New that found no room changes nothing
 unfoldable pub after_entry : Heap → Entry → Heap
 after_entry h e = if is_refused e then h else heap_after h e.seat e.call

@@ -4,8 +4,8 @@ use Rattle.std.proofs.lemmas.Bool.{cases_lt, cases_eq}
 use Rattle.std.proofs.lemmas.List.{get_or_append_left, get_or-append-add}
 use Rattle.hk_plan.specs.declared.Row.{Row}
 use Rattle.hk_plan.specs.Alone.{no_row, row_of}
-use Rattle.hk_plan.specs.AloneBy.{Jobs, IsJob}
-use Rattle.hk_plan.specs.LeastTask.{IsRowOf, HasJob, ListsJobs}
+use Rattle.hk_plan.specs.AloneBy.{Jobs}
+use Rattle.hk_plan.specs.LeastTask.{ListsJobs}
 
 -- the row of a job, which arrives when the job becomes ready
 abbrev pub job_row : Jobs → ℕ → ℕ → Row

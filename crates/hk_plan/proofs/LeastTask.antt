@@ -3,11 +3,11 @@ use Rattle.std.proofs.Common.{◌≡◌, ℕ, zero, suc, ◌+◌, ◌-◌, ◌<�
 use Rattle.std.proofs.lemmas.Bool.{cases_lt, cases_eq, and_parts, and_from, ltb-true, leb-true, lt-ltb, le-leb, eq-eqb, ne_eqb, true≢false}
 use Rattle.hk_plan.specs.declared.Row.{Row}
 use Rattle.hk_plan.specs.declared.Ready.{Ready}
-use Rattle.hk_plan.specs.Alone.{task_of, arrival_of, ticks_of, tick_for, had_after, row_at, IsReady, IsIdle, ComesFirst, GoesFirst, EndsAt}
-use Rattle.hk_plan.specs.AloneBy.{Jobs, IsJob, is_ready_job, earliest, row_for, ready_rows, ready_at, alone_turn, is_some_at, alone_had, AloneGives, AloneRests, AloneEnds, least_task}
+use Rattle.hk_plan.specs.Alone.{task_of, tick_for, had_after, row_at, IsReady, IsIdle, ComesFirst}
+use Rattle.hk_plan.specs.AloneBy.{Jobs, IsJob, is_ready_job, earliest, row_for, ready_rows, ready_at, alone_turn, is_some_at, alone_had, AloneGives, AloneRests, least_task}
 use Rattle.hk_plan.specs.LeastTask.{HasJob, ListsJobs, IsPlainSchedule, LeastTaskIsPlain}
 use Rattle.hk_plan.proofs.Had.{had_more, had_none, each_tick_follows_order, tick_for_same, tick_for_other, tick_for_nobody}
-use Rattle.hk_plan.proofs.ReadyRows.{FirstIs, NoneIs, first_law, head_law, chosen_law}
+use Rattle.hk_plan.proofs.ReadyRows.{first_law, head_law, chosen_law}
 
 -- ---- one tick more for a job
 

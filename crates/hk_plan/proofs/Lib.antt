@@ -1,3 +1,4 @@
+pub mod AloneBy
 pub mod Arrivals
 pub mod Bound
 pub mod Chosen

@@ -1,7 +1,8 @@
 -- The plain schedule of rows whose lengths are known, by fixed priorities with preemption: each tick goes to the
 -- row that goes first among those that have arrived and aren't ended. Of two rows the one of the lesser task goes
 -- first, and of two rows of one task the one at the lesser place. Ticks count from 0; tick t lies between the
--- moments t and t + 1, and t ticks have been given at the moment t.
+-- moments t and t + 1, and t ticks have been given at the moment t. A row stands for a job, and arrives when its job
+-- becomes ready.
 use Rattle.std.specs.Prelude.{◌≡◌, ℕ, zero, suc, ◌+◌, ◌-◌, ◌<◌, ◌≤◌, ◌⊎◌, ◌↔◌, Bool, ◌&&◌, ◌||◌, nat_eq, nat_lt, nat_le, if◌then◌else◌, List, Option, Some, None, length, slice_index_or}
 use Rattle.hk_plan.specs.declared.Row.{Row}
 

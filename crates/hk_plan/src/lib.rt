@@ -223,7 +223,7 @@ mod tests {
     #[test]
     fn ticks_and_ends(rt: HostRuntime) -> Result<(), Fail> {
         const LAST: u64 = u64::MAX;
-        let cases: [(&[(u8, u64, u64)], &[Option<usize>], &[Option<u64>]); 13] = [
+        let cases: [(&[(u8, u64, u64)], &[Option<usize>], &[Option<u64>]); 14] = [
             (
                 &[(0, 1, 1), (1, 0, 2)],
                 &[Some(1), Some(0), Some(1), None],
@@ -300,6 +300,32 @@ mod tests {
                     None,
                 ],
                 &[Some(1), Some(5), Some(9), Some(3), Some(8), Some(10)],
+            ),
+            // the same, where the jobs of the first task are ready 0, 3 and 2 after their arrivals at 0, 4 and 8
+            (
+                &[
+                    (0, 0, 1),
+                    (0, 7, 1),
+                    (0, 10, 1),
+                    (1, 0, 2),
+                    (1, 6, 2),
+                    (2, 0, 3),
+                ],
+                &[
+                    Some(0),
+                    Some(3),
+                    Some(3),
+                    Some(5),
+                    Some(5),
+                    Some(5),
+                    Some(4),
+                    Some(1),
+                    Some(4),
+                    None,
+                    Some(2),
+                    None,
+                ],
+                &[Some(1), Some(8), Some(11), Some(3), Some(9), Some(6)],
             ),
         ];
         for (rows, ticks, ends) in cases {

@@ -10,6 +10,7 @@ use Rattle.hk_script.specs.declared.error.ScriptError.{ScriptError}
 use Rattle.hk_script.specs.declared.error.ScriptError.TheVariants as error
 use Rattle.hk_script.specs.declared.linking.Around.{Around}
 use Rattle.hk_script.specs.declared.linking.Link.{Link}
+use Rattle.hk_script.specs.declared.limits.Limits.{Limits}
 use Rattle.hk_script.specs.declared.statement.Statement.{Statement}
 use Rattle.hk_script.specs.declared.statement.Statement.TheVariants as statement
 use Rattle.hk_script.specs.Blocks.{nest, nested, IsScript}
@@ -114,7 +115,7 @@ all_around s = arounds [] 0 s
 abbrev pub ways_at : List Statement → ℕ → Ways
 ways_at s i = ways (drop i (all_around s)) i (drop i s)
 
-pub few_ways : (s : List Statement) (i : ℕ) → IsScript s → i ≤ length s → length (ways_at s i).blocks ≤ 16
+pub few_ways : {limits : Limits} (s : List Statement) (i : ℕ) → IsScript limits s → i ≤ length s → length (ways_at s i).blocks ≤ 16
 few_ways s i h le =
     let r = at_place 0 [] s i le h.blocks (omega arith) in
     let zero_i : 0 + i ≡ i = omega arith in
@@ -149,7 +150,7 @@ drop_written : (all : List Link) (i : ℕ) (l : Link) → i < length all → dro
 drop_written all i l lt = grind (arith, common_steps)
 
 -- the loop from the end, at the statement before a place
-module _ (s : List Statement) (place : ℕ) (x : Statement) (a : Around) (old : Ways) (h : IsScript s) (some : 0 < place) (within : place ≤ length s) (item : x ≡ get_or s (place - 1) x) (near : a ≡ get_or (all_around s) (place - 1) a) (e : old ≡ ways_at s place) where
+module _ {limits : Limits} (s : List Statement) (place : ℕ) (x : Statement) (a : Around) (old : Ways) (h : IsScript limits s) (some : 0 < place) (within : place ≤ length s) (item : x ≡ get_or s (place - 1) x) (near : a ≡ get_or (all_around s) (place - 1) a) (e : old ≡ ways_at s place) where
   back : place ≡ (place - 1) + 1
   back = omega arith
 

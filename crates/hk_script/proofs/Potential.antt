@@ -15,7 +15,7 @@ use Rattle.hk_script.specs.declared.error.Fault.{Fault}
 use Rattle.hk_script.specs.declared.error.Fault.TheVariants as fault
 use Rattle.hk_script.specs.declared.linking.Around.{Around}
 use Rattle.hk_script.specs.declared.linking.Link.{Link}
-use Rattle.hk_script.specs.declared.statement.TheConstants.{MAX_DEPTH}
+use Rattle.hk_script.specs.declared.limits.Limits.{Limits}
 use Rattle.hk_script.specs.declared.statement.Statement.{Statement}
 use Rattle.hk_script.specs.declared.statement.Statement.TheVariants as statement
 use Rattle.hk_script.specs.declared.statement.Test.{Test}
@@ -60,7 +60,7 @@ opened_by s p lt n =
     let is : open_at s (p + 1) ≡ f.0 = ap (open_at s) next ∙ ap left_open f.1 in
     record { nests = rw is f.1; follows = rw is f.2 }
 
-follows_at : (s : List Statement) (p : ℕ) → IsScript s → p ≤ length s → nested p (open_at s p) (drop p s) ≡ Ok []
+follows_at : {limits : Limits} (s : List Statement) (p : ℕ) → IsScript limits s → p ≤ length s → nested p (open_at s p) (drop p s) ≡ Ok []
 unfolding open_at
 follows_at s zero h le = h.blocks
 follows_at s (suc p) h le =
@@ -103,7 +103,7 @@ one_turn n t m lt =
       distributes : (j m : ℕ) → (j + 1) * m ≡ j * m + m
       distributes j m = omega arith
 
-open_few : (s : List Statement) (p : ℕ) → IsScript s → p ≤ length s → length (open_at s p) ≤ 16
+open_few : {limits : Limits} (s : List Statement) (p : ℕ) → IsScript limits s → p ≤ length s → length (open_at s p) ≤ 16
 unfolding open_at
 open_few s zero h le = omega arith
 open_few s (suc p) h le =
@@ -249,7 +249,7 @@ module _ (weight : Statement → ℕ) (s : List Statement) where
 
   linked_begun : (q : Part) (p : ℕ) (after : List Open) (bs : List Beyond) → begun q p (open_at s p) ≡ Ok after → (A p).blocks ≡ outer_of (A (p + 1)).blocks → IsLoop q p → Linked (open_at s p) (A p).blocks → Linked after (A (p + 1)).blocks
   linked_begun q p after bs e a loop h =
-      let m = passed_or (nat_lt (length (open_at s p)) MAX_DEPTH) fault.Deep (open_block q p ∷ open_at s p) after e in
+      let m = passed_or (nat_lt (length (open_at s p)) 16) fault.Deep (open_block q p ∷ open_at s p) after e in
       subst (λ (o : List Open). Linked o (A (p + 1)).blocks) m.1
       (record { opened = refl; after = refl; blocks = a; loop = loop }, subst (λ (t : List Beyond). Linked (open_at s p) t) a h)
 
@@ -283,7 +283,7 @@ module _ (weight : Statement → ℕ) (s : List Statement) where
   linked_step p statement.End after is e a h = linked_ended (open_at s p) after (A (p + 1)).here (A (p + 1)).blocks (A p).blocks e a h
   linked_step p x after is e a h = linked_kept (open_at s p) after (A (p + 1)).blocks (A p).blocks e a h
 
-  linked_at : (p : ℕ) → IsScript s → p ≤ length s → Linked (open_at s p) (A p).blocks
+  linked_at : {limits : Limits} (p : ℕ) → IsScript limits s → p ≤ length s → Linked (open_at s p) (A p).blocks
   unfolding open_at
   linked_at zero h le = tt
   linked_at (suc p) h le =
@@ -321,7 +321,7 @@ module _ (weight : Statement → ℕ) (s : List Statement) where
   loops_by : (b : Open) (outer : List Open) (ts : List ℕ) (q : Part) → b.part ≡ q → loops (b ∷ outer) ts ≡ loop_of q b.mark (slice_index ts (length outer)) + loops outer ts
   loops_by b outer ts q i = loops_cons b outer ts ∙ ap (λ (t : Part). loop_of t b.mark (slice_index ts (length outer)) + loops outer ts) i
 
-  leads_end : IsScript s → (p : ℕ) → p ≡ length s → (ts : List ℕ) → Leads (open_at s p) (ways_at s p) (A p) p ts
+  leads_end : {limits : Limits} → IsScript limits s → (p : ℕ) → p ≡ length s → (ts : List ℕ) → Leads (open_at s p) (ways_at s p) (A p) p ts
   leads_end h p e ts =
       let none : drop p s ≡ [] = drop_all p s (omega arith) in
       let f : nested p (open_at s p) [] ≡ Ok [] = subst (λ (t : List Statement). nested p (open_at s p) t ≡ Ok []) none (follows_at s p h (omega arith)) in
@@ -334,7 +334,7 @@ module _ (weight : Statement → ℕ) (s : List Statement) where
 
   leads_begun : (q : Part) (p : ℕ) (ts : List ℕ) → begun q p (open_at s p) ≡ Ok (open_at s (p + 1)) → (A p).blocks ≡ outer_of (A (p + 1)).blocks → Leads (open_at s (p + 1)) (ways_at s (p + 1)) (A (p + 1)) (p + 1) ts → Paired (open_at s p) (outer_of (ways_at s (p + 1)).blocks) (A p).blocks ts
   leads_begun q p ts e a h =
-      let m = passed_or (nat_lt (length (open_at s p)) MAX_DEPTH) fault.Deep (open_block q p ∷ open_at s p) (open_at s (p + 1)) e in
+      let m = passed_or (nat_lt (length (open_at s p)) 16) fault.Deep (open_block q p ∷ open_at s p) (open_at s (p + 1)) e in
       let g = subst (λ (t : List Open). Paired t (ways_at s (p + 1)).blocks (A (p + 1)).blocks ts) (sym m.1) h.pairs in
       subst (λ (t : List Beyond). Paired (open_at s p) (outer_of (ways_at s (p + 1)).blocks) t ts) (sym a) g.1
 
@@ -430,7 +430,7 @@ module _ (weight : Statement → ℕ) (s : List Statement) where
   leads_step p ts statement.End lt is e a tied h = leads_ended p ts (open_at s p) lt refl is e a tied h
   leads_step p ts x lt is e a tied h = record { on = omega arith; pairs = leads_kept p ts e (ap (λ (k : Ahead). k.blocks) a) h }
 
-  leads_at : IsScript s → (k p : ℕ) → p + k ≡ length s → (ts : List ℕ) → Leads (open_at s p) (ways_at s p) (A p) p ts
+  leads_at : {limits : Limits} → IsScript limits s → (k p : ℕ) → p + k ≡ length s → (ts : List ℕ) → Leads (open_at s p) (ways_at s p) (A p) p ts
   leads_at h zero p e ts = leads_end h p (omega arith) ts
   leads_at h (suc k) p e ts =
       let lt : p < length s = omega arith in
@@ -451,23 +451,23 @@ module _ (weight : Statement → ℕ) (s : List Statement) where
       ap (λ (n : ℕ). loop_of b.part b.mark n + loops outer (slice_set ts level v)) same ∙ ap (λ (n : ℕ). loop_of b.part b.mark (slice_index ts (length outer)) + n) rest
 
   -- what is left behind a statement
-  left_on : IsScript s → (p : ℕ) → p < length s → (ts : List ℕ) → left (ways_at s (p + 1)).on ts ≤ (A (p + 1)).here + after_sum (A (p + 1)).blocks + loops (open_at s (p + 1)) ts
+  left_on : {limits : Limits} → IsScript limits s → (p : ℕ) → p < length s → (ts : List ℕ) → left (ways_at s (p + 1)).on ts ≤ (A (p + 1)).here + after_sum (A (p + 1)).blocks + loops (open_at s (p + 1)) ts
   left_on h p lt ts =
       let l = (leads_at h (length s - (p + 1)) (p + 1) (omega arith) ts).on in
       let most = left_le (p + 1) ts (omega arith) in
       omega (arith, l, most)
 
   -- the innermost block behind a statement that begins one
-  left_begun : (q : Part) → IsScript s → (p : ℕ) → p < length s → begun q p (open_at s p) ≡ Ok (open_at s (p + 1)) → (ts : List ℕ) → (open_block q p ∷ open_at s p ≡ open_at s (p + 1)) × Pair (open_block q p) (open_at s p) (ways_at s (p + 1)).blocks (A (p + 1)).blocks ts
+  left_begun : {limits : Limits} (q : Part) → IsScript limits s → (p : ℕ) → p < length s → begun q p (open_at s p) ≡ Ok (open_at s (p + 1)) → (ts : List ℕ) → (open_block q p ∷ open_at s p ≡ open_at s (p + 1)) × Pair (open_block q p) (open_at s p) (ways_at s (p + 1)).blocks (A (p + 1)).blocks ts
   left_begun q h p lt e ts =
-      let m = passed_or (nat_lt (length (open_at s p)) MAX_DEPTH) fault.Deep (open_block q p ∷ open_at s p) (open_at s (p + 1)) e in
+      let m = passed_or (nat_lt (length (open_at s p)) 16) fault.Deep (open_block q p ∷ open_at s p) (open_at s (p + 1)) e in
       let g = subst (λ (t : List Open). Paired t (ways_at s (p + 1)).blocks (A (p + 1)).blocks ts) (sym m.1) (leads_at h (length s - (p + 1)) (p + 1) (omega arith) ts).pairs in
       (m.1, g.0)
 
   abbrev StepLeft : ℕ → Statement → Walk → Walk → Type 0
   StepLeft p x w new = weight x + left new.place new.turns ≤ left p w.turns
 
-  if_left : IsScript s → (p : ℕ) (t : Test) (w : Walk) (r : Reply) (level : ℕ) → p < length s → x_at s p ≡ statement.If t → nest p (open_at s p) (statement.If t) ≡ Ok (open_at s (p + 1)) → A p ≡ in_front (weight (statement.If t)) (statement.If t) (A (p + 1))
+  if_left : {limits : Limits} → IsScript limits s → (p : ℕ) (t : Test) (w : Walk) (r : Reply) (level : ℕ) → p < length s → x_at s p ≡ statement.If t → nest p (open_at s p) (statement.If t) ≡ Ok (open_at s (p + 1)) → A p ≡ in_front (weight (statement.If t)) (statement.If t) (A (p + 1))
       → StepLeft p (statement.If t) w (stepped (record { on = (ways_at s (p + 1)).on; past = (nearest (ways_at s (p + 1)).blocks).other; level = level }) w r (statement.If t))
   unfolding nest
   if_left h p t w r level lt is e a = by_test (holds t w r) where
@@ -489,7 +489,7 @@ module _ (weight : Statement → ℕ) (s : List Statement) where
         let sums = ap (λ (k : Ahead). after_sum k.blocks) a in
         omega (arith, other, c, here, sums)
 
-  repeat_left : IsScript s → (p n : ℕ) (w : Walk) → p < length s → x_at s p ≡ statement.Repeat n → nest p (open_at s p) (statement.Repeat n) ≡ Ok (open_at s (p + 1)) → A p ≡ in_front (weight (statement.Repeat n)) (statement.Repeat n) (A (p + 1)) → length (open_at s p) < length w.turns
+  repeat_left : {limits : Limits} → IsScript limits s → (p n : ℕ) (w : Walk) → p < length s → x_at s p ≡ statement.Repeat n → nest p (open_at s p) (statement.Repeat n) ≡ Ok (open_at s (p + 1)) → A p ≡ in_front (weight (statement.Repeat n)) (statement.Repeat n) (A (p + 1)) → length (open_at s p) < length w.turns
       → StepLeft p (statement.Repeat n) w (turned (record { on = (ways_at s (p + 1)).on; past = (nearest (ways_at s (p + 1)).blocks).after; level = length (open_at s p) }) n w)
   unfolding nest remaining
   repeat_left h p n w lt is e a room = by_test (nat_lt (slice_index w.turns (length (open_at s p))) n) refl where
@@ -527,19 +527,19 @@ module _ (weight : Statement → ℕ) (s : List Statement) where
         let sums = ap (λ (q : Ahead). after_sum q.blocks) a in
         omega (arith, after, kept, c, now_left, sums)
 
-  plain_left : IsScript s → (p k : ℕ) (ts : List ℕ) → p < length s → (let r : Result (List Open) Fault = Ok (open_at s p) in r) ≡ Ok (open_at s (p + 1)) → (A p).here ≡ k + (A (p + 1)).here → (A p).blocks ≡ (A (p + 1)).blocks → current p ts ≡ (A p).here → k + left (ways_at s (p + 1)).on ts ≤ left p ts
+  plain_left : {limits : Limits} → IsScript limits s → (p k : ℕ) (ts : List ℕ) → p < length s → (let r : Result (List Open) Fault = Ok (open_at s p) in r) ≡ Ok (open_at s (p + 1)) → (A p).here ≡ k + (A (p + 1)).here → (A p).blocks ≡ (A (p + 1)).blocks → current p ts ≡ (A p).here → k + left (ways_at s (p + 1)).on ts ≤ left p ts
   plain_left h p k ts lt e here sums c =
       let on = left_on h p lt ts in
       let lo = ap (λ (o : List Open). loops o ts) (ok_is (open_at s p) (open_at s (p + 1)) e) in
       let sum = ap after_sum sums in
       omega (arith, on, lo, here, sum, c)
 
-  step_left : IsScript s → (p : ℕ) (x : Statement) (w : Walk) (r : Reply) → p < length s → x_at s p ≡ x → IsStop (Some x) → nest p (open_at s p) x ≡ Ok (open_at s (p + 1)) → A p ≡ in_front (weight x) x (A (p + 1)) → (length (open_at s p) < 16 → length (open_at s p) < length w.turns) → length (open_at s (p + 1)) ≤ 16
+  step_left : {limits : Limits} → IsScript limits s → (p : ℕ) (x : Statement) (w : Walk) (r : Reply) → p < length s → x_at s p ≡ x → IsStop (Some x) → nest p (open_at s p) x ≡ Ok (open_at s (p + 1)) → A p ≡ in_front (weight x) x (A (p + 1)) → (length (open_at s p) < 16 → length (open_at s p) < length w.turns) → length (open_at s (p + 1)) ≤ 16
       → StepLeft p x w (stepped (link (around (open_at s p)) x (ways_at s (p + 1))) w r x)
   unfolding nest
   step_left h p (statement.If t) w r lt is st e a room few = if_left h p t w r (length (open_at s p)) lt is e a
   step_left h p (statement.Repeat n) w r lt is st e a room few =
-      let m = passed_or (nat_lt (length (open_at s p)) MAX_DEPTH) fault.Deep (open_block part.Turns p ∷ open_at s p) (open_at s (p + 1)) e in
+      let m = passed_or (nat_lt (length (open_at s p)) 16) fault.Deep (open_block part.Turns p ∷ open_at s p) (open_at s (p + 1)) e in
       let below : length (open_at s p) < 16 = let len = ap length m.1 in omega (arith, len) in
       repeat_left h p n w lt is e a (room below)
   step_left h p statement.Else w r lt is st e a room few = absurd st
@@ -560,7 +560,7 @@ module _ (weight : Statement → ℕ) (s : List Statement) where
   step_left h p (statement.New d z) w r lt is st e a room few = plain_left h p (weight (statement.New d z)) w.turns lt e (ap (λ (q : Ahead). q.here) a) (ap (λ (q : Ahead). q.blocks) a) (ap (λ (y : Statement). current_in y p w.turns) is)
 
   -- the same of a walk of the script
-  walk_left : IsScript s → (w : Walk) (r : Reply) → Fits s w → w.place < length s → length w.turns ≡ 16 → weight (x_at s w.place) + left (walk_after s w r).place (walk_after s w r).turns ≤ left w.place w.turns
+  walk_left : {limits : Limits} → IsScript limits s → (w : Walk) (r : Reply) → Fits s w → w.place < length s → length w.turns ≡ 16 → weight (x_at s w.place) + left (walk_after s w r).place (walk_after s w r).turns ≤ left w.place w.turns
   unfolding walk_after
   walk_left h w r f lt len =
       let p = w.place in
@@ -576,7 +576,7 @@ module _ (weight : Statement → ℕ) (s : List Statement) where
 
 -- ---- whole runs
 
-spent : (amount : Need → ℕ) (weight : Statement → ℕ) → ((w : Walk) (x : Statement) → taken_by amount (need_in w x) ≡ weight x) → (s : List Statement) → IsScript s → (rs : List Reply) (w : Walk) → Fits s w → length w.turns ≡ 16 → AreReplies s w rs → taken amount s w rs ≤ left weight s w.place w.turns
+spent : {limits : Limits} (amount : Need → ℕ) (weight : Statement → ℕ) → ((w : Walk) (x : Statement) → taken_by amount (need_in w x) ≡ weight x) → (s : List Statement) → IsScript limits s → (rs : List Reply) (w : Walk) → Fits s w → length w.turns ≡ 16 → AreReplies s w rs → taken amount s w rs ≤ left weight s w.place w.turns
 unfolding need_of
 spent amount weight same s h [] w f len a = omega arith
 spent amount weight same s h (r ∷ rs) w f len a =
@@ -594,7 +594,7 @@ none_after [] e = refl
 none_after (b ∷ bs) e = absurd (omega arith)
 
 -- a walk of one job takes at most the greatest sum of its script
-within : (amount : Need → ℕ) (weight : Statement → ℕ) → ((w : Walk) (x : Statement) → taken_by amount (need_in w x) ≡ weight x) → (s : List Statement) (job : ℕ) (rs : List Reply) → IsScript s → AreReplies s (started job) rs → taken amount s (started job) rs ≤ (ahead weight s).here
+within : {limits : Limits} (amount : Need → ℕ) (weight : Statement → ℕ) → ((w : Walk) (x : Statement) → taken_by amount (need_in w x) ≡ weight x) → (s : List Statement) (job : ℕ) (rs : List Reply) → IsScript limits s → AreReplies s (started job) rs → taken amount s (started job) rs ≤ (ahead weight s).here
 unfolding open_at loops
 within amount weight same s job rs h a =
     let all = spent amount weight same s h rs (started job) (started_fits s job h) refl a in
@@ -649,10 +649,10 @@ words_same w (statement.Repeat n) = refl
 words_same w statement.End = refl
 
 -- a walk of one job takes no more ticks and no more words than its script costs
-pub ticks_within : (s : List Statement) (job : ℕ) (rs : List Reply) → IsScript s → AreReplies s (started job) rs → taken need_ticks s (started job) rs ≤ greatest_ticks s
+pub ticks_within : {limits : Limits} (s : List Statement) (job : ℕ) (rs : List Reply) → IsScript limits s → AreReplies s (started job) rs → taken need_ticks s (started job) rs ≤ greatest_ticks s
 unfolding greatest_ticks
 ticks_within s job rs h a = within need_ticks ticks_of ticks_same s job rs h a
 
-pub words_within : (s : List Statement) (job : ℕ) (rs : List Reply) → IsScript s → AreReplies s (started job) rs → taken need_words s (started job) rs ≤ greatest_words s
+pub words_within : {limits : Limits} (s : List Statement) (job : ℕ) (rs : List Reply) → IsScript limits s → AreReplies s (started job) rs → taken need_words s (started job) rs ≤ greatest_words s
 unfolding greatest_words
 words_within s job rs h a = within need_words words_of words_same s job rs h a

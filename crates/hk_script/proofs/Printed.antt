@@ -11,20 +11,22 @@ use Rattle.std.proofs.lemmas.List.Folds.{list_all-append}
 use Rattle.std.proofs.lemmas.List.Concat.{flat_map-append}
 use Rattle.std.proofs.lemmas.List.Splits.{slice_split_at, slice_split_none}
 use Rattle.std.proofs.lemmas.List.Sums.{position_or_len_is, AllPass-from_list_all}
-use Rattle.hk_script.specs.declared.lex.TheConstants.{MAX_DIGITS}
+use Rattle.hk_script.specs.declared.limits.Limits.{Limits}
 use Rattle.hk_script.specs.declared.statement.Statement.{Statement}
 use Rattle.hk_script.specs.declared.statement.Statement.TheVariants as statement
 use Rattle.hk_script.specs.declared.statement.Test.{Test}
 use Rattle.hk_script.specs.declared.statement.Test.TheVariants as test
 use Rattle.hk_script.specs.declared.printing.Argument.{Argument}
+use Rattle.hk_script.specs.Limits.{AreLimits, widest}
 use Rattle.hk_script.specs.Lex.{is_blank, before_comment, words, lines}
-use Rattle.hk_script.specs.Spelling.{Piece, Exactly, Numeral, SpellsPiece, SpellsStatement, variable, register, pieces, test_pieces, IsStatement}
+use Rattle.hk_script.specs.Spelling.{Piece, Exactly, Numeral, SpellsPiece, SpellsStatement, variable, register, pieces, test_pieces, IsVariable, IsRegister, IsTest, IsStatement}
 use Rattle.hk_script.specs.Blocks.{IsScript}
 use Rattle.hk_script.specs.Texts.{has_words, statement_lines, Spells}
 use Rattle.hk_script.specs.Printing.{word_of, spaced, line_from, line_of, text_of}
 use Rattle.hk_script.specs.Arguments.{piece_of}
 use Rattle.std.proofs.lemmas.Grind.{common_steps}
 use Rattle.hk_script.proofs.Digits.{and_parts}
+use Rattle.hk_script.proofs.Wider.{within_widest, wider_each}
 
 -- ---- the loop of a line
 
@@ -59,20 +61,19 @@ clean_digits (c ∷ ds) h =
 good_number : (n : ℕ) → n < 2 ^ 64 → Good (Numeral n)
 good_number n lt =
     let d = decimal_is_IsNumeral n lt in
-    let few : length (decimal n) ≤ MAX_DIGITS = length-decimal-le 20 n (omega arith) (omega arith) lt in
+    let few : length (decimal n) ≤ 20 = length-decimal-le 20 n (omega arith) (omega arith) lt in
     record { some = d.0.0; clean_word = clean_digits (decimal n) d.0.1; spelled = (d.0, few, d.1) }
 
-good_name : (letter v : ℕ) → 48 ≤ letter → Good (Exactly (letter ∷ (48 + v) ∷ []))
-good_name letter v l =
+good_name : (letter v : ℕ) → 48 ≤ letter → v < 2 ^ 64 → Good (Exactly (letter ∷ decimal v))
+good_name letter v l small =
     let a : nat_le 48 letter ≡ true = grind (arith, nat_tests) in
-    let b : nat_le 48 (48 + v) ≡ true = grind (arith, nat_tests) in
-    record { some = omega arith; clean_word = rw (a, b) refl; spelled = refl }
+    record { some = omega arith; clean_word = rw (a, (good_number v small).clean_word) refl; spelled = refl }
 
-good_variable : (v : ℕ) → Good (variable v)
-good_variable v = good_name 118 v (omega arith)
+good_variable : (v : ℕ) → IsVariable v → Good (variable v)
+good_variable v h = good_name 118 v (omega arith) (omega arith)
 
-good_register : (v : ℕ) → Good (register v)
-good_register v = good_name 114 v (omega arith)
+good_register : (v : ℕ) → IsRegister widest v → Good (register v)
+good_register v h = good_name 114 v (omega arith) (omega arith)
 
 good_word : (name : List ℕ) → 0 < length name → clean name ≡ true → Good (Exactly name)
 good_word name s c = record { some = s; clean_word = c; spelled = refl }
@@ -80,28 +81,28 @@ good_word name s c = record { some = s; clean_word = c; spelled = refl }
 abbrev AllGood : List Piece → Type 0
 AllGood ps = AllByRecursion Good ps
 
-good_test : (t : Test) → AllGood (test_pieces t)
-good_test (test.Less l r) = (good_variable l, (good_word (codes "<") (omega arith) refl, (good_variable r, tt)))
-good_test (test.Equal l r) = (good_variable l, (good_word (codes "=") (omega arith) refl, (good_variable r, tt)))
-good_test (test.Null r) = (good_word (codes "null") (omega arith) refl, (good_register r, tt))
-good_test (test.Same l r) = (good_word (codes "same") (omega arith) refl, (good_register l, (good_register r, tt)))
+good_test : (t : Test) → IsTest widest t → AllGood (test_pieces t)
+good_test (test.Less l r) h = (good_variable l h.0, (good_word (codes "<") (omega arith) refl, (good_variable r h.1, tt)))
+good_test (test.Equal l r) h = (good_variable l h.0, (good_word (codes "=") (omega arith) refl, (good_variable r h.1, tt)))
+good_test (test.Null r) h = (good_word (codes "null") (omega arith) refl, (good_register r h, tt))
+good_test (test.Same l r) h = (good_word (codes "same") (omega arith) refl, (good_register l h.0, (good_register r h.1, tt)))
 
-good_pieces : (s : Statement) → IsStatement s → AllGood (pieces s)
+good_pieces : (s : Statement) → IsStatement widest s → AllGood (pieces s)
 good_pieces (statement.Work n) h = (good_word (codes "work") (omega arith) refl, (good_number n (omega arith), tt))
-good_pieces (statement.Set v n) h = (good_word (codes "set") (omega arith) refl, (good_variable v, (good_number n h.1, tt)))
-good_pieces (statement.Copy v u) h = (good_word (codes "copy") (omega arith) refl, (good_variable v, (good_variable u, tt)))
-good_pieces (statement.Add v u) h = (good_word (codes "add") (omega arith) refl, (good_variable v, (good_variable u, tt)))
-good_pieces (statement.Sub v u) h = (good_word (codes "sub") (omega arith) refl, (good_variable v, (good_variable u, tt)))
-good_pieces (statement.Job v) h = (good_word (codes "job") (omega arith) refl, (good_variable v, tt))
-good_pieces (statement.Out v) h = (good_word (codes "out") (omega arith) refl, (good_variable v, tt))
-good_pieces (statement.Get v r f) h = (good_word (codes "get") (omega arith) refl, (good_variable v, (good_register r, (good_number f (omega arith), tt))))
-good_pieces (statement.Put r f v) h = (good_word (codes "put") (omega arith) refl, (good_register r, (good_number f (omega arith), (good_variable v, tt))))
-good_pieces (statement.Load d r f) h = (good_word (codes "load") (omega arith) refl, (good_register d, (good_register r, (good_number f (omega arith), tt))))
-good_pieces (statement.Store r f t) h = (good_word (codes "store") (omega arith) refl, (good_register r, (good_number f (omega arith), (good_register t, tt))))
-good_pieces (statement.Move d r) h = (good_word (codes "move") (omega arith) refl, (good_register d, (good_register r, tt)))
-good_pieces (statement.Clear d) h = (good_word (codes "clear") (omega arith) refl, (good_register d, tt))
-good_pieces (statement.New d shape) h = let few = shape.few in (good_word (codes "new") (omega arith) refl, (good_register d, (good_number shape.refs (omega arith), (good_number shape.nums (omega arith), tt))))
-good_pieces (statement.If t) h = (good_word (codes "if") (omega arith) refl, good_test t)
+good_pieces (statement.Set v n) h = (good_word (codes "set") (omega arith) refl, (good_variable v h.0, (good_number n h.1, tt)))
+good_pieces (statement.Copy v u) h = (good_word (codes "copy") (omega arith) refl, (good_variable v h.0, (good_variable u h.1, tt)))
+good_pieces (statement.Add v u) h = (good_word (codes "add") (omega arith) refl, (good_variable v h.0, (good_variable u h.1, tt)))
+good_pieces (statement.Sub v u) h = (good_word (codes "sub") (omega arith) refl, (good_variable v h.0, (good_variable u h.1, tt)))
+good_pieces (statement.Job v) h = (good_word (codes "job") (omega arith) refl, (good_variable v h, tt))
+good_pieces (statement.Out v) h = (good_word (codes "out") (omega arith) refl, (good_variable v h, tt))
+good_pieces (statement.Get v r f) h = (good_word (codes "get") (omega arith) refl, (good_variable v h.0, (good_register r h.1, (good_number f (omega arith), tt))))
+good_pieces (statement.Put r f v) h = (good_word (codes "put") (omega arith) refl, (good_register r h.0, (good_number f (omega arith), (good_variable v h.2, tt))))
+good_pieces (statement.Load d r f) h = (good_word (codes "load") (omega arith) refl, (good_register d h.0.1, (good_register r h.1, (good_number f (omega arith), tt))))
+good_pieces (statement.Store r f t) h = (good_word (codes "store") (omega arith) refl, (good_register r h.0, (good_number f (omega arith), (good_register t h.2, tt))))
+good_pieces (statement.Move d r) h = (good_word (codes "move") (omega arith) refl, (good_register d h.0.1, (good_register r h.1, tt)))
+good_pieces (statement.Clear d) h = (good_word (codes "clear") (omega arith) refl, (good_register d h.1, tt))
+good_pieces (statement.New d shape) h = let few = shape.few in (good_word (codes "new") (omega arith) refl, (good_register d h.0.1, (good_number shape.refs (omega arith), (good_number shape.nums (omega arith), tt))))
+good_pieces (statement.If t) h = (good_word (codes "if") (omega arith) refl, good_test t h)
 good_pieces statement.Else h = (good_word (codes "else") (omega arith) refl, tt)
 good_pieces (statement.Repeat n) h = (good_word (codes "repeat") (omega arith) refl, (good_number n (omega arith), tt))
 good_pieces statement.End h = (good_word (codes "end") (omega arith) refl, tt)
@@ -199,7 +200,7 @@ name_of statement.Else = record { first = _; others = _; is = refl }
 name_of (statement.Repeat n) = record { first = _; others = _; is = refl }
 name_of statement.End = record { first = _; others = _; is = refl }
 
-pub text_spells : (s : List Statement) → AllByRecursion IsStatement s → AllZip SpellsStatement (statement_lines (text_of s)) s
+pub text_spells : (s : List Statement) → AllByRecursion (IsStatement widest) s → AllZip SpellsStatement (statement_lines (text_of s)) s
 unfolding line_of
 text_spells [] h = tt
 text_spells (s ∷ more) h =
@@ -214,8 +215,8 @@ text_spells (s ∷ more) h =
     subst (λ (t : List (List (List ℕ))). AllZip SpellsStatement t (s ∷ more)) (sym shown) (spelled, text_spells more h.1)
 
 -- the canonical text spells the script
-pub script_spelled : (s : List Statement) → IsScript s → Spells (text_of s) s
-script_spelled s h = record { lines = text_spells s h.each; script = h }
+pub script_spelled : (limits : Limits) → AreLimits limits → (s : List Statement) → IsScript limits s → Spells limits (text_of s) s
+script_spelled limits are s h = record { lines = text_spells s (wider_each limits widest (within_widest limits are) s h.each); script = h }
 
 -- one more statement
 pub text_more : (s : List Statement) (i : ℕ) (d : Statement) → i < length s → text_of (take (i + 1) s) ≡ text_of (take i s) ++ line_of (get_or s i d)

@@ -5,6 +5,7 @@ use Rattle.std.specs.List.{AllByRecursion}
 use Rattle.std.proofs.lemmas.List.{drop_more, drop_all, get_or_read}
 use Rattle.std.proofs.lemmas.Bool.{cases_lt}
 use Rattle.hk_script.specs.declared.walk.Need.{Need}
+use Rattle.hk_script.specs.Limits.{widest}
 use Rattle.hk_script.specs.Spelling.{IsStatement}
 use Rattle.hk_script.specs.Levels.{HasLevel}
 use Rattle.hk_script.specs.declared.beyond.Beyond.{Beyond}
@@ -14,7 +15,7 @@ use Rattle.hk_script.specs.declared.blocks.Part.TheVariants as part
 use Rattle.hk_script.specs.declared.error.Fault.TheVariants as fault
 use Rattle.hk_script.specs.declared.linking.Around.{Around}
 use Rattle.hk_script.specs.declared.linking.Link.{Link}
-use Rattle.hk_script.specs.declared.statement.TheConstants.{MAX_DEPTH}
+use Rattle.hk_script.specs.declared.limits.Limits.{Limits}
 use Rattle.hk_script.specs.declared.statement.Statement.{Statement}
 use Rattle.hk_script.specs.declared.statement.Statement.TheVariants as statement
 use Rattle.hk_script.specs.Blocks.{open_block, parted_by, parted, ended, nest, nested, IsScript}
@@ -57,7 +58,7 @@ begins statement.End s e = absurd cc
 begins y s e = tt
 
 -- a script begins with a statement that takes a tick
-pub first_stops : (s : List Statement) → IsScript s → StopAt s 0
+pub first_stops : {limits : Limits} (s : List Statement) → IsScript limits s → StopAt s 0
 first_stops [] h = let some = h.some in absurd (omega arith)
 first_stops (x ∷ s) h = record { within = omega arith; stop = begins x s h.blocks }
 
@@ -84,8 +85,8 @@ ended_marked s (b ∷ o) h = h.1
 
 nest_marked : (s : List Statement) (i : ℕ) (o : List Open) (x : Statement) → (IsStop (Some x) → StopAt s i) → Marked s o → Marked s (left_open (nest i o x))
 unfolding nest
-nest_marked s i o (statement.If t) here h = begun_marked s part.Then i o (here tt) h (nat_lt (length o) MAX_DEPTH)
-nest_marked s i o (statement.Repeat n) here h = begun_marked s part.Turns i o (here tt) h (nat_lt (length o) MAX_DEPTH)
+nest_marked s i o (statement.If t) here h = begun_marked s part.Then i o (here tt) h (nat_lt (length o) 16)
+nest_marked s i o (statement.Repeat n) here h = begun_marked s part.Turns i o (here tt) h (nat_lt (length o) 16)
 nest_marked s i o statement.Else here h = parted_marked s o h
 nest_marked s i o statement.End here h = ended_marked s o h
 nest_marked s i o x here h = h
@@ -145,7 +146,7 @@ leads_good s a i x w here near z g = record { on = here tt; blocks = g.blocks }
 abbrev pub nothing_around : Around
 nothing_around = record { level = 0; again = None }
 
-ways_good : (s : List Statement) (k i : ℕ) → IsScript s → i + k ≡ length s → GoodWays s (ways_at s i)
+ways_good : {limits : Limits} (s : List Statement) (k i : ℕ) → IsScript limits s → i + k ≡ length s → GoodWays s (ways_at s i)
 ways_good s zero i h e =
     let same : i ≡ length s = omega arith in
     let g : GoodWays s (record { on = i; blocks = [] }) = record { on = subst (λ (n : ℕ). StopAt s n) (sym same) (end_stops s); blocks = tt } in
@@ -181,7 +182,7 @@ past_good s (statement.Repeat n) b g = g.1
 past_good s x b g = g.0
 
 -- wherever a link leads, a walk can stand
-pub link_stops : (s : List Statement) (i : ℕ) → IsScript s → i < length s → StopAt s (link_at s i).on × StopAt s (link_at s i).past
+pub link_stops : {limits : Limits} (s : List Statement) (i : ℕ) → IsScript limits s → i < length s → StopAt s (link_at s i).on × StopAt s (link_at s i).past
 link_stops s i h lt =
     let w = ways_at s (i + 1) in
     let g = ways_good s (length s - (i + 1)) (i + 1) h (omega arith) in
@@ -193,7 +194,7 @@ head_of : (a b : Around) (xs ys : List Around) → a ∷ xs ≡ b ∷ ys → a �
 head_of a b xs ys e = cc
 
 -- a `repeat` has a level with a counter
-pub level_small : (s : List Statement) (i n : ℕ) → IsScript s → i < length s → get_or s i statement.End ≡ statement.Repeat n → (link_at s i).level < 16
+pub level_small : {limits : Limits} (s : List Statement) (i n : ℕ) → IsScript limits s → i < length s → get_or s i statement.End ≡ statement.Repeat n → (link_at s i).level < 16
 level_small s i n h lt is =
     let r = at_place 0 [] s i (omega arith) h.blocks (omega arith) in
     let same : 0 + i ≡ i = omega arith in
@@ -224,7 +225,7 @@ stepped_fits s l w r statement.End st on past = absurd st
 stepped_fits s l w r x st on past = record { within = on.within; stop = on.stop }
 
 -- a walk that fits fits after its next statement
-pub keeps_fitting : (s : List Statement) (w : Walk) (r : Reply) → IsScript s → Fits s w → w.place < length s → Fits s (walk_after s w r)
+pub keeps_fitting : {limits : Limits} (s : List Statement) (w : Walk) (r : Reply) → IsScript limits s → Fits s w → w.place < length s → Fits s (walk_after s w r)
 unfolding walk_after
 keeps_fitting s w r h f lt =
     let x = get_or s w.place statement.End in
@@ -233,7 +234,7 @@ keeps_fitting s w r h f lt =
     let l = link_stops s w.place h lt in
     subst (λ (o : Option Statement). Fits s (moved (link_at s w.place) w r o)) (sym is) (stepped_fits s (link_at s w.place) w r x st l.0 l.1)
 
-pub started_fits : (s : List Statement) (job : ℕ) → IsScript s → Fits s (started job)
+pub started_fits : {limits : Limits} (s : List Statement) (job : ℕ) → IsScript limits s → Fits s (started job)
 started_fits s job h = let z = first_stops s h in record { within = z.within; stop = z.stop }
 
 wants : (w : Walk) (x : Statement) → IsStop (Some x) → IsSome (need_in w x)
@@ -265,21 +266,21 @@ wanted_within s w P h =
 -- the statement at a place, read from the statements that a call gave
 pub record Here (s : List Statement) (i : ℕ) (x : Statement) : Type 0 where
   pub within : i < length s
-  pub statement : IsStatement x
+  pub statement : IsStatement widest x
   pub level : HasLevel x (link_at s i)
   pub get : slice_get s i ≡ Some x
 
-has_level : (s : List Statement) (i : ℕ) (x : Statement) → IsScript s → i < length s → get_or s i statement.End ≡ x → HasLevel x (link_at s i)
+has_level : {limits : Limits} (s : List Statement) (i : ℕ) (x : Statement) → IsScript limits s → i < length s → get_or s i statement.End ≡ x → HasLevel x (link_at s i)
 has_level s i (statement.Repeat n) h lt e = level_small s i n h lt e
 has_level s i x h lt e = tt
 
-pub read_here : (s given : List Statement) (i : ℕ) (x : Statement) → IsScript s → given ≡ s → i < length s → x ≡ get_or given i x → Here s i x
+pub read_here : (s given : List Statement) (i : ℕ) (x : Statement) → IsScript widest s → given ≡ s → i < length s → x ≡ get_or given i x → Here s i x
 read_here s given i x h same lt item =
     let f : x ≡ get_or s i x = subst (λ (t : List Statement). x ≡ get_or t i x) same item in
     let g : x ≡ get_or s i statement.End = get_or_read s i x lt f statement.End in
     record {
       within = lt;
-      statement = subst IsStatement (sym f) (each_at s i x h.each lt);
+      statement = subst (IsStatement widest) (sym f) (each_at widest s i x h.each lt);
       level = has_level s i x h lt (sym g);
       get = get_here s i statement.End lt ∙ ap (λ (y : Statement). Some y) (sym g);
     }

@@ -11,12 +11,13 @@ use Rattle.hk_script.specs.declared.error.Fault.{Fault}
 use Rattle.hk_script.specs.declared.error.Fault.TheVariants as fault
 use Rattle.hk_script.specs.declared.error.ScriptError.{ScriptError}
 use Rattle.hk_script.specs.declared.error.ScriptError.TheVariants as error
-use Rattle.hk_script.specs.declared.statement.TheConstants.{MAX_DEPTH, MAX_STATEMENTS}
+use Rattle.hk_script.specs.declared.limits.Limits.{Limits}
 use Rattle.hk_script.specs.declared.statement.Statement.{Statement}
 use Rattle.hk_script.specs.declared.statement.Statement.TheVariants as statement
 use Rattle.std.specs.List.{position_or_len}
 use Rattle.std.proofs.lemmas.List.Splits.{slice_split_first, slice_split_none}
 use Rattle.std.proofs.lemmas.List.Sums.{fails_before_first}
+use Rattle.hk_script.specs.Limits.{AreLimits}
 use Rattle.hk_script.specs.Lex.{words, lines}
 use Rattle.hk_script.specs.Reading.{statement_of}
 use Rattle.hk_script.specs.Spelling.{SpellsStatement, IsStatement}
@@ -72,9 +73,9 @@ Step r a' = (b' : List Open) × (r ≡ Ok b') × Alike a' b'
 
 begun_alike : (p : Part) (m k : ℕ) (a b a' : List Open) → Alike a b → begun p m a ≡ Ok a' → Step (begun p k b) a'
 begun_alike p m k a b a' al e =
-    let q = passed_or (nat_lt (length a) MAX_DEPTH) fault.Deep (open_block p m ∷ a) a' e in
+    let q = passed_or (nat_lt (length a) 16) fault.Deep (open_block p m ∷ a) a' e in
     let len : length a ≡ length b = sym (length-map a (λ (o : Open). o.part)) ∙ ap length al.same ∙ length-map b (λ (o : Open). o.part) in
-    let test : nat_lt (length b) MAX_DEPTH ≡ true = subst (λ (n : ℕ). nat_lt n MAX_DEPTH ≡ true) len q.0 in
+    let test : nat_lt (length b) 16 ≡ true = subst (λ (n : ℕ). nat_lt n 16 ≡ true) len q.0 in
     (open_block p k ∷ b, rw test refl, record { same = ap parts (sym q.1) ∙ ap (λ (t : List Part). p ∷ t) al.same })
 
 parted_alike : (a b a' : List Open) → Alike a b → parted a ≡ Ok a' → Step (parted b) a'
@@ -115,12 +116,12 @@ nest_alike m k s a b a' al e = kept_alike a b a' al e
 -- ---- what is read is spelled so
 
 -- what lines add to what was read
-record Added (wss : List (List (List ℕ))) (p q : Progress) (o : List Open) : Type 0 where
+record Added (limits : Limits) (wss : List (List (List ℕ))) (p q : Progress) (o : List Open) : Type 0 where
   more : List Statement
   statements : q.statements ≡ p.statements ++ more
   spelled : AllZip SpellsStatement (filter has_words wss) more
-  each : AllByRecursion IsStatement more
-  few : length q.statements ≤ MAX_STATEMENTS
+  each : AllByRecursion (IsStatement limits) more
+  few : length q.statements ≤ 1024
   after : List Open
   nests : nested (length p.statements) o more ≡ Ok after
   alike : Alike q.blocks after
@@ -129,7 +130,7 @@ record Added (wss : List (List (List ℕ))) (p q : Progress) (o : List Open) : T
 record Put (n : ℕ) (p x : Progress) (s : Statement) : Type 0 where
   blocks : List Open
   nests : nest n p.blocks s ≡ Ok blocks
-  room : length p.statements < MAX_STATEMENTS
+  room : length p.statements < 1024
   same : x ≡ record { statements = p.statements ++ s ∷ []; blocks = blocks }
 
 placed_takes : (n : ℕ) (p x : Progress) (s : Statement) → placed n p s ≡ Ok x → Put n p x s
@@ -137,35 +138,35 @@ unfolding placed
 placed_takes n p x s e =
     let b = bind_ok (nest n p.blocks s) (added p s) x e in
     let made : Progress = record { statements = p.statements ++ s ∷ []; blocks = b.0 } in
-    let t = passed_or (nat_lt (length p.statements) MAX_STATEMENTS) fault.Long made x b.2 in
+    let t = passed_or (nat_lt (length p.statements) 1024) fault.Long made x b.2 in
     record { blocks = b.0; nests = b.1; room = grind (arith, nat_tests, t.0); same = sym t.1 }
 
-placed_again : (n : ℕ) (p : Progress) (s : Statement) (blocks : List Open) → nest n p.blocks s ≡ Ok blocks → length p.statements < MAX_STATEMENTS → placed n p s ≡ Ok (record { statements = p.statements ++ s ∷ []; blocks = blocks })
+placed_again : (n : ℕ) (p : Progress) (s : Statement) (blocks : List Open) → nest n p.blocks s ≡ Ok blocks → length p.statements < 1024 → placed n p s ≡ Ok (record { statements = p.statements ++ s ∷ []; blocks = blocks })
 unfolding placed
 placed_again n p s blocks e room =
-    let t : nat_lt (length p.statements) MAX_STATEMENTS ≡ true = grind (arith, nat_tests) in
+    let t : nat_lt (length p.statements) 1024 ≡ true = grind (arith, nat_tests) in
     rw (e, t) refl
 
-sound : (wss : List (List (List ℕ))) (n : ℕ) (p q : Progress) (o : List Open) → Alike p.blocks o → length p.statements ≤ MAX_STATEMENTS → lines_read n p wss ≡ Ok q → Added wss p q o
-sound [] n p q o al few e =
+sound : (limits : Limits) (wss : List (List (List ℕ))) (n : ℕ) (p q : Progress) (o : List Open) → Alike p.blocks o → length p.statements ≤ 1024 → lines_read limits n p wss ≡ Ok q → Added limits wss p q o
+sound limits [] n p q o al few e =
     let same : p ≡ q = cc in
-    record { more = []; statements = ap (λ (r : Progress). r.statements) (sym same) ∙ sym (append-nil p.statements); spelled = tt; each = tt; few = subst (λ (r : Progress). length r.statements ≤ MAX_STATEMENTS) same few; after = o; nests = refl; alike = subst (λ (r : Progress). Alike r.blocks o) same al }
-sound ([] ∷ wss) n p q o al few e =
-    let r = sound wss (next_line n) p q o al few e in
+    record { more = []; statements = ap (λ (r : Progress). r.statements) (sym same) ∙ sym (append-nil p.statements); spelled = tt; each = tt; few = subst (λ (r : Progress). length r.statements ≤ 1024) same few; after = o; nests = refl; alike = subst (λ (r : Progress). Alike r.blocks o) same al }
+sound limits ([] ∷ wss) n p q o al few e =
+    let r = sound limits wss (next_line n) p q o al few e in
     record { more = r.more; statements = r.statements; spelled = r.spelled; each = r.each; few = r.few; after = r.after; nests = r.nests; alike = r.alike }
-sound ((w ∷ ws) ∷ wss) n p q o al few e =
+sound limits ((w ∷ ws) ∷ wss) n p q o al few e =
     let k = length p.statements in
-    let t = then_is n (line_read n p (w ∷ ws)) (λ x. lines_read (next_line n) x wss) q e in
-    let read = bind_ok (statement_of (w ∷ ws)) (placed n p) t.0 t.1 in
+    let t = then_is n (line_read limits n p (w ∷ ws)) (λ x. lines_read limits (next_line n) x wss) q e in
+    let read = bind_ok (statement_of limits (w ∷ ws)) (placed n p) t.0 t.1 in
     let s = read.0 in
     let put = placed_takes n p t.0 s read.2 in
     let moved = nest_alike n k s p.blocks o put.blocks al put.nests in
     let next : Progress = record { statements = p.statements ++ s ∷ []; blocks = put.blocks } in
-    let rest : lines_read (next_line n) next wss ≡ Ok q = subst (λ (x : Progress). lines_read (next_line n) x wss ≡ Ok q) put.same t.2 in
+    let rest : lines_read limits (next_line n) next wss ≡ Ok q = subst (λ (x : Progress). lines_read limits (next_line n) x wss ≡ Ok q) put.same t.2 in
     let len : length (p.statements ++ s ∷ []) ≡ k + 1 = length-append p.statements (s ∷ []) in
-    let room : length (p.statements ++ s ∷ []) ≤ MAX_STATEMENTS = omega (arith, len, put.room) in
-    let r = sound wss (next_line n) next q moved.0 moved.2 room rest in
-    let word = statement_takes (w ∷ ws) s read.1 in
+    let room : length (p.statements ++ s ∷ []) ≤ 1024 = omega (arith, len, put.room) in
+    let r = sound limits wss (next_line n) next q moved.0 moved.2 room rest in
+    let word = statement_takes limits (w ∷ ws) s read.1 in
     let nests : nested (k + 1) moved.0 r.more ≡ Ok r.after = subst (λ (m : ℕ). nested m moved.0 r.more ≡ Ok r.after) len r.nests in
     record {
       more = s ∷ r.more;
@@ -181,32 +182,32 @@ sound ((w ∷ ws) ∷ wss) n p q o al few e =
 -- ---- what is spelled so is read
 
 -- what lines that spell statements are read as
-record Made (wss : List (List (List ℕ))) (n : ℕ) (p : Progress) (more : List Statement) (after : List Open) : Type 0 where
+record Made (limits : Limits) (wss : List (List (List ℕ))) (n : ℕ) (p : Progress) (more : List Statement) (after : List Open) : Type 0 where
   q : Progress
-  is : lines_read n p wss ≡ Ok q
+  is : lines_read limits n p wss ≡ Ok q
   statements : q.statements ≡ p.statements ++ more
   alike : Alike after q.blocks
 
-complete : (wss : List (List (List ℕ))) (n : ℕ) (p : Progress) (o after : List Open) (more : List Statement) → Alike o p.blocks → AllZip SpellsStatement (filter has_words wss) more → AllByRecursion IsStatement more → nested (length p.statements) o more ≡ Ok after → length p.statements + length more ≤ MAX_STATEMENTS → Made wss n p more after
-complete [] n p o after [] al h each nests few = record { q = p; is = refl; statements = sym (append-nil p.statements); alike = subst (λ (b : List Open). Alike b p.blocks) (ok_is o after nests) al }
-complete [] n p o after (s ∷ more) al h each nests few = absurd h
-complete ([] ∷ wss) n p o after more al h each nests few =
-    let r = complete wss (next_line n) p o after more al h each nests few in
+complete : (limits : Limits) → AreLimits limits → (wss : List (List (List ℕ))) (n : ℕ) (p : Progress) (o after : List Open) (more : List Statement) → Alike o p.blocks → AllZip SpellsStatement (filter has_words wss) more → AllByRecursion (IsStatement limits) more → nested (length p.statements) o more ≡ Ok after → length p.statements + length more ≤ 1024 → Made limits wss n p more after
+complete limits are [] n p o after [] al h each nests few = record { q = p; is = refl; statements = sym (append-nil p.statements); alike = subst (λ (b : List Open). Alike b p.blocks) (ok_is o after nests) al }
+complete limits are [] n p o after (s ∷ more) al h each nests few = absurd h
+complete limits are ([] ∷ wss) n p o after more al h each nests few =
+    let r = complete limits are wss (next_line n) p o after more al h each nests few in
     record { q = r.q; is = r.is; statements = r.statements; alike = r.alike }
-complete ((w ∷ ws) ∷ wss) n p o after [] al h each nests few = absurd h
-complete ((w ∷ ws) ∷ wss) n p o after (s ∷ more) al h each nests few =
+complete limits are ((w ∷ ws) ∷ wss) n p o after [] al h each nests few = absurd h
+complete limits are ((w ∷ ws) ∷ wss) n p o after (s ∷ more) al h each nests few =
     let k = length p.statements in
     let step = bind_ok (nest k o s) (λ b. nested (k + 1) b more) after nests in
     let moved = nest_alike k n s o p.blocks step.0 al step.1 in
     let next : Progress = record { statements = p.statements ++ s ∷ []; blocks = moved.0 } in
-    let room : k < MAX_STATEMENTS = omega arith in
+    let room : k < 1024 = omega arith in
     let put = placed_again n p s moved.0 moved.1 room in
     let len : length (p.statements ++ s ∷ []) ≡ k + 1 = length-append p.statements (s ∷ []) in
     let rest : nested (length next.statements) step.0 more ≡ Ok after = subst (λ (m : ℕ). nested m step.0 more ≡ Ok after) (sym len) step.2 in
-    let r = complete wss (next_line n) next step.0 after more moved.2 h.1 each.1 rest (omega (arith, len)) in
+    let r = complete limits are wss (next_line n) next step.0 after more moved.2 h.1 each.1 rest (omega (arith, len)) in
     record {
       q = r.q;
-      is = rw (statement_again (w ∷ ws) s h.0 each.0, put) r.is;
+      is = rw (statement_again limits are (w ∷ ws) s h.0 each.0, put) r.is;
       statements = r.statements ∙ append_assoc p.statements (s ∷ []) more;
       alike = r.alike;
     }
@@ -241,29 +242,29 @@ alike_none [] al = refl
 alike_none (o ∷ b) al = let h = al.same in absurd cc
 
 -- what is read of a text is spelled by it
-pub text_takes : (text : List ℕ) (s : List Statement) → script_of text ≡ Ok s → Spells text s
+pub text_takes : (limits : Limits) (text : List ℕ) (s : List Statement) → script_of limits text ≡ Ok s → Spells limits text s
 unfolding script_of
-text_takes text s e =
-    let f = finish_takes (lines_read 1 nothing_read (map words (lines text))) s e in
-    let r = sound (map words (lines text)) 1 nothing_read f.q [] (record { same = refl }) (omega arith) f.is in
+text_takes limits text s e =
+    let f = finish_takes (lines_read limits 1 nothing_read (map words (lines text))) s e in
+    let r = sound limits (map words (lines text)) 1 nothing_read f.q [] (record { same = refl }) (omega arith) f.is in
     let more_is : r.more ≡ s = sym r.statements ∙ f.statements in
     let none : r.after ≡ [] = alike_none r.after (subst (λ (b : List Open). Alike b r.after) f.blocks r.alike) in
     record {
       lines = subst (λ (l : List Statement). AllZip SpellsStatement (statement_lines text) l) more_is r.spelled;
       script = record {
-        each = subst (λ (l : List Statement). AllByRecursion IsStatement l) more_is r.each;
+        each = subst (λ (l : List Statement). AllByRecursion (IsStatement limits) l) more_is r.each;
         blocks = subst (λ (l : List Statement). nested 0 [] l ≡ Ok []) more_is (r.nests ∙ ap (λ (b : List Open). given b) none);
         some = f.some;
-        few = subst (λ (l : List Statement). length l ≤ MAX_STATEMENTS) f.statements r.few;
+        few = subst (λ (l : List Statement). length l ≤ 1024) f.statements r.few;
       };
     }
 
 -- what a text spells is read of it
-pub text_again : (text : List ℕ) (s : List Statement) → Spells text s → script_of text ≡ Ok s
+pub text_again : (limits : Limits) → AreLimits limits → (text : List ℕ) (s : List Statement) → Spells limits text s → script_of limits text ≡ Ok s
 unfolding script_of
-text_again text s h =
-    let few : 0 + length s ≤ MAX_STATEMENTS = let most = h.script.few in omega arith in
-    let r = complete (map words (lines text)) 1 nothing_read [] [] s (record { same = refl }) h.lines h.script.each h.script.blocks few in
+text_again limits are text s h =
+    let few : 0 + length s ≤ 1024 = let most = h.script.few in omega arith in
+    let r = complete limits are (map words (lines text)) 1 nothing_read [] [] s (record { same = refl }) h.lines h.script.each h.script.blocks few in
     rw (r.is, r.statements) (finished_again r.q.blocks s r.alike h.script.some)
 
 -- ---- a loop over the lines
@@ -275,29 +276,29 @@ split_here : (rest : List ℕ) (end : ℕ) → end ≡ position_or_len is_newlin
 split_here rest end e lt = rw e (slice_split_first is_newline rest 0 (omega arith))
 
 -- a line that was read well
-pub goes_on : (n end : ℕ) (p q : Progress) (rest here after : List ℕ) → end ≡ position_or_len is_newline rest → end < length rest → here ≡ take end rest → after ≡ drop (end + 1) rest → then_at n (line_read n p (words here)) done ≡ Ok q → lines_read n p (map words (lines rest)) ≡ lines_read (next_line n) q (map words (lines after))
-goes_on n end p q rest here after e lt h a r =
+pub goes_on : (limits : Limits) (n end : ℕ) (p q : Progress) (rest here after : List ℕ) → end ≡ position_or_len is_newline rest → end < length rest → here ≡ take end rest → after ≡ drop (end + 1) rest → then_at n (line_read limits n p (words here)) done ≡ Ok q → lines_read limits n p (map words (lines rest)) ≡ lines_read limits (next_line n) q (map words (lines after))
+goes_on limits n end p q rest here after e lt h a r =
     let cut : lines rest ≡ here ∷ lines after = rw (h, a) (split_here rest end e lt) in
-    ap (λ (l : List (List ℕ)). lines_read n p (map words l)) cut ∙ then_ok n (line_read n p (words here)) (λ q. lines_read (next_line n) q (map words (lines after))) q r
+    ap (λ (l : List (List ℕ)). lines_read limits n p (map words l)) cut ∙ then_ok n (line_read limits n p (words here)) (λ q. lines_read limits (next_line n) q (map words (lines after))) q r
 
 -- a line with a fault
-pub stops : (n end : ℕ) (p : Progress) (rest here : List ℕ) (f : ScriptError) → end ≡ position_or_len is_newline rest → end < length rest → here ≡ take end rest → Refuses f (then_at n (line_read n p (words here)) done) → Refuses f (lines_read n p (map words (lines rest)))
-stops n end p rest here f e lt h r =
+pub stops : (limits : Limits) (n end : ℕ) (p : Progress) (rest here : List ℕ) (f : ScriptError) → end ≡ position_or_len is_newline rest → end < length rest → here ≡ take end rest → Refuses f (then_at n (line_read limits n p (words here)) done) → Refuses f (lines_read limits n p (map words (lines rest)))
+stops limits n end p rest here f e lt h r =
     let after = drop (end + 1) rest in
     let cut : lines rest ≡ here ∷ lines after = rw h (split_here rest end e lt) in
-    subst (λ (l : List (List ℕ)). Refuses f (lines_read n p (map words l))) (sym cut) (then_refuses n (line_read n p (words here)) (λ q. lines_read (next_line n) q (map words (lines after))) f r)
+    subst (λ (l : List (List ℕ)). Refuses f (lines_read limits n p (map words l))) (sym cut) (then_refuses n (line_read limits n p (words here)) (λ q. lines_read limits (next_line n) q (map words (lines after))) f r)
 
 -- the last line
-pub last_line : (n end : ℕ) (p : Progress) (rest : List ℕ) → end ≡ position_or_len is_newline rest → length rest ≤ end → lines_read n p (map words (lines rest)) ≡ then_at n (line_read n p (words rest)) done
-last_line n end p rest e le =
+pub last_line : (limits : Limits) (n end : ℕ) (p : Progress) (rest : List ℕ) → end ≡ position_or_len is_newline rest → length rest ≤ end → lines_read limits n p (map words (lines rest)) ≡ then_at n (line_read limits n p (words rest)) done
+last_line limits n end p rest e le =
     let whole : lines rest ≡ rest ∷ [] = slice_split_none is_newline rest (λ k d lt. fails_before_first is_newline rest k d (omega arith)) in
-    ap (λ (l : List (List ℕ)). lines_read n p (map words l)) whole
+    ap (λ (l : List (List ℕ)). lines_read limits n p (map words l)) whole
 
 -- ---- a script that was made
 
-pub made_spelled : (text : List ℕ) (items : List Statement) (r : Result (List Statement) ScriptError) → MatchResult r (λ s. s ≡ items) (λ e. e ≡ error.Memory) → Spells text items → IfOk r (λ s. Spells text s)
-made_spelled text items (Ok s) e h = subst (λ (t : List Statement). Spells text t) (sym e) h
-made_spelled text items (Err d) e h = tt
+pub made_spelled : (limits : Limits) (text : List ℕ) (items : List Statement) (r : Result (List Statement) ScriptError) → MatchResult r (λ s. s ≡ items) (λ e. e ≡ error.Memory) → Spells limits text items → IfOk r (λ s. Spells limits text s)
+made_spelled limits text items (Ok s) e h = subst (λ (t : List Statement). Spells limits text t) (sym e) h
+made_spelled limits text items (Err d) e h = tt
 
 pub made_gives : (items : List Statement) (r : Result (List Statement) ScriptError) (read : Result (List Statement) ScriptError) → MatchResult r (λ s. s ≡ items) (λ e. e ≡ error.Memory) → read ≡ Ok items → Gives (λ (found : List Statement). found) r read
 made_gives items (Ok s) read e h = rw e h

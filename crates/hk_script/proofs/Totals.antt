@@ -1,5 +1,5 @@
 -- The sums of a script, up to a limit, and how many blocks are open at a place.
-use Rattle.std.proofs.Common.{◌≡◌, ℕ, suc, zero, ◌+◌, ◌-◌, ◌*◌, ◌<◌, ◌≤◌, min, max, false, List, [], ◌∷◌, ◌++◌, length, map, take, drop, get_or, Result, Ok, refl, sym, ap, ◌∙◌, subst, arith, inl, inr}
+use Rattle.std.proofs.Common.{◌≡◌, ◌^◌, ℕ, suc, zero, ◌+◌, ◌-◌, ◌*◌, ◌<◌, ◌≤◌, min, max, false, List, [], ◌∷◌, ◌++◌, length, map, take, drop, get_or, Result, Ok, refl, sym, ap, ◌∙◌, subst, arith, inl, inr}
 use Rattle.std.specs.Prelude.{reverse, nat_lt, nat_le}
 use Rattle.std.specs.List.{AllByRecursion}
 use Rattle.std.proofs.lemmas.Bool.{cases_lt}
@@ -10,10 +10,10 @@ use Rattle.hk_script.specs.declared.beyond.Beyond.{Beyond}
 use Rattle.hk_script.specs.declared.blocks.Open.{Open}
 use Rattle.hk_script.specs.declared.blocks.Part.{Part}
 use Rattle.hk_script.specs.declared.blocks.Part.TheVariants as part
-use Rattle.hk_script.specs.declared.costs.TheConstants.{LIMIT, MAX_COST}
+use Rattle.hk_script.specs.declared.costs.TheConstants.{LIMIT}
 use Rattle.hk_script.specs.declared.error.Fault.{Fault}
 use Rattle.hk_script.specs.declared.error.Fault.TheVariants as fault
-use Rattle.hk_script.specs.declared.statement.TheConstants.{MAX_DEPTH}
+use Rattle.hk_script.specs.declared.limits.Limits.{Limits}
 use Rattle.hk_script.specs.declared.statement.Statement.{Statement}
 use Rattle.hk_script.specs.declared.statement.Statement.TheVariants as statement
 use Rattle.hk_script.specs.Reading.{◌>>=◌}
@@ -77,32 +77,32 @@ two_same : (h k : ℕ) (bs cs : List Beyond) → h ≡ k → bs ≡ cs → (let 
 two_same h k bs cs e f = cc
 
 -- a step on sums up to the limit gives what a step on the sums gives, up to the limit
-pub front_capped : (w : ℕ) (s : Statement) (a : Ahead) → IsStatement s → at_most_limit (in_front w s (capped a)) ≡ capped (in_front w s a)
-front_capped w (statement.If t) a h = two_same _ _ _ _ (rw (nearest_capped a.blocks) (cap_chosen w a.here (nearest a.blocks).other (nearest a.blocks).after)) (outer_capped a.blocks)
-front_capped w (statement.Repeat n) a h = two_same _ _ _ _ (rw (nearest_capped a.blocks) (cap_turns n w a.here (nearest a.blocks).after h.0)) (outer_capped a.blocks)
-front_capped w statement.Else a h = two_same _ _ _ _ refl (rw (nearest_capped a.blocks, outer_capped a.blocks) refl)
-front_capped w statement.End a h = refl
-front_capped w (statement.Work n) a h = two_same _ _ _ _ (cap_sum w a.here) refl
-front_capped w (statement.Set v n) a h = two_same _ _ _ _ (cap_sum w a.here) refl
-front_capped w (statement.Copy v u) a h = two_same _ _ _ _ (cap_sum w a.here) refl
-front_capped w (statement.Add v u) a h = two_same _ _ _ _ (cap_sum w a.here) refl
-front_capped w (statement.Sub v u) a h = two_same _ _ _ _ (cap_sum w a.here) refl
-front_capped w (statement.Job v) a h = two_same _ _ _ _ (cap_sum w a.here) refl
-front_capped w (statement.Out v) a h = two_same _ _ _ _ (cap_sum w a.here) refl
-front_capped w (statement.Get v r f) a h = two_same _ _ _ _ (cap_sum w a.here) refl
-front_capped w (statement.Put r f v) a h = two_same _ _ _ _ (cap_sum w a.here) refl
-front_capped w (statement.Load d r f) a h = two_same _ _ _ _ (cap_sum w a.here) refl
-front_capped w (statement.Store r f t) a h = two_same _ _ _ _ (cap_sum w a.here) refl
-front_capped w (statement.Move d r) a h = two_same _ _ _ _ (cap_sum w a.here) refl
-front_capped w (statement.Clear d) a h = two_same _ _ _ _ (cap_sum w a.here) refl
-front_capped w (statement.New d s) a h = two_same _ _ _ _ (cap_sum w a.here) refl
+pub front_capped : (limits : Limits) (w : ℕ) (s : Statement) (a : Ahead) → IsStatement limits s → at_most_limit (in_front w s (capped a)) ≡ capped (in_front w s a)
+front_capped limits w (statement.If t) a h = two_same _ _ _ _ (rw (nearest_capped a.blocks) (cap_chosen w a.here (nearest a.blocks).other (nearest a.blocks).after)) (outer_capped a.blocks)
+front_capped limits w (statement.Repeat n) a h = two_same _ _ _ _ (rw (nearest_capped a.blocks) (cap_turns n w a.here (nearest a.blocks).after h.0)) (outer_capped a.blocks)
+front_capped limits w statement.Else a h = two_same _ _ _ _ refl (rw (nearest_capped a.blocks, outer_capped a.blocks) refl)
+front_capped limits w statement.End a h = refl
+front_capped limits w (statement.Work n) a h = two_same _ _ _ _ (cap_sum w a.here) refl
+front_capped limits w (statement.Set v n) a h = two_same _ _ _ _ (cap_sum w a.here) refl
+front_capped limits w (statement.Copy v u) a h = two_same _ _ _ _ (cap_sum w a.here) refl
+front_capped limits w (statement.Add v u) a h = two_same _ _ _ _ (cap_sum w a.here) refl
+front_capped limits w (statement.Sub v u) a h = two_same _ _ _ _ (cap_sum w a.here) refl
+front_capped limits w (statement.Job v) a h = two_same _ _ _ _ (cap_sum w a.here) refl
+front_capped limits w (statement.Out v) a h = two_same _ _ _ _ (cap_sum w a.here) refl
+front_capped limits w (statement.Get v r f) a h = two_same _ _ _ _ (cap_sum w a.here) refl
+front_capped limits w (statement.Put r f v) a h = two_same _ _ _ _ (cap_sum w a.here) refl
+front_capped limits w (statement.Load d r f) a h = two_same _ _ _ _ (cap_sum w a.here) refl
+front_capped limits w (statement.Store r f t) a h = two_same _ _ _ _ (cap_sum w a.here) refl
+front_capped limits w (statement.Move d r) a h = two_same _ _ _ _ (cap_sum w a.here) refl
+front_capped limits w (statement.Clear d) a h = two_same _ _ _ _ (cap_sum w a.here) refl
+front_capped limits w (statement.New d s) a h = two_same _ _ _ _ (cap_sum w a.here) refl
 
 -- ---- the open blocks at a place
 
 begun_small : (p : Part) (m : ℕ) (o after : List Open) → begun p m o ≡ Ok after → (length after ≡ length o + 1) × (length after ≤ 16)
 begun_small p m o after e =
-    let q = passed_or (nat_lt (length o) MAX_DEPTH) fault.Deep (open_block p m ∷ o) after e in
-    let few : length o < MAX_DEPTH = grind (arith, nat_tests, q.0) in
+    let q = passed_or (nat_lt (length o) 16) fault.Deep (open_block p m ∷ o) after e in
+    let few : length o < 16 = grind (arith, nat_tests, q.0) in
     let len : length (open_block p m ∷ o) ≡ length after = ap length q.1 in
     (omega (arith, len), omega (arith, len))
 
@@ -195,7 +195,7 @@ at_place p o (x ∷ s) (suc i) le e few =
     record { blocks = r.blocks; before = ap (λ (q : Result (List Open) Fault). q >>= λ after. nested (p + 1) after (take i s)) step.1 ∙ r.before; follows = rw same r.follows; few = r.few }
 
 -- at most 16 blocks lie ahead
-pub few_ahead : (weight : Statement → ℕ) (s : List Statement) (i : ℕ) → IsScript s → i ≤ length s → length (ahead weight (drop i s)).blocks ≤ 16
+pub few_ahead : {limits : Limits} (weight : Statement → ℕ) (s : List Statement) (i : ℕ) → IsScript limits s → i ≤ length s → length (ahead weight (drop i s)).blocks ≤ 16
 few_ahead weight s i h le =
     let r = at_place 0 [] s i le h.blocks (omega arith) in
     let n = count_ahead weight (0 + i) r.blocks (drop i s) r.follows in
@@ -209,17 +209,17 @@ pub ahead_more : (weight : Statement → ℕ) (s : List Statement) (i : ℕ) (d 
 ahead_more weight s i d lt = ap (ahead weight) (drop_more s i d lt)
 
 -- a statement at a place is one of the script
-pub each_at : (s : List Statement) (i : ℕ) (d : Statement) → AllByRecursion IsStatement s → i < length s → IsStatement (get_or s i d)
-each_at [] i d h lt = absurd (omega arith)
-each_at (x ∷ s) zero d h lt = h.0
-each_at (x ∷ s) (suc i) d h lt = each_at s i d h.1 (omega arith)
+pub each_at : (limits : Limits) (s : List Statement) (i : ℕ) (d : Statement) → AllByRecursion (IsStatement limits) s → i < length s → IsStatement limits (get_or s i d)
+each_at limits [] i d h lt = absurd (omega arith)
+each_at limits (x ∷ s) zero d h lt = h.0
+each_at limits (x ∷ s) (suc i) d h lt = each_at limits s i d h.1 (omega arith)
 
 -- the loop's step
-pub step_back : (weight : Statement → ℕ) (s : List Statement) (i : ℕ) (d : Statement) (old new : Ahead) → IsScript s → i < length s → old ≡ capped (ahead weight (drop (i + 1) s)) → new ≡ at_most_limit (in_front (weight (get_or s i d)) (get_or s i d) old) → new ≡ capped (ahead weight (drop i s))
-step_back weight s i d old new h lt e f =
+pub step_back : {limits : Limits} (weight : Statement → ℕ) (s : List Statement) (i : ℕ) (d : Statement) (old new : Ahead) → IsScript limits s → i < length s → old ≡ capped (ahead weight (drop (i + 1) s)) → new ≡ at_most_limit (in_front (weight (get_or s i d)) (get_or s i d) old) → new ≡ capped (ahead weight (drop i s))
+step_back {limits} weight s i d old new h lt e f =
     let x = get_or s i d in
     let a = ahead weight (drop (i + 1) s) in
-    f ∙ ap (λ (t : Ahead). at_most_limit (in_front (weight x) x t)) e ∙ front_capped (weight x) x a (each_at s i d h.each lt) ∙ ap capped (sym (ahead_more weight s i d lt))
+    f ∙ ap (λ (t : Ahead). at_most_limit (in_front (weight x) x t)) e ∙ front_capped limits (weight x) x a (each_at limits s i d h.each lt) ∙ ap capped (sym (ahead_more weight s i d lt))
 
 pub start_back : (weight : Statement → ℕ) (s : List Statement) (n : ℕ) → n ≡ length s → made 0 [] ≡ capped (ahead weight (drop n s))
 start_back weight s n e = let none : drop n s ≡ [] = drop_all n s (omega arith) in sym (ap (λ (t : List Statement). capped (ahead weight t)) none)
@@ -229,7 +229,7 @@ room_front w statement.End a all few = omega arith
 room_front w x a all few = few
 
 -- there is room for the statement at a place
-pub room_at : (weight : Statement → ℕ) (s : List Statement) (i : ℕ) (d : Statement) (old : Ahead) → IsScript s → i < length s → old ≡ capped (ahead weight (drop (i + 1) s)) → length old.blocks ≤ room_of (get_or s i d)
+pub room_at : {limits : Limits} (weight : Statement → ℕ) (s : List Statement) (i : ℕ) (d : Statement) (old : Ahead) → IsScript limits s → i < length s → old ≡ capped (ahead weight (drop (i + 1) s)) → length old.blocks ≤ room_of (get_or s i d)
 room_at weight s i d old h lt e =
     let x = get_or s i d in
     let a = ahead weight (drop (i + 1) s) in
@@ -246,7 +246,7 @@ told_capped n =
       | inl lt ↦ (let same : cap n ≡ n = omega arith in ap told same)
       | inr le ↦ (
           let top : cap n ≡ LIMIT = omega arith in
-          let over : nat_le n MAX_COST ≡ false = grind (arith, nat_tests) in
+          let over : nat_le n (2 ^ 24) ≡ false = grind (arith, nat_tests) in
           rw (top, over) refl)
     ]
 
@@ -259,7 +259,7 @@ pub largest_more : (s : List Statement) (i : ℕ) (d : Statement) → i < length
 largest_more s i d lt = ap largest_of (take_more s i d lt) ∙ largest_push (take i s) (get_or s i d)
 
 -- the same, of the statement before a place
-module _ (weight : Statement → ℕ) (s : List Statement) (place : ℕ) (x : Statement) (old : Ahead) (h : IsScript s) (some : 0 < place) (within : place ≤ length s) (item : x ≡ get_or s (place - 1) x) (e : old ≡ capped (ahead weight (drop place s))) where
+module _ {limits : Limits} (weight : Statement → ℕ) (s : List Statement) (place : ℕ) (x : Statement) (old : Ahead) (h : IsScript limits s) (some : 0 < place) (within : place ≤ length s) (item : x ≡ get_or s (place - 1) x) (e : old ≡ capped (ahead weight (drop place s))) where
   shifted : old ≡ capped (ahead weight (drop ((place - 1) + 1) s))
   shifted = let same : place ≡ (place - 1) + 1 = omega arith in subst (λ (n : ℕ). old ≡ capped (ahead weight (drop n s))) same e
 

@@ -1,5 +1,5 @@
 -- The arguments that a line is printed with.
-use Rattle.std.specs.Prelude.{◌<◌, [], ◌∷◌}
+use Rattle.std.specs.Prelude.{[], ◌∷◌}
 use Rattle.hk_script.specs.declared.printing.Argument.{Argument}
 use Rattle.hk_script.specs.declared.printing.Argument.TheVariants as argument
 use Rattle.hk_script.specs.Spelling.{Piece, Exactly, Numeral, variable, register}
@@ -9,10 +9,3 @@ piece_of (argument.Variable v) = variable v
 piece_of (argument.Register r) = register r
 piece_of (argument.Number n) = Numeral n
 piece_of (argument.Sign b) = Exactly (b ∷ [])
-
--- a name has one digit
-abbrev pub IsArgument : Argument → Type 0
-IsArgument (argument.Variable v) = v < 10
-IsArgument (argument.Register r) = r < 10
-IsArgument (argument.Number n) = Unit {0}
-IsArgument (argument.Sign b) = Unit {0}

@@ -6,7 +6,7 @@ use Rattle.hk_script.specs.declared.blocks.Part.{Part}
 use Rattle.hk_script.specs.declared.blocks.Part.TheVariants as part
 use Rattle.hk_script.specs.declared.error.Fault.{Fault}
 use Rattle.hk_script.specs.declared.error.Fault.TheVariants as fault
-use Rattle.hk_script.specs.declared.statement.TheConstants.{MAX_DEPTH, MAX_STATEMENTS}
+use Rattle.hk_script.specs.declared.limits.Limits.{Limits}
 use Rattle.hk_script.specs.declared.statement.Statement.{Statement}
 use Rattle.hk_script.specs.declared.statement.Statement.TheVariants as statement
 use Rattle.hk_script.specs.Reading.{◌>>=◌}
@@ -18,7 +18,7 @@ open_block p m = record { part = p; mark = m }
 
 -- a block begins, inside at most 15 others
 abbrev pub begun : Part → ℕ → List Open → Result (List Open) Fault
-begun p mark blocks = if nat_lt (length blocks) MAX_DEPTH then Ok (open_block p mark ∷ blocks) else Err fault.Deep
+begun p mark blocks = if nat_lt (length blocks) 16 then Ok (open_block p mark ∷ blocks) else Err fault.Deep
 
 -- an `else` parts an `if` that has none
 abbrev pub parted_by : Part → ℕ → List Open → Result (List Open) Fault
@@ -48,9 +48,9 @@ abbrev pub nested : ℕ → List Open → List Statement → Result (List Open) 
 nested place blocks [] = Ok blocks
 nested place blocks (s ∷ rest) = nest place blocks s >>= λ after. nested (place + 1) after rest
 
--- a script: 1 to 1,024 statements whose arguments are in range, and whose blocks nest and are all ended
-pub record IsScript (s : List Statement) : Type 0 where
-  pub each : AllByRecursion IsStatement s
+-- a script of these limits: 1 to 1,024 statements whose arguments are in range, and whose blocks nest and are all ended
+pub record IsScript (limits : Limits) (s : List Statement) : Type 0 where
+  pub each : AllByRecursion (IsStatement limits) s
   pub blocks : nested 0 [] s ≡ Ok []
   pub some : 0 < length s
-  pub few : length s ≤ MAX_STATEMENTS
+  pub few : length s ≤ 1024

@@ -1,14 +1,16 @@
 -- The greatest sum over the ways through a script.
-use Rattle.std.specs.Prelude.{ℕ, ◌+◌, ◌*◌, max, List, [], ◌∷◌, Option, Some, None, nat_le, if◌then◌else◌}
+use Rattle.std.specs.Prelude.{ℕ, ◌+◌, ◌*◌, ◌^◌, max, List, [], ◌∷◌, Option, Some, None, nat_le, if◌then◌else◌}
+use Rattle.hk_words.specs.Bounds.{places_of}
 use Rattle.hk_words.specs.Shape.{size}
-use Rattle.hk_script.specs.declared.costs.TheConstants.{MAX_COST}
+use Rattle.hk_words.specs.declared.call.Call.TheVariants as call
 use Rattle.hk_script.specs.declared.costs.Measure.{Measure}
 use Rattle.hk_script.specs.declared.costs.Measure.TheVariants as measure
 use Rattle.hk_script.specs.declared.beyond.Beyond.{Beyond}
 use Rattle.hk_script.specs.declared.statement.Statement.{Statement}
 use Rattle.hk_script.specs.declared.statement.Statement.TheVariants as statement
 
--- the ticks of a statement; those of a `repeat` are the ticks of one test
+-- the ticks of a statement: a call on the heap takes those of its places, whichever value a put writes, and a `repeat`
+-- those of one test
 abbrev pub ticks_of : Statement → ℕ
 ticks_of (statement.Work n) = n
 ticks_of (statement.Set v n) = 1
@@ -17,13 +19,13 @@ ticks_of (statement.Add v u) = 1
 ticks_of (statement.Sub v u) = 1
 ticks_of (statement.Job v) = 1
 ticks_of (statement.Out v) = 1
-ticks_of (statement.Get v reg field) = 3
-ticks_of (statement.Put reg field v) = 3
-ticks_of (statement.Load dest reg field) = 10
-ticks_of (statement.Store reg field from) = 7
-ticks_of (statement.Move dest from) = 3
-ticks_of (statement.Clear dest) = 1
-ticks_of (statement.New dest shape) = 7
+ticks_of (statement.Get v reg field) = places_of (call.Get reg field)
+ticks_of (statement.Put reg field v) = places_of (call.Put reg field 0)
+ticks_of (statement.Load dest reg field) = places_of (call.Load dest reg field)
+ticks_of (statement.Store reg field from) = places_of (call.Store reg field from)
+ticks_of (statement.Move dest from) = places_of (call.Move dest from)
+ticks_of (statement.Clear dest) = places_of (call.Clear dest)
+ticks_of (statement.New dest shape) = places_of (call.New dest shape)
 ticks_of (statement.If t) = 1
 ticks_of statement.Else = 0
 ticks_of (statement.Repeat n) = 1
@@ -67,9 +69,9 @@ abbrev pub ahead : (Statement → ℕ) → List Statement → Ahead
 ahead weight [] = record { here = 0; blocks = [] }
 ahead weight (s ∷ rest) = in_front (weight s) s (ahead weight rest)
 
--- the number, where it is not too large to be told
+-- the number, where it is at most 16,777,216
 abbrev pub told : ℕ → Option ℕ
-told n = if nat_le n MAX_COST then Some n else None
+told n = if nat_le n (2 ^ 24) then Some n else None
 
 -- what is summed
 abbrev pub weight_of : Measure → Statement → ℕ

@@ -1,3 +1,4 @@
+pub mod Limits
 pub mod Lex
 pub mod Shapes
 pub mod Reading
@@ -15,3 +16,4 @@ pub mod Steps
 pub mod Levels
 pub mod Walks
 pub mod Runs
+pub mod Needs

@@ -1,5 +1,6 @@
 -- What a walk takes over the replies that it has.
 use Rattle.std.specs.Prelude.{ℕ, ◌+◌, List, [], ◌∷◌, Option, Some, None, IsSomeAnd}
+use Rattle.hk_words.specs.Bounds.{places_of}
 use Rattle.hk_words.specs.Shape.{size}
 use Rattle.hk_words.specs.declared.call.Call.{Call}
 use Rattle.hk_words.specs.declared.call.Call.TheVariants as call
@@ -10,24 +11,12 @@ use Rattle.hk_script.specs.declared.walk.Need.TheVariants as need
 use Rattle.hk_script.specs.declared.walk.Walk.{Walk}
 use Rattle.hk_script.specs.Walks.{need_of, walk_after, Answers}
 
--- the ticks of a call on the heap
-abbrev pub call_ticks : Call → ℕ
-call_ticks (call.Get reg field) = 3
-call_ticks (call.Put reg field value) = 3
-call_ticks (call.Load dest reg field) = 10
-call_ticks (call.Store reg field from) = 7
-call_ticks (call.Move dest from) = 3
-call_ticks (call.Clear dest) = 1
-call_ticks (call.New dest shape) = 7
-call_ticks (call.Same a b) = 1
-call_ticks (call.IsNull reg) = 1
-
--- the ticks of a need
+-- the ticks of a need: a call on the heap takes those of its places, and a question one
 abbrev pub need_ticks : Need → ℕ
 need_ticks (need.Work n) = n
 need_ticks need.Local = 1
 need_ticks (need.Out n) = 1
-need_ticks (need.Heap c) = call_ticks c
+need_ticks (need.Heap c) = places_of c
 need_ticks (need.Ask c) = 1
 
 -- the words that a call allocates

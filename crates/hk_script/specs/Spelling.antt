@@ -1,11 +1,10 @@
 -- The grammar: which words spell a statement, and which texts spell a script.
 use Rattle.std.specs.Prelude.{◌≡◌, ℕ, ◌+◌, ◌^◌, ◌<◌, ◌≤◌, List, [], ◌∷◌, length, codes}
+use Rattle.std.specs.Fmt.{decimal}
 use Rattle.std.specs.List.{AllZip}
 use Rattle.std.specs.Str.Parse.{IsNumeral, digits_value}
-use Rattle.hk_words.specs.declared.geometry.TheConstants.{REGISTERS}
-use Rattle.hk_words.specs.declared.shape.TheConstants.{MAX_FIELDS}
-use Rattle.hk_script.specs.declared.lex.TheConstants.{MAX_DIGITS}
-use Rattle.hk_script.specs.declared.statement.TheConstants.{VARIABLES, MAX_COUNT}
+use Rattle.hk_words.specs.declared.shape.Shape.{Shape}
+use Rattle.hk_script.specs.declared.limits.Limits.{Limits}
 use Rattle.hk_script.specs.declared.statement.Statement.{Statement}
 use Rattle.hk_script.specs.declared.statement.Statement.TheVariants as statement
 use Rattle.hk_script.specs.declared.statement.Test.{Test}
@@ -16,13 +15,13 @@ pub data Piece : Type 0 where
   Exactly : List ℕ → Piece
   Numeral : ℕ → Piece
 
--- the name of a variable: v and its digit
+-- the name of a variable: v and its number without leading zeros
 abbrev pub variable : ℕ → Piece
-variable v = Exactly (118 ∷ (48 + v) ∷ [])
+variable v = Exactly (118 ∷ decimal v)
 
--- the name of a register: r and its digit
+-- the name of a register: r and its number without leading zeros
 abbrev pub register : ℕ → Piece
-register r = Exactly (114 ∷ (48 + r) ∷ [])
+register r = Exactly (114 ∷ decimal r)
 
 -- the words of an `if`
 abbrev pub test_pieces : Test → List Piece
@@ -55,7 +54,7 @@ pieces statement.End = Exactly (codes "end") ∷ []
 -- a word spells a piece; a numeral is 1 to 20 decimal digits, and leading zeros are allowed
 abbrev pub SpellsPiece : List ℕ → Piece → Type 0
 SpellsPiece word (Exactly name) = word ≡ name
-SpellsPiece word (Numeral n) = IsNumeral 10 word × (length word ≤ MAX_DIGITS) × (digits_value 10 word ≡ n)
+SpellsPiece word (Numeral n) = IsNumeral 10 word × (length word ≤ 20) × (digits_value 10 word ≡ n)
 
 -- words spell a statement: each word its piece
 abbrev pub SpellsStatement : List (List ℕ) → Statement → Type 0
@@ -63,44 +62,49 @@ SpellsStatement ws s = AllZip SpellsPiece ws (pieces s)
 
 -- the ranges of the arguments
 abbrev pub IsVariable : ℕ → Type 0
-IsVariable v = v < VARIABLES
+IsVariable v = v < 8
 
-abbrev pub IsRegister : ℕ → Type 0
-IsRegister reg = reg < REGISTERS
+abbrev pub IsRegister : Limits → ℕ → Type 0
+IsRegister limits reg = reg < limits.registers
 
 -- a register that may be written: any but register 0
-abbrev pub IsTarget : ℕ → Type 0
-IsTarget reg = (0 < reg) × (reg < REGISTERS)
+abbrev pub IsTarget : Limits → ℕ → Type 0
+IsTarget limits reg = (0 < reg) × (reg < limits.registers)
 
-abbrev pub IsField : ℕ → Type 0
-IsField field = field < MAX_FIELDS
+abbrev pub IsField : Limits → ℕ → Type 0
+IsField limits field = field < limits.fields
 
+-- the shape of an object that has no more fields than it may have
+abbrev pub IsSmall : Limits → Shape → Type 0
+IsSmall limits shape = shape.refs + shape.nums ≤ limits.fields
+
+-- a number of ticks or of turns
 abbrev pub IsCount : ℕ → Type 0
-IsCount n = (1 ≤ n) × (n ≤ MAX_COUNT)
+IsCount n = (1 ≤ n) × (n ≤ 65535)
 
-abbrev pub IsTest : Test → Type 0
-IsTest (test.Less left right) = IsVariable left × IsVariable right
-IsTest (test.Equal left right) = IsVariable left × IsVariable right
-IsTest (test.Null reg) = IsRegister reg
-IsTest (test.Same left right) = IsRegister left × IsRegister right
+abbrev pub IsTest : Limits → Test → Type 0
+IsTest limits (test.Less left right) = IsVariable left × IsVariable right
+IsTest limits (test.Equal left right) = IsVariable left × IsVariable right
+IsTest limits (test.Null reg) = IsRegister limits reg
+IsTest limits (test.Same left right) = IsRegister limits left × IsRegister limits right
 
 -- each argument of a statement is in its range
-abbrev pub IsStatement : Statement → Type 0
-IsStatement (statement.Work ticks) = IsCount ticks
-IsStatement (statement.Set v value) = IsVariable v × (value < 2 ^ 64)
-IsStatement (statement.Copy v other) = IsVariable v × IsVariable other
-IsStatement (statement.Add v other) = IsVariable v × IsVariable other
-IsStatement (statement.Sub v other) = IsVariable v × IsVariable other
-IsStatement (statement.Job v) = IsVariable v
-IsStatement (statement.Out v) = IsVariable v
-IsStatement (statement.Get v reg field) = IsVariable v × IsRegister reg × IsField field
-IsStatement (statement.Put reg field v) = IsRegister reg × IsField field × IsVariable v
-IsStatement (statement.Load dest reg field) = IsTarget dest × IsRegister reg × IsField field
-IsStatement (statement.Store reg field from) = IsRegister reg × IsField field × IsRegister from
-IsStatement (statement.Move dest from) = IsTarget dest × IsRegister from
-IsStatement (statement.Clear dest) = IsTarget dest
-IsStatement (statement.New dest shape) = IsTarget dest
-IsStatement (statement.If t) = IsTest t
-IsStatement statement.Else = Unit {0}
-IsStatement (statement.Repeat count) = IsCount count
-IsStatement statement.End = Unit {0}
+abbrev pub IsStatement : Limits → Statement → Type 0
+IsStatement limits (statement.Work ticks) = IsCount ticks
+IsStatement limits (statement.Set v value) = IsVariable v × (value < 2 ^ 64)
+IsStatement limits (statement.Copy v other) = IsVariable v × IsVariable other
+IsStatement limits (statement.Add v other) = IsVariable v × IsVariable other
+IsStatement limits (statement.Sub v other) = IsVariable v × IsVariable other
+IsStatement limits (statement.Job v) = IsVariable v
+IsStatement limits (statement.Out v) = IsVariable v
+IsStatement limits (statement.Get v reg field) = IsVariable v × IsRegister limits reg × IsField limits field
+IsStatement limits (statement.Put reg field v) = IsRegister limits reg × IsField limits field × IsVariable v
+IsStatement limits (statement.Load dest reg field) = IsTarget limits dest × IsRegister limits reg × IsField limits field
+IsStatement limits (statement.Store reg field from) = IsRegister limits reg × IsField limits field × IsRegister limits from
+IsStatement limits (statement.Move dest from) = IsTarget limits dest × IsRegister limits from
+IsStatement limits (statement.Clear dest) = IsTarget limits dest
+IsStatement limits (statement.New dest shape) = IsTarget limits dest × IsSmall limits shape
+IsStatement limits (statement.If t) = IsTest limits t
+IsStatement limits statement.Else = Unit {0}
+IsStatement limits (statement.Repeat count) = IsCount count
+IsStatement limits statement.End = Unit {0}

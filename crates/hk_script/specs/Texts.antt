@@ -6,7 +6,7 @@ use Rattle.hk_script.specs.declared.error.Fault.{Fault}
 use Rattle.hk_script.specs.declared.error.Fault.TheVariants as fault
 use Rattle.hk_script.specs.declared.error.ScriptError.{ScriptError}
 use Rattle.hk_script.specs.declared.error.ScriptError.TheVariants as error
-use Rattle.hk_script.specs.declared.statement.TheConstants.{MAX_STATEMENTS}
+use Rattle.hk_script.specs.declared.limits.Limits.{Limits}
 use Rattle.hk_script.specs.declared.statement.Statement.{Statement}
 use Rattle.hk_script.specs.Lex.{words, lines}
 use Rattle.hk_script.specs.Reading.{◌>>=◌, statement_of}
@@ -22,10 +22,10 @@ has_words (w ∷ ws) = true
 abbrev pub statement_lines : List ℕ → List (List (List ℕ))
 statement_lines text = filter has_words (map words (lines text))
 
--- a text spells a script: each line with words spells its statement
-pub record Spells (text : List ℕ) (s : List Statement) : Type 0 where
+-- a text spells a script of these limits: each line with words spells its statement
+pub record Spells (limits : Limits) (text : List ℕ) (s : List Statement) : Type 0 where
   pub lines : AllZip SpellsStatement (statement_lines text) s
-  pub script : IsScript s
+  pub script : IsScript limits s
 
 -- what was read so far: the statements, and the open blocks with their lines
 pub record Progress : Type 0 where
@@ -38,15 +38,15 @@ nothing_read = record { statements = []; blocks = [] }
 
 -- one more statement: its blocks come first, and then the number of statements
 abbrev pub added : Progress → Statement → List Open → Result Progress Fault
-added p s blocks = if nat_lt (length p.statements) MAX_STATEMENTS then Ok (record { statements = p.statements ++ s ∷ []; blocks = blocks }) else Err fault.Long
+added p s blocks = if nat_lt (length p.statements) 1024 then Ok (record { statements = p.statements ++ s ∷ []; blocks = blocks }) else Err fault.Long
 
 unfoldable pub placed : ℕ → Progress → Statement → Result Progress Fault
 placed line p s = nest line p.blocks s >>= added p s
 
 -- a line of these words was read
-abbrev pub line_read : ℕ → Progress → List (List ℕ) → Result Progress Fault
-line_read line p [] = Ok p
-line_read line p (w ∷ ws) = statement_of (w ∷ ws) >>= placed line p
+abbrev pub line_read : Limits → ℕ → Progress → List (List ℕ) → Result Progress Fault
+line_read limits line p [] = Ok p
+line_read limits line p (w ∷ ws) = statement_of limits (w ∷ ws) >>= placed line p
 
 -- a fault in this line
 abbrev pub fault_at : ℕ → Fault → ScriptError
@@ -73,9 +73,9 @@ abbrev pub next_line : ℕ → ℕ
 next_line line = min (line + 1) (2 ^ 32 - 1)
 
 -- lines of these words were read, of which the first has this number, up to the first fault
-abbrev pub lines_read : ℕ → Progress → List (List (List ℕ)) → Result Progress ScriptError
-lines_read line p [] = Ok p
-lines_read line p (ws ∷ more) = then_at line (line_read line p ws) (λ q. lines_read (next_line line) q more)
+abbrev pub lines_read : Limits → ℕ → Progress → List (List (List ℕ)) → Result Progress ScriptError
+lines_read limits line p [] = Ok p
+lines_read limits line p (ws ∷ more) = then_at line (line_read limits line p ws) (λ q. lines_read limits (next_line line) q more)
 
 -- the end of the text: a block that is open is looked at first, the innermost one, and then whether there is a statement
 abbrev pub finished : List Open → List Statement → Result (List Statement) ScriptError
@@ -87,9 +87,9 @@ abbrev pub finish : Result Progress ScriptError → Result (List Statement) Scri
 finish (Ok p) = finished p.blocks p.statements
 finish (Err e) = Err e
 
--- the script of a text, or the first reason why there is none
-unfoldable pub script_of : List ℕ → Result (List Statement) ScriptError
-script_of text = finish (lines_read 1 nothing_read (map words (lines text)))
+-- the script of a text, by these limits, or the first reason why there is none
+unfoldable pub script_of : Limits → List ℕ → Result (List Statement) ScriptError
+script_of limits text = finish (lines_read limits 1 nothing_read (map words (lines text)))
 
 -- what a call returned is the result of reading, unless memory ran out
 abbrev pub Refuses : {B : Type 0} → ScriptError → Result B ScriptError → Type 0

@@ -7,29 +7,40 @@ ghost use Rattle.hk_script.specs.declared.costs.TheConstants.{LIMIT};
 use crate::beyond::Beyonds;
 use crate::script::Script;
 use crate::statement::Statement;
+use hk_words::Call;
 
 /// The greatest cost that is told: 2^24.
 pub const MAX_COST: u64 = 16_777_216;
 
-/// The ticks of a statement. Those of a `repeat` are the ticks of one test.
+/// The ticks of a statement: a call on the heap takes those of its places, and a `repeat` those of one test.
 fn ticks(statement: &Statement) -> u64
     ensures value { result ≡ ticks_of statement.now }
     ensures small { result ≤ 65535 }
 {
-    match statement {
-        Statement::Work { ticks } => u64::from(*ticks),
+    match *statement {
+        Statement::Work { ticks } => u64::from(ticks),
         Statement::Set { .. }
         | Statement::Copy { .. }
         | Statement::Add { .. }
         | Statement::Sub { .. }
         | Statement::Job { .. }
         | Statement::Out { .. }
-        | Statement::Clear { .. }
         | Statement::If { .. }
         | Statement::Repeat { .. } => 1,
-        Statement::Get { .. } | Statement::Put { .. } | Statement::Move { .. } => 3,
-        Statement::Load { .. } => 10,
-        Statement::Store { .. } | Statement::New { .. } => 7,
+        Statement::Get { reg, field, .. } => u64::from(Call::Get { reg, field }.places()),
+        Statement::Put { reg, field, .. } => {
+            let value = 0;
+            u64::from(Call::Put { reg, field, value }.places())
+        }
+        Statement::Load { dest, reg, field } => {
+            u64::from(Call::Load { dest, reg, field }.places())
+        }
+        Statement::Store { reg, field, from } => {
+            u64::from(Call::Store { reg, field, from }.places())
+        }
+        Statement::Move { dest, from } => u64::from(Call::Move { dest, from }.places()),
+        Statement::Clear { dest } => u64::from(Call::Clear { dest }.places()),
+        Statement::New { dest, shape } => u64::from(Call::New { dest, shape }.places()),
         Statement::Else | Statement::End => 0,
     }
 }

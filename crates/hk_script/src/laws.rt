@@ -1,28 +1,43 @@
-//! What holds of all texts and scripts.
+//! What holds of all texts and scripts. These functions take no time; their clauses are the laws.
 
-ghost use Rattle.std.specs.Prelude.{◌≡◌, ℕ, ◌≤◌, List, Ok};
+ghost use Rattle.std.specs.Prelude.{◌≡◌, ℕ, ◌≤◌, List, Ok, IfSome};
 ghost use Rattle.hk_words.specs.declared.call.Reply.{Reply};
-ghost use Rattle.hk_script.specs.Cost.{greatest_ticks, greatest_words};
-ghost use Rattle.hk_script.specs.Walks.{started};
-ghost use Rattle.hk_script.specs.Runs.{AreReplies, taken, need_ticks, need_words};
+ghost use Rattle.hk_script.specs.declared.limits.Limits.{Limits};
 ghost use Rattle.hk_script.specs.declared.statement.Statement.{Statement};
+ghost use Rattle.hk_script.specs.declared.walk.Walk.{Walk};
+ghost use Rattle.hk_script.specs.Limits.{AreLimits, AreWithin};
 ghost use Rattle.hk_script.specs.Blocks.{IsScript};
 ghost use Rattle.hk_script.specs.Texts.{Spells, script_of};
 ghost use Rattle.hk_script.specs.Printing.{text_of};
+ghost use Rattle.hk_script.specs.Cost.{greatest_ticks, greatest_words};
+ghost use Rattle.hk_script.specs.Walks.{started, need_of};
+ghost use Rattle.hk_script.specs.Runs.{AreReplies, taken, need_ticks, need_words};
+ghost use Rattle.hk_script.specs.Needs.{NeedFits};
 
-/// A text spells one script at most. It takes no time; its clause is the law.
+/// A text spells one script at most.
 pub fn one_script()
-    ensures { (text : List ℕ) (first second : List Statement) → Spells text first → Spells text second → first ≡ second }
+    ensures { (limits : Limits) (text : List ℕ) (first second : List Statement) → AreLimits limits → Spells limits text first → Spells limits text second → first ≡ second }
 {}
 
-/// What is printed is parsed as the script that was printed. It takes no time; its clause is the law.
+/// What is printed is parsed as the script that was printed, by all limits that the script keeps.
 pub fn printed_again()
-    ensures { (script : List Statement) → IsScript script → Spells (text_of script) script × (script_of (text_of script) ≡ Ok script) }
+    ensures { (limits : Limits) (script : List Statement) → AreLimits limits → IsScript limits script
+        → Spells limits (text_of script) script × (script_of limits (text_of script) ≡ Ok script) }
 {}
 
-/// A walk of one job takes no more ticks and words than its script costs, over any replies that fit. It takes no time;
-/// its clause is the law.
+/// A script keeps all wider limits too, and a text that spells it does so by these.
+pub fn wider_limits()
+    ensures scripts { (narrow wide : Limits) (script : List Statement) → AreWithin wide narrow → IsScript narrow script → IsScript wide script }
+    ensures texts { (narrow wide : Limits) (text : List ℕ) (script : List Statement) → AreWithin wide narrow → Spells narrow text script → Spells wide text script }
+{}
+
+/// What a walk wants keeps the limits of its script.
+pub fn needs_fit()
+    ensures { (limits : Limits) (script : List Statement) (walk : Walk) → IsScript limits script → IfSome (need_of script walk) (NeedFits limits) }
+{}
+
+/// A walk of one job takes no more ticks and words than its script costs, over any replies that fit.
 pub fn walks_within_cost()
-    ensures { (script : List Statement) (job : ℕ) (replies : List Reply) → IsScript script → AreReplies script (started job) replies
+    ensures { (limits : Limits) (script : List Statement) (job : ℕ) (replies : List Reply) → IsScript limits script → AreReplies script (started job) replies
         → (taken need_ticks script (started job) replies ≤ greatest_ticks script) × (taken need_words script (started job) replies ≤ greatest_words script) }
 {}

@@ -5,7 +5,7 @@ ghost use Rattle.std.specs.List.{position_or_len, list_all};
 ghost use Rattle.std.specs.Char.{is_ascii_digit};
 ghost use Rattle.std.specs.Str.{bytes_eq};
 ghost use Rattle.std.specs.Str.Parse.{digits_value};
-ghost use Rattle.hk_script.specs.Lex.{words, before_comment, number_of, index_of};
+ghost use Rattle.hk_script.specs.Lex.{words, before_comment, number_of, below, has_leading_zero, index_of};
 
 use std::alloc::{AllocError, Global};
 
@@ -75,15 +75,37 @@ pub(crate) fn number(word: &[u8]) -> Option<u64>
     u64::try_from(value).ok()
 }
 
-/// The digit of a name: a letter, and one digit below the limit.
+/// The number that a word of 1 to 20 decimal digits spells, where it is below the limit.
+pub(crate) fn number_below(word: &[u8], limit: u8) -> Option<u8>
+    ensures value { result ≡ below limit (number_of word.now) }
+    ensures small { IfSome result (λ found. found < limit) }
+{
+    let value = number(word)?;
+    if value < u64::from(limit) {
+        Some(value as u8)
+    } else {
+        None
+    }
+}
+
+/// Whether digits begin with a 0 that could be left out.
+fn has_leading_zero(digits: &[u8]) -> bool
+    ensures { result ≡ has_leading_zero digits.now }
+{
+    match digits {
+        [first, _, ..] => *first == b'0',
+        _ => false,
+    }
+}
+
+/// The number in a name: a letter, and a number below the limit without leading zeros.
 pub(crate) fn index(word: &[u8], letter: u8, limit: u8) -> Option<u8>
-    requires { limit ≤ 10 }
     ensures value { result ≡ index_of letter limit word.now }
     ensures small { IfSome result (λ found. found < limit) }
 {
     match word {
-        [first, digit] if *first == letter && *digit >= b'0' && *digit - b'0' < limit => {
-            Some(*digit - b'0')
+        [first, digits @ ..] if *first == letter && !has_leading_zero(digits) => {
+            number_below(digits, limit)
         }
         _ => None,
     }

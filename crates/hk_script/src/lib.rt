@@ -8,6 +8,7 @@ mod costs;
 mod error;
 mod laws;
 mod lex;
+mod limits;
 mod linking;
 mod parsing;
 mod printing;
@@ -19,8 +20,8 @@ mod walk;
 
 pub use costs::{MAX_COST, cost, largest, words};
 pub use error::ScriptError;
-pub use laws::{one_script, printed_again, walks_within_cost};
-pub use parsing::parse;
+pub use laws::{needs_fit, one_script, printed_again, walks_within_cost, wider_limits};
+pub use parsing::{parse, parse_in};
 pub use printing::print;
 pub use script::Script;
 pub use statement::{MAX_COUNT, MAX_DEPTH, MAX_STATEMENTS, Statement, Test, VARIABLES};

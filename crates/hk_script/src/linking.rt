@@ -2,6 +2,7 @@
 
 ghost use Rattle.std.specs.Prelude.{◌≡◌, ◌+◌, ◌<◌, ◌≤◌, [], length, drop, IfOk, IfErr, MatchResult};
 ghost use Rattle.hk_script.specs.declared.error.ScriptError.TheVariants.{Memory};
+ghost use Rattle.hk_script.specs.Limits.{widest};
 ghost use Rattle.hk_script.specs.Blocks.{IsScript};
 ghost use Rattle.hk_script.specs.Links.{arounds, links_of, leads, link};
 ghost use Rattle.hk_script.specs.Steps.{seen_ways};
@@ -32,7 +33,7 @@ pub(crate) struct Link {
 
 /// What is around each statement.
 fn around_each(alloc: Global, statements: &[Statement]) -> Result<Vec<Around>, ScriptError>
-    requires { IsScript statements.now }
+    requires { IsScript widest statements.now }
     ensures { MatchResult result (λ v. v.items ≡ arounds [] 0 statements.now) (λ e. e ≡ Memory) }
 {
     let mut blocks = Blocks::new(alloc);
@@ -97,7 +98,7 @@ fn link_from(places: &Places, around: Around, statement: &Statement) -> Link
 
 /// The links of a script.
 pub(crate) fn links(alloc: Global, statements: &[Statement]) -> Result<Vec<Link>, ScriptError>
-    requires { IsScript statements.now }
+    requires { IsScript widest statements.now }
     ensures { MatchResult result (λ v. v.items ≡ links_of statements.now) (λ e. e ≡ Memory) }
 {
     let arounds = around_each(alloc, statements)?;

@@ -2,6 +2,7 @@
 
 ghost use Rattle.std.specs.Prelude.{◌≡◌, ◌+◌, ◌<◌, ◌≤◌, Ok, List, IfOk, map, length, take, drop};
 ghost use Rattle.hk_script.specs.declared.statement.Statement.{Statement};
+ghost use Rattle.hk_script.specs.Limits.{limits_of, usual, AreLimits};
 ghost use Rattle.hk_script.specs.Lex.{words, lines};
 ghost use Rattle.hk_script.specs.Blocks.{begun, parted, nest};
 ghost use Rattle.hk_script.specs.Texts.{Spells, Progress, script_of, Gives, line_read, lines_read, nothing_read, placed, then_at, done};
@@ -10,10 +11,12 @@ ghost use Rattle.hk_script.specs.Progress.{progress_of};
 use crate::blocks::{Blocks, Open, Part};
 use crate::error::ScriptError;
 use crate::lex::{place_of, words};
+use crate::limits::Limits;
 use crate::progress::Reading;
 use crate::reading::statement;
 use crate::script::Script;
 use crate::statement::{MAX_DEPTH, MAX_STATEMENTS, Statement};
+use hk_words::{REGISTERS, USUAL_FIELDS};
 use std::alloc::Global;
 
 /// Begins a block.
@@ -78,17 +81,18 @@ fn add(reading: &mut Reading, line: u32, statement: Statement) -> Result<(), Scr
 /// Reads a line.
 fn read_line(
     alloc: Global,
+    limits: Limits,
     reading: &mut Reading,
     line: u32,
     text: &[u8],
 ) -> Result<(), ScriptError>
-    ensures { Gives (λ _. progress_of reading.new) result (then_at line (line_read line (progress_of reading.old) (words text.now)) done) }
+    ensures { Gives (λ _. progress_of reading.new) result (then_at line (line_read limits line (progress_of reading.old) (words text.now)) done) }
 {
     let words = words(alloc, text)?;
     if words.is_empty() {
         return Ok(());
     }
-    match statement(&words) {
+    match statement(limits, &words) {
         Ok(statement) => add(reading, line, statement),
         Err(fault) => Err(fault.at(line)),
     }
@@ -104,8 +108,8 @@ fn cut(text: &[u8], place: usize) -> (&[u8], &[u8])
 }
 
 /// Reads the lines of a text.
-fn read_lines(alloc: Global, text: &[u8]) -> Result<Reading, ScriptError>
-    ensures { Gives progress_of result (lines_read 1 nothing_read (map words (lines text.now))) }
+fn read_lines(alloc: Global, limits: Limits, text: &[u8]) -> Result<Reading, ScriptError>
+    ensures { Gives progress_of result (lines_read limits 1 nothing_read (map words (lines text.now))) }
 {
     let mut reading = Reading {
         statements: Vec::new(alloc),
@@ -116,24 +120,24 @@ fn read_lines(alloc: Global, text: &[u8]) -> Result<Reading, ScriptError>
     let mut end = place_of(rest, b'\n');
     while end < rest.len() {
         let (here, after) = cut(rest, end);
-        read_line(alloc, &mut reading, line, here)?;
+        read_line(alloc, limits, &mut reading, line, here)?;
         line = line.saturating_add(1);
         rest = after;
         end = place_of(rest, b'\n');
     }
-    read_line(alloc, &mut reading, line, rest)?;
+    read_line(alloc, limits, &mut reading, line, rest)?;
     Ok(reading)
 }
 
 /// The statements of a text.
 #[tactic(auto, unfolding(crate::specs::Texts::script_of))]
-fn statements(alloc: Global, text: &[u8]) -> Result<Vec<Statement>, ScriptError>
-    ensures { Gives (λ v. v.items) result (script_of text.now) }
+fn statements(alloc: Global, limits: Limits, text: &[u8]) -> Result<Vec<Statement>, ScriptError>
+    ensures { Gives (λ v. v.items) result (script_of limits text.now) }
 {
     let Reading {
         statements,
         mut blocks,
-    } = read_lines(alloc, text)?;
+    } = read_lines(alloc, limits, text)?;
     if let Some(block) = blocks.pop() {
         return Err(ScriptError::Block(block.mark));
     }
@@ -143,16 +147,33 @@ fn statements(alloc: Global, text: &[u8]) -> Result<Vec<Statement>, ScriptError>
     Ok(statements)
 }
 
-/// The script that the text spells, or the first reason why it spells none. Lines end in a newline, which may be
-/// missing at the end; a comment goes from `#` to the end of its line.
-pub fn parse(alloc: Global, text: &[u8]) -> Result<Script, ScriptError>
+/// The script that the text spells, where objects have at most so many fields and a task has so many registers, or the
+/// first reason why it spells none. Lines end in a newline, which may be missing at the end; a comment goes from `#` to
+/// the end of its line.
+pub fn parse_in(
+    alloc: Global,
+    text: &[u8],
+    fields: u8,
+    registers: u8,
+) -> Result<Script, ScriptError>
+    requires { AreLimits (limits_of fields registers) }
     // What is parsed is spelled so.
-    ensures spelled { IfOk result (λ script. Spells text.now script) }
+    ensures spelled { IfOk result (λ script. Spells (limits_of fields registers) text.now script) }
     // What is spelled so is parsed, unless memory runs out.
-    ensures only { (script : List Statement) → Spells text.now script → Gives (λ found. found) result (Ok script) }
+    ensures only { (script : List Statement) → Spells (limits_of fields registers) text.now script → Gives (λ found. found) result (Ok script) }
     // Which reason it is.
-    ensures exact { Gives (λ found. found) result (script_of text.now) }
+    ensures exact { Gives (λ found. found) result (script_of (limits_of fields registers) text.now) }
 {
-    let statements = statements(alloc, text)?;
+    let statements = statements(alloc, Limits { fields, registers }, text)?;
     Script::new(alloc, statements)
+}
+
+/// The script that the text spells, where objects have at most 62 fields and a task has eight registers, or the first
+/// reason why it spells none, as [`parse_in`] answers it.
+pub fn parse(alloc: Global, text: &[u8]) -> Result<Script, ScriptError>
+    ensures spelled { IfOk result (λ script. Spells usual text.now script) }
+    ensures only { (script : List Statement) → Spells usual text.now script → Gives (λ found. found) result (Ok script) }
+    ensures exact { Gives (λ found. found) result (script_of usual text.now) }
+{
+    parse_in(alloc, text, USUAL_FIELDS, REGISTERS)
 }

@@ -1,12 +1,13 @@
 //! The canonical text of a script.
 
 ghost use Rattle.std.specs.Prelude.{◌≡◌, ◌+◌, ◌<◌, ◌≤◌, [], ◌∷◌, ◌++◌, List, map, OnOk, IfOk};
-ghost use Rattle.std.specs.List.{flat_map, AllByRecursion};
+ghost use Rattle.std.specs.List.{flat_map};
 ghost use Rattle.std.specs.Fmt.{decimal};
 ghost use Rattle.hk_script.specs.Printing.{word_of, spaced, line_of, heap_line, text_of};
-ghost use Rattle.hk_script.specs.Arguments.{piece_of, IsArgument};
+ghost use Rattle.hk_script.specs.Arguments.{piece_of};
 ghost use Rattle.hk_script.specs.declared.statement.Statement.TheVariants as Statement;
-ghost use Rattle.hk_script.specs.Spelling.{IsTest, IsStatement};
+ghost use Rattle.hk_script.specs.declared.limits.Limits.{Limits};
+ghost use Rattle.hk_script.specs.Limits.{AreLimits};
 ghost use Rattle.hk_script.specs.Blocks.{IsScript};
 ghost use Rattle.hk_script.specs.Texts.{Spells};
 
@@ -22,15 +23,14 @@ fn push_number(alloc: Global, out: &mut Vec<u8>, number: u64) -> Result<(), Allo
     out.extend_from_slice(digits.as_bytes())
 }
 
-/// Writes a name of a letter and a digit behind a space.
-fn push_name(out: &mut Vec<u8>, letter: u8, index: u8) -> Result<(), AllocError>
-    requires { index < 10 }
-    ensures { OnOk result (out.new.items ≡ out.old.items ++ 32 ∷ letter ∷ (48 + index) ∷ []) }
+/// Writes a name of a letter and a number behind a space.
+fn push_name(alloc: Global, out: &mut Vec<u8>, letter: u8, index: u8) -> Result<(), AllocError>
+    ensures { OnOk result (out.new.items ≡ out.old.items ++ 32 ∷ letter ∷ decimal index) }
 {
     out.push(b' ')?;
     out.push(letter)?;
-    out.push(b'0' + index)?;
-    Ok(())
+    let digits = format!(in alloc; "{index}")?;
+    out.extend_from_slice(digits.as_bytes())
 }
 
 /// What a statement's line has behind its name.
@@ -44,12 +44,11 @@ enum Argument {
 
 /// Writes an argument behind a space.
 fn push_argument(alloc: Global, out: &mut Vec<u8>, argument: Argument) -> Result<(), AllocError>
-    requires { IsArgument argument }
     ensures { OnOk result (out.new.items ≡ out.old.items ++ 32 ∷ word_of (piece_of argument)) }
 {
     match argument {
-        Argument::Variable(index) => push_name(out, b'v', index),
-        Argument::Register(index) => push_name(out, b'r', index),
+        Argument::Variable(index) => push_name(alloc, out, b'v', index),
+        Argument::Register(index) => push_name(alloc, out, b'r', index),
         Argument::Number(number) => push_number(alloc, out, number),
         Argument::Sign(sign) => {
             out.push(b' ')?;
@@ -66,7 +65,6 @@ fn push_line(
     name: &str,
     arguments: &[Argument],
 ) -> Result<(), AllocError>
-    requires { AllByRecursion IsArgument arguments.now }
     ensures { OnOk result (out.new.items ≡ out.old.items ++ (name.now ++ (spaced (map piece_of arguments.now) ++ 10 ∷ []))) }
 {
     out.extend_from_slice(name.as_bytes())?;
@@ -80,7 +78,6 @@ fn push_line(
 /// Writes the line of an `if`.
 #[tactic(auto, unfolding(crate::specs::Printing::line_of))]
 fn push_test(alloc: Global, out: &mut Vec<u8>, test: Test) -> Result<(), AllocError>
-    requires { IsTest test }
     ensures { OnOk result (out.new.items ≡ out.old.items ++ line_of (Statement.If test)) }
 {
     use Argument::{Register, Sign, Variable};
@@ -103,7 +100,6 @@ fn push_test(alloc: Global, out: &mut Vec<u8>, test: Test) -> Result<(), AllocEr
 /// Writes the line of a statement on the heap.
 #[tactic(auto, unfolding(crate::specs::Printing::line_of))]
 fn push_heap(alloc: Global, out: &mut Vec<u8>, statement: Statement) -> Result<(), AllocError>
-    requires { IsStatement statement }
     ensures { OnOk result (out.new.items ≡ out.old.items ++ heap_line statement) }
 {
     use Argument::{Number, Register, Variable};
@@ -148,7 +144,6 @@ fn push_heap(alloc: Global, out: &mut Vec<u8>, statement: Statement) -> Result<(
 /// Writes the line of a statement.
 #[tactic(auto, unfolding(crate::specs::Printing::line_of))]
 fn push_statement(alloc: Global, out: &mut Vec<u8>, statement: Statement) -> Result<(), AllocError>
-    requires { IsStatement statement }
     ensures { OnOk result (out.new.items ≡ out.old.items ++ line_of statement) }
 {
     use Argument::{Number, Variable};
@@ -177,10 +172,10 @@ fn push_statement(alloc: Global, out: &mut Vec<u8>, statement: Statement) -> Res
 }
 
 /// The canonical text of a script: one statement per line, its words parted by one space, and numbers without
-/// leading zeros. The text spells the script, and so it is parsed as the script again.
+/// leading zeros. The text spells the script by all limits that it keeps, and so it is parsed as the script again.
 pub fn print(alloc: Global, script: &Script) -> Result<Vec<u8>, AllocError>
     ensures text { IfOk result (λ text. text.items ≡ text_of script.now) }
-    ensures spelled { IfOk result (λ text. Spells text.items script.now) }
+    ensures spelled { (limits : Limits) → AreLimits limits → IsScript limits script.now → IfOk result (λ text. Spells limits text.items script.now) }
 {
     let mut out = Vec::new(alloc);
     for statement in script.statements() {

@@ -2,12 +2,13 @@
 
 ghost use Rattle.std.specs.Prelude.{◌≡◌, ℕ, ◌<◌, ◌≤◌, Ok, IfOk, List, map};
 ghost use Rattle.hk_script.specs.Reading.{number_in, variable_of, register_of, target_of, count_of, value_of, field_of, size_of, one_word, two_words, three_words, four_words, new_of, test_of, variables_of, statement_of};
-ghost use Rattle.hk_script.specs.Shapes.{shape_of};
+ghost use Rattle.hk_script.specs.Shapes.{any_shape, shape_of};
 
 use crate::error::Fault;
-use crate::lex::{index, is, number};
+use crate::lex::{index, is, number, number_below};
+use crate::limits::Limits;
 use crate::statement::{MAX_COUNT, Statement, Test, VARIABLES};
-use hk_words::{MAX_FIELDS, REGISTERS, Shape};
+use hk_words::Shape;
 
 /// A number of this range.
 #[tactic(auto, unfolding(crate::specs::Reading::number_in))]
@@ -36,10 +37,11 @@ fn value(word: &[u8]) -> Result<u64, Fault>
 }
 
 /// The number of a field.
-fn field(word: &[u8]) -> Result<u8, Fault>
-    ensures { result ≡ field_of word.now }
+#[tactic(auto, unfolding(crate::specs::Reading::field_of))]
+fn field(limits: Limits, word: &[u8]) -> Result<u8, Fault>
+    ensures { result ≡ field_of limits word.now }
 {
-    Ok(number_in(word, 0, u64::from(MAX_FIELDS) - 1)? as u8)
+    number_below(word, limits.fields).ok_or(Fault::Number)
 }
 
 /// How many fields of a kind an object has.
@@ -59,18 +61,18 @@ fn variable(word: &[u8]) -> Result<u8, Fault>
 
 /// A register that is read.
 #[tactic(auto, unfolding(crate::specs::Reading::register_of))]
-fn register(word: &[u8]) -> Result<u8, Fault>
-    ensures { result ≡ register_of word.now }
+fn register(limits: Limits, word: &[u8]) -> Result<u8, Fault>
+    ensures { result ≡ register_of limits word.now }
 {
-    index(word, b'r', REGISTERS).ok_or(Fault::Register)
+    index(word, b'r', limits.registers).ok_or(Fault::Register)
 }
 
 /// A register that is written: any but register 0.
 #[tactic(auto, unfolding(crate::specs::Reading::target_of))]
-fn target(word: &[u8]) -> Result<u8, Fault>
-    ensures { result ≡ target_of word.now }
+fn target(limits: Limits, word: &[u8]) -> Result<u8, Fault>
+    ensures { result ≡ target_of limits word.now }
 {
-    let reg = register(word)?;
+    let reg = register(limits, word)?;
     if reg == 0 {
         return Err(Fault::Register);
     }
@@ -93,8 +95,8 @@ fn one_word(name: &[u8]) -> Result<Statement, Fault>
 
 /// The statement of a line of two words.
 #[tactic(auto, unfolding(crate::specs::Reading::two_words))]
-fn two_words(name: &[u8], a: &[u8]) -> Result<Statement, Fault>
-    ensures { result ≡ two_words name.now a.now }
+fn two_words(limits: Limits, name: &[u8], a: &[u8]) -> Result<Statement, Fault>
+    ensures { result ≡ two_words limits name.now a.now }
 {
     if is(name, "work") {
         Ok(Statement::Work { ticks: count(a)? })
@@ -107,7 +109,9 @@ fn two_words(name: &[u8], a: &[u8]) -> Result<Statement, Fault>
             variable: variable(a)?,
         })
     } else if is(name, "clear") {
-        Ok(Statement::Clear { dest: target(a)? })
+        Ok(Statement::Clear {
+            dest: target(limits, a)?,
+        })
     } else if is(name, "repeat") {
         Ok(Statement::Repeat { count: count(a)? })
     } else {
@@ -124,8 +128,8 @@ fn variables(a: &[u8], b: &[u8]) -> Result<(u8, u8), Fault>
 
 /// The statement of a line of three words.
 #[tactic(auto, unfolding(crate::specs::Reading::three_words))]
-fn three_words(name: &[u8], a: &[u8], b: &[u8]) -> Result<Statement, Fault>
-    ensures { result ≡ three_words name.now a.now b.now }
+fn three_words(limits: Limits, name: &[u8], a: &[u8], b: &[u8]) -> Result<Statement, Fault>
+    ensures { result ≡ three_words limits name.now a.now b.now }
 {
     if is(name, "set") {
         Ok(Statement::Set {
@@ -143,12 +147,14 @@ fn three_words(name: &[u8], a: &[u8], b: &[u8]) -> Result<Statement, Fault>
         Ok(Statement::Sub { variable, other })
     } else if is(name, "move") {
         Ok(Statement::Move {
-            dest: target(a)?,
-            from: register(b)?,
+            dest: target(limits, a)?,
+            from: register(limits, b)?,
         })
     } else if is(name, "if") && is(a, "null") {
         Ok(Statement::If {
-            test: Test::Null { reg: register(b)? },
+            test: Test::Null {
+                reg: register(limits, b)?,
+            },
         })
     } else {
         Err(Fault::Word)
@@ -156,28 +162,40 @@ fn three_words(name: &[u8], a: &[u8], b: &[u8]) -> Result<Statement, Fault>
 }
 
 /// The shape of so many fields, where there is one.
-fn shape(refs: u8, nums: u8) -> Option<Shape>
-    ensures { result ≡ shape_of refs nums }
+fn any_shape(refs: u8, nums: u8) -> Option<Shape>
+    ensures { result ≡ any_shape refs nums }
 {
     Shape::new(refs, nums)
 }
 
+/// The shape of so many fields, where there is one with no more fields than an object may have.
+#[tactic(auto, unfolding(crate::specs::Shapes::shape_of))]
+fn shape(limits: Limits, refs: u8, nums: u8) -> Option<Shape>
+    ensures { result ≡ shape_of limits.fields refs nums }
+{
+    if u16::from(refs) + u16::from(nums) <= u16::from(limits.fields) {
+        any_shape(refs, nums)
+    } else {
+        None
+    }
+}
+
 /// A new object.
 #[tactic(auto, unfolding(crate::specs::Reading::new_of))]
-fn new_object(a: &[u8], b: &[u8], c: &[u8]) -> Result<Statement, Fault>
-    ensures { result ≡ new_of a.now b.now c.now }
+fn new_object(limits: Limits, a: &[u8], b: &[u8], c: &[u8]) -> Result<Statement, Fault>
+    ensures { result ≡ new_of limits a.now b.now c.now }
 {
-    let dest = target(a)?;
+    let dest = target(limits, a)?;
     let refs = size(b)?;
     let nums = size(c)?;
-    let shape = shape(refs, nums).ok_or(Fault::Shape)?;
+    let shape = shape(limits, refs, nums).ok_or(Fault::Shape)?;
     Ok(Statement::New { dest, shape })
 }
 
 /// The `if` of a line of four words.
 #[tactic(auto, unfolding(crate::specs::Reading::test_of))]
-fn test(a: &[u8], b: &[u8], c: &[u8]) -> Result<Statement, Fault>
-    ensures { result ≡ test_of a.now b.now c.now }
+fn test(limits: Limits, a: &[u8], b: &[u8], c: &[u8]) -> Result<Statement, Fault>
+    ensures { result ≡ test_of limits a.now b.now c.now }
 {
     let test = if is(b, "<") {
         let (left, right) = variables(a, c)?;
@@ -186,8 +204,8 @@ fn test(a: &[u8], b: &[u8], c: &[u8]) -> Result<Statement, Fault>
         let (left, right) = variables(a, c)?;
         Test::Equal { left, right }
     } else if is(a, "same") {
-        let left = register(b)?;
-        let right = register(c)?;
+        let left = register(limits, b)?;
+        let right = register(limits, c)?;
         Test::Same { left, right }
     } else {
         return Err(Fault::Word);
@@ -197,37 +215,37 @@ fn test(a: &[u8], b: &[u8], c: &[u8]) -> Result<Statement, Fault>
 
 /// The statement of a line of four words.
 #[tactic(auto, unfolding(crate::specs::Reading::four_words))]
-fn four_words(name: &[u8], a: &[u8], b: &[u8], c: &[u8]) -> Result<Statement, Fault>
-    ensures { result ≡ four_words name.now a.now b.now c.now }
+fn four_words(limits: Limits, name: &[u8], a: &[u8], b: &[u8], c: &[u8]) -> Result<Statement, Fault>
+    ensures { result ≡ four_words limits name.now a.now b.now c.now }
 {
     if is(name, "get") {
         Ok(Statement::Get {
             variable: variable(a)?,
-            reg: register(b)?,
-            field: field(c)?,
+            reg: register(limits, b)?,
+            field: field(limits, c)?,
         })
     } else if is(name, "put") {
         Ok(Statement::Put {
-            reg: register(a)?,
-            field: field(b)?,
+            reg: register(limits, a)?,
+            field: field(limits, b)?,
             variable: variable(c)?,
         })
     } else if is(name, "load") {
         Ok(Statement::Load {
-            dest: target(a)?,
-            reg: register(b)?,
-            field: field(c)?,
+            dest: target(limits, a)?,
+            reg: register(limits, b)?,
+            field: field(limits, c)?,
         })
     } else if is(name, "store") {
         Ok(Statement::Store {
-            reg: register(a)?,
-            field: field(b)?,
-            from: register(c)?,
+            reg: register(limits, a)?,
+            field: field(limits, b)?,
+            from: register(limits, c)?,
         })
     } else if is(name, "new") {
-        new_object(a, b, c)
+        new_object(limits, a, b, c)
     } else if is(name, "if") {
-        test(a, b, c)
+        test(limits, a, b, c)
     } else {
         Err(Fault::Word)
     }
@@ -235,14 +253,14 @@ fn four_words(name: &[u8], a: &[u8], b: &[u8], c: &[u8]) -> Result<Statement, Fa
 
 /// The statement of a line, of these words.
 #[tactic(auto, unfolding(crate::specs::Reading::statement_of))]
-pub(crate) fn statement(words: &[&[u8]]) -> Result<Statement, Fault>
-    ensures { result ≡ statement_of (map (λ word. word.now) words.now) }
+pub(crate) fn statement(limits: Limits, words: &[&[u8]]) -> Result<Statement, Fault>
+    ensures { result ≡ statement_of limits (map (λ word. word.now) words.now) }
 {
     match words {
         [name] => one_word(name),
-        [name, a] => two_words(name, a),
-        [name, a, b] => three_words(name, a, b),
-        [name, a, b, c] => four_words(name, a, b, c),
+        [name, a] => two_words(limits, name, a),
+        [name, a, b] => three_words(limits, name, a, b),
+        [name, a, b, c] => four_words(limits, name, a, b, c),
         _ => Err(Fault::Word),
     }
 }

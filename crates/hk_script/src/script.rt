@@ -2,6 +2,7 @@
 
 ghost use Rattle.std.specs.Prelude.{◌≡◌, ◌<◌, length, MatchResult};
 ghost use Rattle.hk_script.specs.declared.error.ScriptError.TheVariants.{Memory};
+ghost use Rattle.hk_script.specs.Limits.{widest};
 ghost use Rattle.hk_script.specs.Blocks.{IsScript};
 
 use crate::error::ScriptError;
@@ -25,12 +26,13 @@ impl Model for Script {
     ghost Value = { List Statement };
 
     ghost use Rattle.std.specs.Prelude.{◌≡◌};
+    ghost use Rattle.hk_script.specs.Limits.{widest};
     ghost use Rattle.hk_script.specs.Blocks.{IsScript};
     ghost use Rattle.hk_script.specs.Links.{links_of};
 
     ghost view = { λ script. script.statements.items };
 
-    ghost invariant = { λ script. IsScript script.statements.items × (script.links.items ≡ links_of script.statements.items) };
+    ghost invariant = { λ script. IsScript widest script.statements.items × (script.links.items ≡ links_of script.statements.items) };
 }
 
 impl Script {
@@ -38,7 +40,7 @@ impl Script {
 
     /// The script of these statements.
     pub(crate) fn new(alloc: Global, statements: Vec<Statement>) -> Result<Script, ScriptError>
-        requires { IsScript statements.items }
+        requires { IsScript widest statements.items }
         ensures { MatchResult result (λ script. script ≡ statements.items) (λ e. e ≡ Memory) }
     {
         let links = links(alloc, &statements)?;
@@ -56,7 +58,7 @@ impl Script {
     /// The statements, in the order of the lines.
     pub fn statements(&self) -> &[Statement]
         ensures statements { result.now ≡ self.now }
-        ensures script { IsScript self.now }
+        ensures script { IsScript widest self.now }
     {
         &self.statements
     }

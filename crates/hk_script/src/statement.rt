@@ -27,8 +27,8 @@ pub enum Test {
     Same { left: u8, right: u8 },
 }
 
-/// One statement of a script, as one line spells it. Variables are 0 to 7 and registers are 0 to 7; a register
-/// that is written is none of 0.
+/// One statement of a script, as one line spells it. Variables are 0 to 7. Registers are 0 to 31 and fields 0 to 253, or
+/// fewer, by the limits that the script was read with; a register that is written isn't register 0.
 #[derive(Clone, Copy, Debug, PartialEq, Eq)]
 pub enum Statement {
     /// Takes so many ticks.

@@ -2,6 +2,8 @@
 
 ghost use Rattle.std.specs.Prelude.{◌≡◌, ◌+◌, ◌<◌, ◌↔◌, List, length, IsNone, IsSome, IsSomeAnd};
 ghost use Rattle.hk_script.specs.declared.statement.Statement.{Statement};
+ghost use Rattle.hk_script.specs.declared.limits.Limits.{Limits};
+ghost use Rattle.hk_script.specs.Limits.{widest};
 ghost use Rattle.hk_script.specs.Blocks.{IsScript};
 ghost use Rattle.hk_script.specs.Walks.{started, need_in, need_of, value, need_of_test, holds, number_of_reply, assigned, after_set, turned, stepped, walk_after, Fits, Answers};
 ghost use Rattle.hk_script.specs.Spelling.{IsStatement, IsTest, IsVariable};
@@ -41,7 +43,7 @@ impl Walk {
     /// The state in which a job begins: every variable is 0, and no turn was begun. It fits every script.
     pub fn start(job: u64) -> Walk
         ensures started { result ≡ started job }
-        ensures fits { (script : List Statement) → IsScript script → Fits script result }
+        ensures fits { (limits : Limits) (script : List Statement) → IsScript limits script → Fits script result }
     {
         Walk {
             job,
@@ -100,7 +102,7 @@ impl Walk {
 
     /// What this statement wants.
     fn need_in(&self, statement: Statement) -> Option<Need>
-        requires { IsStatement statement }
+        requires { IsStatement widest statement }
         ensures { result ≡ need_in self.now statement }
     {
         Some(match statement {
@@ -132,7 +134,7 @@ impl Walk {
 
     /// Whether a test holds, by the variables or by the heap's reply.
     fn holds(&self, test: Test, reply: Reply) -> bool
-        requires { IsTest test }
+        requires { IsTest widest test }
         ensures { result ≡ holds test self.now reply }
     {
         match test {
@@ -152,7 +154,7 @@ impl Walk {
 
     /// Sets what a statement on variables sets, or a get.
     fn set(&mut self, statement: Statement, reply: Reply)
-        requires { IsStatement statement }
+        requires { IsStatement widest statement }
         ensures { self.new ≡ after_set self.old reply statement }
     {
         match statement {
@@ -189,7 +191,7 @@ impl Walk {
 
     /// Goes on after this statement.
     fn step(&mut self, link: Link, statement: Statement, reply: Reply)
-        requires statement { IsStatement statement }
+        requires statement { IsStatement widest statement }
         requires level { HasLevel statement link }
         ensures { self.new ≡ stepped link self.old reply statement }
     {

@@ -16,4 +16,5 @@ pub mod TickLemmas
 pub mod Three
 pub mod SheetLemmas
 pub mod ReportParts
+pub mod OneCall
 pub mod ToolLemmas

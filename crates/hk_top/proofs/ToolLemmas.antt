@@ -7,8 +7,8 @@ use Rattle.toml.specs.Data.{Members}
 use Rattle.hk_io.specs.declared.Status.{Status}
 use Rattle.hk_io.specs.declared.Status.TheVariants as status
 use Rattle.hk_io.specs.declared.faults.Failed.{Failed}
-use Rattle.hk_io.specs.declared.whole.TheConstants.{MAX_INPUT}
 use Rattle.hk_io.specs.Bytes.{ConsumesFront}
+use Rattle.hk_io.specs.Limits.{longest_input}
 use Rattle.hk_sheet.specs.declared.error.SheetError.{SheetError}
 use Rattle.hk_sheet.specs.declared.error.SheetError.TheVariants as unread
 use Rattle.hk_sheet.specs.declared.sheet.Sheet.{Sheet}
@@ -22,6 +22,7 @@ use Rattle.hk_admit.proofs.Excluded.{admitted_excludes}
 use Rattle.hk_top.specs.Refusals.{sheet_line, refused_line}
 use Rattle.hk_top.specs.Tool.{IsRun, is_unbuilt, IsSheetOf, IsUnread, too_long, no_sheet, IsNotAdmitted, IsNotBuilt, IsReport, BytesCallFor, CallsFor, HasText, Writes, WritesPrefix, AdmittedCallsFor, EndsBy}
 use Rattle.hk_top.specs.Words.{Puts}
+use Rattle.hk_top.proofs.OneCall.{one_call}
 use Rattle.hk_top.proofs.ScheduleAdmitted.{admitted_keeps_schedule}
 
 -- ENDS
@@ -45,6 +46,7 @@ module _ (Calls : Status → List ℕ → Type 0) (before after : Option (List �
     prefix = λ w. absurd (subst HasText (sym is ∙ w) has);
     cause = λ w. absurd (subst HasText (sym is ∙ w) has);
     no_read = λ r. subst HasText (sym is ∙ r) has;
+    kept = λ _. puts.cause.kept;
     later = puts.cause.later;
   }
   ends_written owed text (Err e) result has called puts is = record {
@@ -52,17 +54,19 @@ module _ (Calls : Status → List ℕ → Type 0) (before after : Option (List �
     prefix = λ _. (owed, text, called, puts.prefix);
     cause = λ _. puts.cause.failed;
     no_read = λ r. subst IsWriteFault (sym is ∙ r) tt;
+    kept = λ other. absurd (other is);
     later = puts.cause.later;
   }
 
   -- there was no memory
-  pub ends_memory : faults ≤ faults_after → EndsBy Calls before after faults faults_after status.Memory
-  ends_memory later = record {
+  pub ends_memory : faults_after ≡ faults → EndsBy Calls before after faults faults_after status.Memory
+  ends_memory kept = record {
     whole = λ h. absurd h;
     prefix = λ w. absurd (subst IsWriteFault (sym w) tt);
     cause = λ w. absurd (subst IsWriteFault (sym w) tt);
     no_read = λ r. subst HasMemory r tt;
-    later = later;
+    kept = λ _. kept;
+    later = omega (arith, kept);
   }
 
   -- what this calls for, that calls for too
@@ -73,6 +77,7 @@ module _ (Calls : Status → List ℕ → Type 0) (before after : Option (List �
     prefix = λ e. let p = ends.prefix e in (p.0, p.1, turns p.0 p.1 p.2, p.3);
     cause = ends.cause;
     no_read = ends.no_read;
+    kept = ends.kept;
     later = ends.later;
   }
 
@@ -98,118 +103,6 @@ run_calls words bytes run status.Sheet t called = (run, called)
 run_calls words bytes run status.NotAdmitted t called = (run, called)
 run_calls words bytes run status.NotBuilt t called = (run, called)
 
--- ONE END
-
-one_document : (bytes : List ℕ) (d e : Members) → IsDocument bytes d → IsDocument bytes e → d ≡ e
-one_document bytes d e x y = ap (λ o. unwrap_or o d) (sym x.parsed ∙ y.parsed)
-
-sheet_or : Sheet → Result Sheet SheetError → Sheet
-sheet_or other (Ok sheet) = sheet
-sheet_or other (Err error) = other
-
-abbrev IsGood : Result Sheet SheetError → Type 0
-IsGood (Ok sheet) = Unit {0}
-IsGood (Err error) = ⊥
-
-one_read : (bytes : List ℕ) (r s : Result Sheet SheetError) → IsRead bytes r → IsRead bytes s → r ≡ s
-one_read bytes r s x y = sym x.read ∙ ap sheet_of (one_document bytes x.document y.document x.is y.is) ∙ y.read
-
-one_sheet : (bytes : List ℕ) (x y : Sheet) → IsSheetOf bytes x → IsSheetOf bytes y → x ≡ y
-unfolding sheet_or
-one_sheet bytes x y a b = ap (sheet_or x) (one_read bytes (Ok x) (Ok y) a.read b.read)
-
-not_both : (bytes : List ℕ) (sheet : Sheet) (error : SheetError) → IsRead bytes (Ok sheet) → IsRead bytes (Err error) → ⊥
-not_both bytes sheet error x y = subst IsGood (one_read bytes (Ok sheet) (Err error) x y) tt
-
-not_answered : (bytes : List ℕ) (sheet : Sheet) (error : SheetError) → IsRead bytes (Ok sheet) → error ≢ unread.Memory → Answers bytes (Err error) → ⊥
-not_answered bytes sheet unread.Text x told a = a x.document x.is
-not_answered bytes sheet (unread.Missing key) x told a = not_both bytes sheet _ x a
-not_answered bytes sheet (unread.Unknown key) x told a = not_both bytes sheet _ x a
-not_answered bytes sheet (unread.Kind key) x told a = not_both bytes sheet _ x a
-not_answered bytes sheet (unread.Range key) x told a = not_both bytes sheet _ x a
-not_answered bytes sheet (unread.Name index) x told a = not_both bytes sheet _ x a
-not_answered bytes sheet (unread.Arrivals task place earlier later) x told a = not_both bytes sheet _ x a
-not_answered bytes sheet (unread.Script task error) x told a = not_both bytes sheet _ x a
-not_answered bytes sheet (unread.Geometry error) x told a = not_both bytes sheet _ x a
-not_answered bytes sheet unread.Memory x told a = told refl
-
--- bytes that aren't read are no sheet
-none_read : (bytes text : List ℕ) (sheet : Sheet) → IsUnread bytes text → IsSheetOf bytes sheet → ⊥
-none_read bytes text sheet (too_long long is) x = let s = x.short in omega (arith, long, s)
-none_read bytes text sheet (no_sheet error e is) x = not_answered bytes sheet error x.read e.told e.answers
-
--- a sheet that isn't admitted is none that is
-none_admitted : (bytes text : List ℕ) (a : Admitted) → IsNotAdmitted bytes text → IsSheetOf bytes a.checked.sheet → ⊥
-none_admitted bytes text a n x =
-    let same = one_sheet bytes n.sheet a.checked.sheet n.is x in
-    n.told (admitted_excludes a.checked.sheet a.checked.work a.checked.attempt a.checked.busy a.checked.debt a.responses n.why a.checked.sound a.in_time
-    (subst (λ s. IsRefusal s n.why) same n.refusal))
-
-none_built : (bytes text other : List ℕ) → IsNotBuilt bytes text → IsReport bytes other → ⊥
-none_built bytes text other n r =
-    let same = one_sheet bytes n.admitted.checked.sheet r.admitted.checked.sheet n.is r.is in
-    both_ways (is_unbuilt r.admitted.checked.sheet) r.built (subst (λ s. is_unbuilt s ≡ true) same n.unbuilt)
-
-one_bytes : (bytes : List ℕ) (s s' : Status) (t t' : List ℕ) → BytesCallFor bytes s t → BytesCallFor bytes s' t' → s ≡ s'
-one_bytes bytes status.Done status.Done t t' a b = refl
-one_bytes bytes status.Done status.Memory t t' a b = absurd b
-one_bytes bytes status.Done status.Usage t t' a b = absurd b
-one_bytes bytes status.Done status.ReadFault t t' a b = absurd b
-one_bytes bytes status.Done status.WriteFault t t' a b = absurd b
-one_bytes bytes status.Done status.Sheet t t' a b = absurd (none_read bytes t' a.admitted.checked.sheet b a.is)
-one_bytes bytes status.Done status.NotAdmitted t t' a b = absurd (none_admitted bytes t' a.admitted b a.is)
-one_bytes bytes status.Done status.NotBuilt t t' a b = absurd (none_built bytes t' t b a)
-one_bytes bytes status.Memory s' t t' a b = absurd a
-one_bytes bytes status.Usage s' t t' a b = absurd a
-one_bytes bytes status.ReadFault s' t t' a b = absurd a
-one_bytes bytes status.WriteFault s' t t' a b = absurd a
-one_bytes bytes status.Sheet status.Done t t' a b = absurd (none_read bytes t b.admitted.checked.sheet a b.is)
-one_bytes bytes status.Sheet status.Memory t t' a b = absurd b
-one_bytes bytes status.Sheet status.Usage t t' a b = absurd b
-one_bytes bytes status.Sheet status.ReadFault t t' a b = absurd b
-one_bytes bytes status.Sheet status.WriteFault t t' a b = absurd b
-one_bytes bytes status.Sheet status.Sheet t t' a b = refl
-one_bytes bytes status.Sheet status.NotAdmitted t t' a b = absurd (none_read bytes t b.sheet a b.is)
-one_bytes bytes status.Sheet status.NotBuilt t t' a b = absurd (none_read bytes t b.admitted.checked.sheet a b.is)
-one_bytes bytes status.NotAdmitted status.Done t t' a b = absurd (none_admitted bytes t b.admitted a b.is)
-one_bytes bytes status.NotAdmitted status.Memory t t' a b = absurd b
-one_bytes bytes status.NotAdmitted status.Usage t t' a b = absurd b
-one_bytes bytes status.NotAdmitted status.ReadFault t t' a b = absurd b
-one_bytes bytes status.NotAdmitted status.WriteFault t t' a b = absurd b
-one_bytes bytes status.NotAdmitted status.Sheet t t' a b = absurd (none_read bytes t' a.sheet b a.is)
-one_bytes bytes status.NotAdmitted status.NotAdmitted t t' a b = refl
-one_bytes bytes status.NotAdmitted status.NotBuilt t t' a b = absurd (none_admitted bytes t b.admitted a b.is)
-one_bytes bytes status.NotBuilt status.Done t t' a b = absurd (none_built bytes t t' a b)
-one_bytes bytes status.NotBuilt status.Memory t t' a b = absurd b
-one_bytes bytes status.NotBuilt status.Usage t t' a b = absurd b
-one_bytes bytes status.NotBuilt status.ReadFault t t' a b = absurd b
-one_bytes bytes status.NotBuilt status.WriteFault t t' a b = absurd b
-one_bytes bytes status.NotBuilt status.Sheet t t' a b = absurd (none_read bytes t' a.admitted.checked.sheet b a.is)
-one_bytes bytes status.NotBuilt status.NotAdmitted t t' a b = absurd (none_admitted bytes t' a.admitted b a.is)
-one_bytes bytes status.NotBuilt status.NotBuilt t t' a b = refl
-
-parted : (words : List (String Global)) (bytes : List ℕ) (s : Status) (t : List ℕ) → CallsFor words bytes s t
-    → ((s ≡ status.Usage) × (¬ (IsRun words))) ⊎ (IsRun words × BytesCallFor bytes s t)
-parted words bytes status.Done t called = inr (called.0, called.1)
-parted words bytes status.Memory t called = inr (called.0, called.1)
-parted words bytes status.Usage t called = inl (refl, called.0)
-parted words bytes status.ReadFault t called = inr (called.0, called.1)
-parted words bytes status.WriteFault t called = inr (called.0, called.1)
-parted words bytes status.Sheet t called = inr (called.0, called.1)
-parted words bytes status.NotAdmitted t called = inr (called.0, called.1)
-parted words bytes status.NotBuilt t called = inr (called.0, called.1)
-
--- words and bytes call for one end
-pub one_call : (words : List (String Global)) (bytes : List ℕ) (s s' : Status) (t t' : List ℕ) → CallsFor words bytes s t → CallsFor words bytes s' t' → s ≡ s'
-one_call words bytes s s' t t' a b = go (parted words bytes s t a) (parted words bytes s' t' b)
-  where
-    go : ((s ≡ status.Usage) × (¬ (IsRun words))) ⊎ (IsRun words × BytesCallFor bytes s t)
-        → ((s' ≡ status.Usage) × (¬ (IsRun words))) ⊎ (IsRun words × BytesCallFor bytes s' t') → s ≡ s'
-    go (inl x) (inl y) = x.0 ∙ sym y.0
-    go (inl x) (inr y) = absurd (x.1 y.0)
-    go (inr x) (inl y) = absurd (y.1 x.0)
-    go (inr x) (inr y) = one_bytes bytes s s' t t' x.1 y.1
-
 -- THE TOP CALL
 
 module _ (words : List (String Global)) (input before after : Option (List ℕ)) (faults faults_after : ℕ) (bytes : List ℕ) (told : IfSome input (λ left. bytes ≡ left)) (ended : Status)
@@ -228,7 +121,7 @@ complete words None before after ended whole not_read not_write = tt
 complete words (Some left) before after ended whole not_read not_write = λ s t called. by_end ended refl s t called
   where
     writing : Writes words (Some left) before after ended → (s : Status) (t : List ℕ) → CallsFor words left s t → ended ≡ s
-    writing w s t called = one_call words left ended s w.text t (subst (λ b. CallsFor words b ended w.text) w.told w.called) called
+    writing w s t called = (one_call words left ended s w.text t (subst (λ b. CallsFor words b ended w.text) w.told w.called) called).0
 
     by_end : (answer : Status) → ended ≡ answer → (s : Status) (t : List ℕ) → CallsFor words left s t → (ended ≡ s) ⊎ (ended ≡ status.Memory)
     by_end status.Done e s t called = inl (writing (whole (subst HasText (sym e) tt)) s t called)
@@ -241,7 +134,7 @@ complete words (Some left) before after ended whole not_read not_write = λ s t 
     by_end status.NotBuilt e s t called = inl (writing (whole (subst HasText (sym e) tt)) s t called)
 
 -- what was read of an input that is too long
-pub long_input : (before after : Option (List ℕ)) → ConsumesFront before after (λ count. count ≡ MAX_INPUT + 1) → (bytes : List ℕ) × IfSome before (λ left. bytes ≡ left) × (MAX_INPUT < length bytes)
+pub long_input : (before after : Option (List ℕ)) → ConsumesFront before after (λ count. count ≡ longest_input + 1) → (bytes : List ℕ) × IfSome before (λ left. bytes ≡ left) × (longest_input < length bytes)
 long_input None after front = let n = front.fits in (front.front, tt, omega (arith, n))
 long_input (Some left) None front = absurd front.consumed
 long_input (Some left) (Some rest) front =
@@ -256,7 +149,7 @@ any_input (Some left) = (left, refl)
 
 -- why bytes are no sheet
 pub sheet_refused : (before after : Option (List ℕ)) (faults faults_after : ℕ) (bytes : List ℕ) (error : SheetError) (written : Result (Unit {0}) Failed) (result : Status)
-    → length bytes ≤ MAX_INPUT → Answers bytes (Err error) → error ≢ unread.Memory → Puts before after faults faults_after (sheet_line error) written
+    → length bytes ≤ longest_input → Answers bytes (Err error) → error ≢ unread.Memory → Puts before after faults faults_after (sheet_line error) written
     → MatchResult written (λ _. result ≡ status.Sheet) (λ _. result ≡ status.WriteFault) → EndsBy (BytesCallFor bytes) before after faults faults_after result
 sheet_refused before after faults faults_after bytes error written result short answers told puts is =
     ends_written (BytesCallFor bytes) before after faults faults_after status.Sheet (sheet_line error) written result tt
@@ -270,5 +163,5 @@ admission_refused before after faults faults_after bytes sheet why written resul
     ends_written (BytesCallFor bytes) before after faults faults_after status.NotAdmitted (refused_line why) written result tt
     (record { sheet = sheet; is = is; why = why; told = told; refusal = refusal; text_is = refl }) puts ended
 
-pub read_sheet : (bytes : List ℕ) (sheet : Sheet) → length bytes ≤ MAX_INPUT → Answers bytes (Ok sheet) → IsSheetOf bytes sheet
+pub read_sheet : (bytes : List ℕ) (sheet : Sheet) → length bytes ≤ longest_input → Answers bytes (Ok sheet) → IsSheetOf bytes sheet
 read_sheet bytes sheet short answers = record { short = short; read = answers }

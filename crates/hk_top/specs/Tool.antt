@@ -6,9 +6,9 @@ use Rattle.std.specs.declared.alloc.Global.{Global}
 use Rattle.std.specs.Io.KnownBytes.{Appends}
 use Rattle.hk_io.specs.declared.Status.{Status}
 use Rattle.hk_io.specs.declared.Status.TheVariants as status
-use Rattle.hk_io.specs.declared.whole.TheConstants.{MAX_INPUT}
 use Rattle.hk_io.specs.Bytes.{AppendsPrefix}
 use Rattle.hk_io.specs.Faults.{Rose}
+use Rattle.hk_io.specs.Limits.{longest_input}
 use Rattle.hk_sheet.specs.declared.error.SheetError.{SheetError}
 use Rattle.hk_sheet.specs.declared.error.SheetError.TheVariants as unread
 use Rattle.hk_sheet.specs.declared.sheet.High.{High}
@@ -35,18 +35,18 @@ is_unbuilt sheet = nat_lt 0 (length sheet.low) || list_any (λ (task : High). us
 
 -- the bytes aren't too many, and they are this sheet
 pub record IsSheetOf (bytes : List ℕ) (sheet : Sheet) : Type 0 where
-  pub short : length bytes ≤ MAX_INPUT
+  pub short : length bytes ≤ longest_input
   pub read : IsRead bytes (Ok sheet)
 
 -- the bytes aren't too many, and this is why they are no sheet
 pub record IsNoSheet (bytes : List ℕ) (error : SheetError) : Type 0 where
-  pub short : length bytes ≤ MAX_INPUT
+  pub short : length bytes ≤ longest_input
   pub told : error ≢ unread.Memory
   pub answers : Answers bytes (Err error)
 
 -- the line for bytes that are too many, or no sheet
 pub data IsUnread (bytes : List ℕ) (text : List ℕ) : Type 0 where
-  too_long : MAX_INPUT < length bytes → text ≡ long_line → IsUnread bytes text
+  too_long : longest_input < length bytes → text ≡ long_line → IsUnread bytes text
   no_sheet : (error : SheetError) → IsNoSheet bytes error → text ≡ sheet_line error → IsUnread bytes text
 
 -- the line for bytes that are a sheet which isn't admitted
@@ -85,7 +85,8 @@ BytesCallFor bytes status.NotBuilt text = IsNotBuilt bytes text
 BytesCallFor bytes status.Done text = IsReport bytes text
 BytesCallFor bytes other text = ⊥
 
--- WHAT THE WORDS AND THE BYTES CALL FOR. Words other than the one word `run` call for the usage line, whatever the bytes
+-- WHAT THE WORDS AND THE BYTES CALL FOR: one end at most, and one text (the law `one_end_and_one_text`). Words other than the
+-- one word `run` call for the usage line, whatever the bytes
 abbrev pub CallsFor : List (String Global) → (bytes : List ℕ) → Status → (text : List ℕ) → Type 0
 CallsFor words bytes status.Usage text = (¬ (IsRun words)) × (text ≡ usage_line)
 CallsFor words bytes other text = IsRun words × BytesCallFor bytes other text
@@ -128,4 +129,5 @@ pub record EndsBy (Calls : Status → List ℕ → Type 0) (before after : Optio
   pub prefix : ended ≡ status.WriteFault → (other : Status) × (text : List ℕ) × Calls other text × AppendsPrefix before after text
   pub cause : ended ≡ status.WriteFault → Rose faults faults_after
   pub no_read : ended ≢ status.ReadFault
+  pub kept : ended ≢ status.WriteFault → faults_after ≡ faults
   pub later : faults ≤ faults_after

@@ -10,5 +10,5 @@ mod run;
 mod tests;
 mod tool;
 
-pub use laws::each_run_keeps_its_schedule;
+pub use laws::{each_run_keeps_its_schedule, one_end_and_one_text};
 pub use tool::run_tool;

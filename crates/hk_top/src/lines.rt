@@ -1,7 +1,7 @@
 //! The lines of the report.
 ghost use Rattle.std.specs.Prelude.{◌≡◌, ◌+◌, ◌≤◌, length};
 ghost use Rattle.hk_io.specs.Line.{with_word, with_number, with_end};
-ghost use Rattle.hk_io.specs.declared.line.TheConstants.{LINE_ROOM};
+ghost use Rattle.hk_io.specs.Limits.{longest_line};
 ghost use Rattle.hk_sheet.specs.declared.sheet.TheConstants.{MAX_NAME};
 ghost use Rattle.hk_top.specs.Text.{heap_line, high_line, low_line, out_line, done_line, cycles_line, end_line};
 
@@ -9,7 +9,7 @@ use hk_io::Line;
 
 /// Adds a word to a line that has room for it and a space.
 fn add_word(line: &mut Line, bytes: &[u8])
-    requires { length line.old + 1 + length bytes.now ≤ LINE_ROOM }
+    requires { length line.old + 1 + length bytes.now ≤ longest_line }
     ensures added { line.new ≡ with_word line.old bytes.now }
     ensures room { length line.new ≤ length line.old + 1 + length bytes.now }
 {
@@ -18,7 +18,7 @@ fn add_word(line: &mut Line, bytes: &[u8])
 
 /// Adds a number to a line that has room for 20 digits and a space.
 pub fn add_number(line: &mut Line, value: u64)
-    requires { length line.old + 21 ≤ LINE_ROOM }
+    requires { length line.old + 21 ≤ longest_line }
     ensures added { line.new ≡ with_number line.old value }
     ensures room { length line.new ≤ length line.old + 21 }
 {
@@ -27,7 +27,7 @@ pub fn add_number(line: &mut Line, value: u64)
 
 /// Ends a line that has room for the newline.
 fn end(line: &mut Line)
-    requires { length line.old + 1 ≤ LINE_ROOM }
+    requires { length line.old + 1 ≤ longest_line }
     ensures { line.new ≡ with_end line.old }
 {
     line.end();

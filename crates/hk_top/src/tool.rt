@@ -3,7 +3,7 @@ ghost use Rattle.std.specs.Prelude.{◌≡◌, ◌≢◌, ◌⊎◌, ◌↔◌, 
 ghost use Rattle.std.specs.Io.KnownBytes.{Appends, IsAtEnd};
 ghost use Rattle.hk_io.specs.Bytes.{AppendsPrefix};
 ghost use Rattle.hk_io.specs.Faults.{Rose};
-ghost use Rattle.hk_io.specs.declared.whole.TheConstants.{MAX_INPUT};
+ghost use Rattle.hk_io.specs.Limits.{longest_input};
 ghost use Rattle.std.specs.List.{list_any};
 ghost use Rattle.hk_admit.specs.Refusals.{IsRefusal};
 ghost use Rattle.hk_sheet.specs.Answers.{Answers};
@@ -104,7 +104,7 @@ fn run_admitted<K: Sink>(alloc: Global, admitted: &Admitted, sink: &mut K) -> St
 
 /// Ends the program for bytes that are no sheet.
 fn refuse_sheet<K: Sink>(error: &SheetError, sink: &mut K) -> Status
-    ensures ends { (bytes : List ℕ) → length bytes ≤ MAX_INPUT → Answers bytes (Err error.now)
+    ensures ends { (bytes : List ℕ) → length bytes ≤ longest_input → Answers bytes (Err error.now)
         → EndsBy (BytesCallFor bytes) (K.taken sink.old) (K.taken sink.new) (K.faults sink.old) (K.faults sink.new) result }
     ensures memory { result ≡ Status.Memory → sink.new ≡ sink.old }
 {
@@ -128,7 +128,7 @@ fn refuse_admission<K: Sink>(refused: &Refused, sink: &mut K) -> Status
 
 /// Runs the sheet that an input is, and writes its report.
 fn run_bytes<K: Sink>(alloc: Global, bytes: &[u8], sink: &mut K) -> Status
-    requires { length bytes.now ≤ MAX_INPUT }
+    requires { length bytes.now ≤ longest_input }
     ensures ends { EndsBy (BytesCallFor bytes.now) (K.taken sink.old) (K.taken sink.new) (K.faults sink.old) (K.faults sink.new) result }
     ensures memory { result ≡ Status.Memory → sink.new ≡ sink.old }
 {
@@ -144,8 +144,8 @@ fn run_bytes<K: Sink>(alloc: Global, bytes: &[u8], sink: &mut K) -> Status
 
 /// Does what the words ask for. For the one word `run` it reads the input, a task sheet, to its end, admits it, runs it,
 /// and writes the report. What is refused gets one line. Wrong words are refused before anything is read; nothing is
-/// written before the input was read. Memory is taken for the input, the sheet and the opening of the run, none while the
-/// run goes on.
+/// written before the input was read, and where a read fails nothing is written at all. Memory is taken for the input,
+/// the sheet and the opening of the run, none while the run goes on.
 pub fn run_tool<S: Source, K: Sink>(
     alloc: Global,
     words: &[String],
@@ -160,9 +160,12 @@ pub fn run_tool<S: Source, K: Sink>(
     ensures wrong_words { ¬ (IsRun words.now) → (result ≡ Status.Usage) ⊎ (result ≡ Status.WriteFault) }
     ensures untouched { ¬ (IsRun words.now) → source.new ≡ source.old }
 
-    // What failed.
+    // What failed. Each other answer comes only where the count of faults stayed as it was: a failed read is never taken for
+    // the end of the input, and no failed write for a text, also where source and sink don't tell their bytes.
     ensures read { result ≡ Status.ReadFault → Rose (S.faults source.old) (S.faults source.new) × (sink.new ≡ sink.old) }
+    ensures no_read_failed { result ≢ Status.ReadFault → S.faults source.new ≡ S.faults source.old }
     ensures write { result ≡ Status.WriteFault → Rose (K.faults sink.old) (K.faults sink.new) }
+    ensures no_write_failed { result ≢ Status.WriteFault → K.faults sink.new ≡ K.faults sink.old }
     ensures prefix { result ≡ Status.WriteFault → WritesPrefix words.now (S.left source.old) (K.taken sink.old) (K.taken sink.new) }
     ensures memory { result ≡ Status.Memory → sink.new ≡ sink.old }
 

@@ -27,10 +27,11 @@ use Rattle.hk_core.specs.Facts.{HoldsRange, FoundRoom}
 use Rattle.hk_core.specs.Lawful.{Facts, FactsOf, hands_of}
 use Rattle.hk_core.proofs.kinds.Read.{ShapesFit}
 use Rattle.hk_core.proofs.kinds.WriteCell.{ShadesMean, IsGreyIn, IsMoving, CellFacts, cell_words, shades_mean, shades_cell, cleared_marks, reference_parts, size_of_reference}
-use Rattle.hk_core.proofs.kinds.Reserve.{size_some, marking_is_busy}
+use Rattle.hk_core.proofs.kinds.Reserve.{marking_is_busy}
 use Rattle.hk_core.proofs.kinds.NewRaise.{making_has_room}
 use Rattle.hk_collect.proofs.spots.Spots.{WorkFacts, GoesMarking, work_facts, marking_on, on_spot}
 use Rattle.hk_collect.proofs.spots.SpotLines.{AtItem, InObject, AtCell, at_cell, cell_works, object_trade_works}
+use Rattle.hk_core.proofs.Shared.{size_some}
 
 -- THE OBJECT THAT IS MOVED
 

@@ -25,7 +25,7 @@ use Rattle.hk_core.proofs.Counts.{count_bounded}
 use Rattle.hk_core.proofs.kinds.LoadRead.{ColoursMean, colours_mean, some_words}
 use Rattle.hk_core.proofs.kinds.NewHeader.{cycle_inside_through, loaded_inside_through}
 use Rattle.hk_core.proofs.kinds.NewRaise.{making_raised}
-use Rattle.hk_core.proofs.kinds.Read.{refuted}
+use Rattle.hk_core.proofs.Shared.{refuted}
 use Rattle.hk_collect.proofs.spots.SpotSweepCounts.{count_listed}
 use Rattle.hk_collect.proofs.spots.SpotSweepLines.{kept_marked, kept_current, none_reserves}
 use Rattle.hk_collect.proofs.spots.Spots.{hands_kept}

@@ -17,12 +17,13 @@ use Rattle.hk_core.specs.Colours.{Spaces, spaces_of, Shades, shades_of, held_by,
 use Rattle.hk_core.specs.Facts.{ObjectBehind}
 use Rattle.hk_core.specs.Lawful.{FactsOf}
 use Rattle.hk_core.proofs.kinds.Seats.{kept_means}
-use Rattle.hk_core.proofs.kinds.Read.{ShapesFit, refuted}
+use Rattle.hk_core.proofs.kinds.Read.{ShapesFit}
 use Rattle.hk_core.proofs.kinds.LoadRead.{shown_good}
 use Rattle.hk_core.proofs.kinds.WriteCell.{reference_parts, size_of_reference}
 use Rattle.hk_core.proofs.kinds.ReserveSeats.{BearersHaveFields, two_words}
 use Rattle.hk_collect.proofs.spots.SpotLines.{AtItem, InObject, AtCell, AtObjectTrade, at_look, at_cell, at_object_trade, look_works, cell_works}
 use Rattle.hk_collect.proofs.spots.SpotLoads.{work_at, goes_on, took_at}
+use Rattle.hk_core.proofs.Shared.{refuted}
 
 never : {A : Type 0} → false ≡ true → A
 never e = absurd (cc)

@@ -17,7 +17,7 @@ use Rattle.hk_core.specs.Lines as l
 use Rattle.hk_core.specs.Colours.{spaces_of, Shades, shades_of}
 use Rattle.hk_core.specs.Facts.{IsSettled}
 use Rattle.hk_core.specs.Lawful.{FactsOf}
-use Rattle.hk_core.proofs.kinds.Read.{refuted}
+use Rattle.hk_core.proofs.Shared.{refuted}
 use Rattle.hk_core.proofs.kinds.WriteCell.{IsGreyIn, shades_mean}
 use Rattle.hk_collect.proofs.spots.SpotLines.{AtPass, at_pass, at_pass_head, scan_works, pass_works, pass_head_works}
 use Rattle.hk_collect.proofs.spots.SpotLoads.{work_at, goes_on, took_at}

@@ -35,7 +35,7 @@ use Rattle.hk_core.proofs.kinds.Seats.{NewsFacts, own_not_kept, headless_not_kep
 use Rattle.hk_core.proofs.kinds.Read.{ShapesFit}
 use Rattle.hk_core.proofs.kinds.WriteCell.{ShadesMean, SpacesApart, IsGreyIn, IsMoving, shades_mean, reference_parts}
 use Rattle.hk_core.proofs.kinds.LoadRead.{ColoursMean, colours_mean, kept_number, shown_birth}
-use Rattle.hk_core.proofs.kinds.Reserve.{size_some}
+use Rattle.hk_core.proofs.Shared.{size_some}
 use Rattle.hk_core.proofs.kinds.NewRaise.{making_has_room}
 use Rattle.hk_collect.proofs.spots.Spots.{WorkFacts, GoesMarking, hands_kept, shades_kept, work_facts, marking_on, on_spot}
 use Rattle.hk_collect.proofs.spots.SpotLines.{AtItem, AtObjectTrade, at_object_trade, look_works, scan_works}

@@ -31,7 +31,7 @@ use Rattle.hk_core.proofs.kinds.Read.{ShapesFit}
 use Rattle.hk_core.proofs.kinds.WriteCell.{IsMoving, shades_mean}
 use Rattle.hk_core.proofs.kinds.Words.{words-write_cell}
 use Rattle.hk_core.proofs.kinds.ClaimWords.{words-claim, words-reserve, link_place_fits}
-use Rattle.hk_core.proofs.kinds.Reserve.{reserve_range, size_some}
+use Rattle.hk_core.proofs.kinds.Reserve.{reserve_range}
 use Rattle.hk_core.proofs.kinds.ReserveSeats.{BearersHaveFields, found-claim, found-reserve}
 use Rattle.hk_collect.proofs.spots.Spots.{work_facts}
 use Rattle.hk_collect.proofs.spots.SpotLines.{AtCell, at_cell}
@@ -39,6 +39,7 @@ use Rattle.hk_collect.proofs.spots.SpotClaim.{own_hand, register_hand, cell_hand
 use Rattle.hk_collect.proofs.spots.SpotTrade.{blackened_words, frame_traded, frame_trade_lost}
 use Rattle.hk_collect.proofs.spots.SpotCopy.{moving, cell_marks, cell_copied}
 use Rattle.hk_collect.proofs.spots.SpotMove.{moved_words, item_there, object_traded, object_trade_lost}
+use Rattle.hk_core.proofs.Shared.{size_some}
 
 -- WHAT THE WORDS SAY AFTER AN EXCHANGE
 

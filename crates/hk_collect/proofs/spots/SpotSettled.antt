@@ -20,7 +20,7 @@ use Rattle.hk_core.specs.Colours.{Spaces, Shades, IsGood, NamesNoWhite}
 use Rattle.hk_core.specs.Facts.{IsSettled}
 use Rattle.hk_core.specs.Lawful.{Facts}
 use Rattle.hk_core.proofs.kinds.Seats.{FlightFacts, CallsFacts, facts_of_flight}
-use Rattle.hk_core.proofs.kinds.Read.{refuted}
+use Rattle.hk_core.proofs.Shared.{refuted}
 use Rattle.hk_core.proofs.kinds.LoadRead.{ColoursMean, settled_black, some_words}
 use Rattle.hk_core.proofs.kinds.WriteCell.{ShadesMean}
 use Rattle.hk_collect.proofs.spots.SpotLines.{AllBlack}

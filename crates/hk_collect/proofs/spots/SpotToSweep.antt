@@ -23,7 +23,7 @@ use Rattle.hk_core.specs.Facts as fact
 use Rattle.hk_core.specs.Facts.{IsSettled, IsMoved}
 use Rattle.hk_core.specs.Lawful.{Facts, FactsOf, hands_of}
 use Rattle.hk_core.proofs.kinds.LoadRead.{ColoursMean, colours_mean, kept_number, settled_black, shown_birth, some_words}
-use Rattle.hk_core.proofs.kinds.Read.{refuted}
+use Rattle.hk_core.proofs.Shared.{refuted}
 use Rattle.hk_core.proofs.kinds.Seats.{IsKept, kept_parts}
 use Rattle.hk_collect.proofs.spots.SpotSweepLines.{sweep_spot}
 use Rattle.hk_collect.proofs.spots.Spots.{SpotFacts, MarkingLine, marking_line, hands_kept}

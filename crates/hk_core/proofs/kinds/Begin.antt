@@ -26,11 +26,11 @@ use Rattle.hk_core.specs.Facts.{IsSettled}
 use Rattle.hk_core.specs.Lawful.{Facts, FactsOf, hands_of, Lawful}
 use Rattle.hk_core.specs.State.{State}
 use Rattle.hk_core.proofs.Update.{each_upd}
-use Rattle.hk_core.proofs.Counts.{one_if, count-upd_in, sum-upd_in}
+use Rattle.hk_core.proofs.Counts.{one_if, count-upd_in, sum-upd_in, one_at_most}
 use Rattle.hk_core.proofs.Columns.{raw_register}
 use Rattle.hk_core.proofs.Encode.{flight_at-set, begun_at-set}
 use Rattle.hk_core.proofs.kinds.Seats.{FlightFacts, CallsFacts, Changes, MakesNothing, calls_upd, facts_of_flight, counted_kept, frames_counted_kept, hands_upd, shades_upd}
-use Rattle.hk_core.proofs.kinds.Read.{refuted}
+use Rattle.hk_core.proofs.Shared.{refuted}
 
 -- THE FIRST FLIGHT
 
@@ -276,10 +276,6 @@ bounded_begin before flight begun s n version y below h =
     let sum : sum_below n (upd begun s (begun s + 1)) + begun s ≡ sum_below n begun + (begun s + 1) = sum-upd_in (λ k. k) begun s (begun s + 1) n below in
     let one : one_if (before y) ≤ 1 = one_at_most (before y) in
     omega arith
-  where
-    one_at_most : (b : Bool) → one_if b ≤ 1
-    one_at_most true = omega arith
-    one_at_most false = omega arith
 
 -- ALL FACTS
 

@@ -219,33 +219,3 @@ store_item_good g kept names register flight s reg field from below is_store fly
   where
     register_from : (g : Geometry) (reg field from : ℕ) → RegistersFit g.registers (call.Store reg field from) → from < g.registers
     register_from g reg field from fit = fit.1
-
--- all facts hold after a Load has claimed
-pub load_claims : (g : Geometry) (w : Words) (flight : ℕ → Flight) (begun : ℕ → ℕ) (t : Spot) (names : Names) (contents : Contents) (range : ℕ → Option ℕ) (s dest reg field : ℕ)
-    → s < tasks g → (flight s).call ≡ call.Load dest reg field → (flight s).place ≡ 5 → (flight s).item ≢ 0 → FactsOf g w flight begun t names contents range
-    → FactsOf g (claim_words w (claimed_number (flight s)) (f.cycle_of (flight s))) (upd flight s (claim_on (flight s) 6 (claims (flight s) (w.mark (claimed_number (flight s)))) (flight s).offset))
-    begun t names contents range
-load_claims g w flight begun t names contents range s dest reg field below is_load at_5 some h =
-    claims_facts g w flight begun t names contents range s 6 below (rw (is_load, at_5) (load_claims_at dest reg field)) some
-    (load_item_good g (shades_of g w flight t.line names).kept names flight s dest reg field below is_load (rw at_5 refl) some h.loaded_good).is_kept h
-
-pub load_claims_null : (g : Geometry) (w : Words) (flight : ℕ → Flight) (begun : ℕ → ℕ) (t : Spot) (names : Names) (contents : Contents) (range : ℕ → Option ℕ) (s dest reg field : ℕ)
-    → s < tasks g → (flight s).call ≡ call.Load dest reg field → (flight s).place ≡ 5 → (flight s).item ≡ 0 → FactsOf g w flight begun t names contents range
-    → FactsOf g w (upd flight s (claim_on (flight s) 6 (claims (flight s) 0) (flight s).offset)) begun t names contents range
-load_claims_null g w flight begun t names contents range s dest reg field below is_load at_5 none h =
-    claims_rests g w flight begun t names contents range s 6 below (rw (is_load, at_5) (load_claims_at dest reg field)) none h
-
--- all facts hold after a Store has claimed
-pub store_claims : (g : Geometry) (w : Words) (flight : ℕ → Flight) (begun : ℕ → ℕ) (t : Spot) (names : Names) (contents : Contents) (range : ℕ → Option ℕ) (s reg field from : ℕ)
-    → s < tasks g → (flight s).call ≡ call.Store reg field from → (flight s).place ≡ 3 → (flight s).item ≢ 0 → FactsOf g w flight begun t names contents range
-    → FactsOf g (claim_words w (claimed_number (flight s)) (f.cycle_of (flight s))) (upd flight s (claim_on (flight s) 4 (claims (flight s) (w.mark (claimed_number (flight s)))) (flight s).offset))
-    begun t names contents range
-store_claims g w flight begun t names contents range s reg field from below is_store at_3 some h =
-    claims_facts g w flight begun t names contents range s 4 below (rw (is_store, at_3) (store_claims_at reg field from)) some
-    (store_item_good g (shades_of g w flight t.line names).kept names w.register flight s reg field from below is_store (rw at_3 refl) some h.flights_formed h.copied_stays h.registers_good).is_kept h
-
-pub store_claims_null : (g : Geometry) (w : Words) (flight : ℕ → Flight) (begun : ℕ → ℕ) (t : Spot) (names : Names) (contents : Contents) (range : ℕ → Option ℕ) (s reg field from : ℕ)
-    → s < tasks g → (flight s).call ≡ call.Store reg field from → (flight s).place ≡ 3 → (flight s).item ≡ 0 → FactsOf g w flight begun t names contents range
-    → FactsOf g w (upd flight s (claim_on (flight s) 4 (claims (flight s) 0) (flight s).offset)) begun t names contents range
-store_claims_null g w flight begun t names contents range s reg field from below is_store at_3 none h =
-    claims_rests g w flight begun t names contents range s 4 below (rw (is_store, at_3) (store_claims_at reg field from)) none h

@@ -19,7 +19,7 @@ use Rattle.hk_core.specs.declared.spot.Line.TheVariants as line
 use Rattle.hk_core.specs.Collect.{current_space}
 use Rattle.hk_core.specs.Counts.{count_below}
 use Rattle.hk_core.specs.Step.{new_place, reference_size}
-use Rattle.hk_core.specs.View.{Words, Names, Contents, refs_at, nums_at, size_at, reference_at}
+use Rattle.hk_core.specs.View.{Words, Names, Contents, reference_at}
 use Rattle.hk_core.specs.Flights as f
 use Rattle.hk_core.specs.Flights.{Hand, no_claim, to_reserve, to_link}
 use Rattle.hk_core.specs.Lines as l
@@ -28,11 +28,12 @@ use Rattle.hk_core.specs.Facts as fact
 use Rattle.hk_core.specs.Facts.{HoldsRange, ObjectBehind, FoundRoom}
 use Rattle.hk_core.specs.Lawful.{Facts}
 use Rattle.hk_core.proofs.Waiting.{held_else, linking_else, linking_not_reserving, linking_not_elsewhere}
-use Rattle.hk_core.proofs.Update.{upd_cases}
+use Rattle.hk_core.proofs.Update.{upd_cases, unwritten}
 use Rattle.hk_core.proofs.Counts.{count_kept}
 use Rattle.hk_core.proofs.kinds.Read.{ShapesFit}
-use Rattle.hk_core.proofs.kinds.WriteCell.{ShadesMean, IsGreyIn, IsMoving, CellFacts, cell_words, attempt_moves, loaded_moves, cleared_marks, reference_parts, size_of_reference}
-use Rattle.hk_core.proofs.kinds.Reserve.{size_some, marking_is_busy, grey_is_marking}
+use Rattle.hk_core.proofs.kinds.WriteCell.{ShadesMean, some_words, not_grey, IsMoving, CellFacts, cell_words, attempt_moves, loaded_moves, cleared_marks, reference_parts, size_of_reference}
+use Rattle.hk_core.proofs.kinds.Reserve.{marking_is_busy, grey_is_marking}
+use Rattle.hk_core.proofs.Shared.{never_both, one_value, size_borne}
 
 -- what a link asks of whoever holds the claim: the reference is that of the object of its number, and the current space is one
 -- of the two of the geometry
@@ -45,12 +46,6 @@ pub record CanLink (g : Geometry) (cycle : ℕ) (z : Spaces) (names : Names) (ha
 
 -- THE CLAIM IN HAND
 
-no_range : {A : Type 0} (o : Option ℕ) (n : ℕ) → o ≡ None → o ≡ Some n → A
-no_range o n none some = absurd (cc)
-
-one_number : (o : Option ℕ) (m n : ℕ) → o ≡ Some m → o ≡ Some n → m ≡ n
-one_number o m n a b = cc
-
 none_reserves : {A : Type 0} (a : Hand) (item c : ℕ) → a ≡ no_claim → a ≡ to_reserve item c → A
 none_reserves a item c e h = absurd (cc)
 
@@ -59,7 +54,7 @@ none_links a item c offset e h = absurd (cc)
 
 none_has_item : {A : Type 0} (a : Hand) (item : ℕ) → a ≡ no_claim → f.item_in a ≡ Some item → A
 unfolding f.item_in
-none_has_item a item e h = let none : f.item_in a ≡ None = ap f.item_in e in no_range (f.item_in a) item none h
+none_has_item a item e h = let none : f.item_in a ≡ None = ap f.item_in e in never_both (f.item_in a) item none h
 
 item_to_link : (a : Hand) (item c offset : ℕ) → a ≡ to_link item c offset → f.item_in a ≡ Some item
 unfolding f.item_in
@@ -129,14 +124,6 @@ item_at_range (line.Sweep n stage) e = absurd (cc)
 item_at_range (line.Clear j) e = absurd (cc)
 item_at_range line.Reset e = absurd (cc)
 
-size_borne : (names : Names) (n b : ℕ) → names.bearer n ≡ Some b → size_at names n ≡ 1 + names.refs b + names.nums b
-unfolding size_at refs_at nums_at
-size_borne names n b e = rw e refl
-
--- a column after a write at another index
-unwritten : (cell : ℕ → ℕ) (p v i : ℕ) (P : ℕ → Type 0) → i ≢ p → P (cell i) → P (upd cell p v i)
-unwritten cell p v i P differ o = rw (upd_other cell p v i differ) o
-
 -- THE WORD AND THE OTHERS
 
 module _ (g : Geometry) (w : Words) (z : Spaces) (sh : Shades) (flight : ℕ → Flight) (begun : ℕ → ℕ) (hand : ℕ → Hand) (t : Spot)
@@ -145,24 +132,13 @@ module _ (g : Geometry) (w : Words) (z : Spaces) (sh : Shades) (flight : ℕ →
   held : HoldsRange z w.cycle sh.grey sh.size w.cell range item c offset
   held = h.claims_unlinked k item c offset o.within o.holds
 
-  some_words : (j : ℕ) → 0 < sh.size j
-  some_words j = let e = m.size j in let some = size_some names j in omega arith
-
   offset_in_area : offset < z.live
-  offset_in_area = let fits : offset + sh.size (layout.reference_number item) ≤ z.live = held.fits in let some = some_words (layout.reference_number item) in omega arith
-
-  -- a number whose place is in the current space isn't grey
-  not_grey : (j y : ℕ) → w.place j ≡ z.current + y → y < z.live → sh.grey j ≢ true
-  not_grey j y stands below e =
-      let a : IsGreyIn z w.cycle w.place w.mark j = m.grey j e in
-      let after : z.old ≤ w.place j = a.after in
-      let before : w.place j < z.old + (z.live + z.alloc) = a.before in
-      elim m.spaces [ inl b ↦ omega arith | inr b ↦ omega arith ]
+  offset_in_area = let fits : offset + sh.size (layout.reference_number item) ≤ z.live = held.fits in let some = some_words g w z sh flight t.line names m (layout.reference_number item) in omega arith
 
   -- the range is ahead of the scan, so its number is kept, and the collector looks for objects
   not_scanned : t.scan ≤ offset
   not_scanned = elim (cases_lt offset t.scan) [
-    | inl lower ↦ absurd (not_grey (layout.reference_number item) offset (h.ranges_below_moved offset (layout.reference_number item) held.has_range lower).stands offset_in_area held.is_grey)
+    | inl lower ↦ absurd (not_grey g w z sh flight t.line names m (layout.reference_number item) offset (h.ranges_below_moved offset (layout.reference_number item) held.has_range lower).stands offset_in_area held.is_grey)
     | inr upper ↦ omega arith
   ]
 
@@ -181,7 +157,7 @@ module _ (g : Geometry) (w : Words) (z : Spaces) (sh : Shades) (flight : ℕ →
       let there : range y ≡ Some j = h.moved_stands_in_range busy j y kept stands below in
       elim (cases_lt y t.scan) [
         | inl lower ↦ (h.ranges_below_moved y j there lower).ends
-        | inr upper ↦ absurd (not_grey j y stands below (h.ranges_above_grey y j there (omega arith)).1)
+        | inr upper ↦ absurd (not_grey g w z sh flight t.line names m j y stands below (h.ranges_above_grey y j there (omega arith)).1)
       ]
 
   -- the word is in no kept object
@@ -214,7 +190,7 @@ module _ (g : Geometry) (w : Words) (z : Spaces) (sh : Shades) (flight : ℕ →
 
   -- it is none of the link words of other ranges, nor of the words of the range at the scan
   own_range : (x j : ℕ) → range x ≡ Some j → x ≡ offset → j ≡ layout.reference_number item
-  own_range x j there same = one_number (range x) j (layout.reference_number item) there (ap range same ∙ held.has_range)
+  own_range x j there same = one_value (range x) j (layout.reference_number item) there (ap range same ∙ held.has_range)
 
   -- the object that is moved
   is_moving : l.has_item t.line ≡ true → IsMoving z sh t.scan t.item range
@@ -251,7 +227,7 @@ module _ (g : Geometry) (w : Words) (z : Spaces) (sh : Shades) (flight : ℕ →
       let moving : IsMoving z sh t.scan t.item range = is_moving moves.0 in
       let size : reference_size t.item ≡ sh.size (layout.reference_number t.item) = moving.size in
       let same : offset ≡ t.scan + 1 + i = omega arith in
-      no_range (range offset) (layout.reference_number item)
+      never_both (range offset) (layout.reference_number item)
       (h.ranges_apart t.scan (layout.reference_number t.item) offset moving.has_range (omega arith) (omega arith)) held.has_range
 
   in_no_scan : l.has_item t.line ≡ true → z.current + t.scan ≢ z.current + offset
@@ -322,7 +298,7 @@ module _ (g : Geometry) (w : Words) (z : Spaces) (sh : Shades) (flight : ℕ →
       record {
         free_is_zero = λ i below free. unwritten w.cell p item (z.current + (z.live + i)) (λ a. a ≡ 0) (λ e. omega arith) (h.free_is_zero i below free);
         unreserved_is_zero = λ going x below free. unwritten w.cell p item (z.current + x) (λ a. a ≡ 0)
-            (λ e. free offset (layout.reference_number item) held.has_range held.fits (record { after = omega arith; before = let some = some_words (layout.reference_number item) in omega arith }))
+            (λ e. free offset (layout.reference_number item) held.has_range held.fits (record { after = omega arith; before = let some = some_words g w z sh flight t.line names m (layout.reference_number item) in omega arith }))
             (h.unreserved_is_zero going x below free);
         unused_is_zero = λ rests. absurd (both_ways _ busy rests);
         cleared_is_zero = λ i below. absurd (both_ways _ (cleared_marks g t t.line i h.spot_formed below).0 marking);

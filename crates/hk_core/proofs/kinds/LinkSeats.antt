@@ -197,38 +197,6 @@ store_links_at reg field from = record {
   links = refl;
 }
 
--- all facts hold after a Load has linked
-pub load_links : (g : Geometry) (w : Words) (flight : ℕ → Flight) (begun : ℕ → ℕ) (t : Spot) (names : Names) (contents : Contents) (range : ℕ → Option ℕ) (s dest reg field : ℕ)
-    → s < tasks g → (flight s).call ≡ call.Load dest reg field → (flight s).place ≡ 7 → links g (flight s) ≡ true → ShapesFit names
-    → FactsOf g w flight begun t names contents range
-    → FactsOf g (cell_words w (link_place g (flight s)) (flight s).item) (upd flight s (claim_on (flight s) 8 (flight s).claimer (flight s).offset)) begun t names contents range
-load_links g w flight begun t names contents range s dest reg field below is_load at_7 in_hand fit h =
-    links_facts g w flight begun t names contents range s 8 below (rw (is_load, at_7) (load_links_at dest reg field)) in_hand
-    (λ some. load_item_good g (shades_of g w flight t.line names).kept names flight s dest reg field below is_load (rw at_7 refl) some h.loaded_good) fit h
-
-pub load_links_none : (g : Geometry) (w : Words) (flight : ℕ → Flight) (begun : ℕ → ℕ) (t : Spot) (names : Names) (contents : Contents) (range : ℕ → Option ℕ) (s dest reg field : ℕ)
-    → s < tasks g → (flight s).call ≡ call.Load dest reg field → (flight s).place ≡ 7 → links g (flight s) ≡ false
-    → FactsOf g w flight begun t names contents range
-    → FactsOf g w (upd flight s (claim_on (flight s) 8 (flight s).claimer (flight s).offset)) begun t names contents range
-load_links_none g w flight begun t names contents range s dest reg field below is_load at_7 none h =
-    links_rests g w flight begun t names contents range s 8 below (rw (is_load, at_7) (load_links_at dest reg field)) none h
-
--- all facts hold after a Store has linked
-pub store_links : (g : Geometry) (w : Words) (flight : ℕ → Flight) (begun : ℕ → ℕ) (t : Spot) (names : Names) (contents : Contents) (range : ℕ → Option ℕ) (s reg field from : ℕ)
-    → s < tasks g → (flight s).call ≡ call.Store reg field from → (flight s).place ≡ 5 → links g (flight s) ≡ true → ShapesFit names
-    → FactsOf g w flight begun t names contents range
-    → FactsOf g (cell_words w (link_place g (flight s)) (flight s).item) (upd flight s (claim_on (flight s) 6 (flight s).claimer (flight s).offset)) begun t names contents range
-store_links g w flight begun t names contents range s reg field from below is_store at_5 in_hand fit h =
-    links_facts g w flight begun t names contents range s 6 below (rw (is_store, at_5) (store_links_at reg field from)) in_hand
-    (λ some. store_item_good g (shades_of g w flight t.line names).kept names w.register flight s reg field from below is_store (rw at_5 refl) some h.flights_formed h.copied_stays h.registers_good) fit h
-
-pub store_links_none : (g : Geometry) (w : Words) (flight : ℕ → Flight) (begun : ℕ → ℕ) (t : Spot) (names : Names) (contents : Contents) (range : ℕ → Option ℕ) (s reg field from : ℕ)
-    → s < tasks g → (flight s).call ≡ call.Store reg field from → (flight s).place ≡ 5 → links g (flight s) ≡ false
-    → FactsOf g w flight begun t names contents range
-    → FactsOf g w (upd flight s (claim_on (flight s) 6 (flight s).claimer (flight s).offset)) begun t names contents range
-store_links_none g w flight begun t names contents range s reg field from below is_store at_5 none h =
-    links_rests g w flight begun t names contents range s 6 below (rw (is_store, at_5) (store_links_at reg field from)) none h
-
 -- THE ROW
 
 -- the event of a link, a rest where there is nothing to link, and the flight after it

@@ -6,7 +6,7 @@ use Rattle.std.specs.Prelude.{nat_eq}
 use Rattle.hk_words.specs.declared.geometry.Geometry.{Geometry}
 use Rattle.hk_words.specs.declared.call.Call.TheVariants as call
 use Rattle.hk_words.specs.declared.call.Reply.TheVariants as reply
-use Rattle.hk_words.specs.Geometry.{tasks, numbers, space_words}
+use Rattle.hk_words.specs.Geometry.{tasks, space_words}
 use Rattle.hk_words.specs.Calls.{RegistersFit}
 use Rattle.hk_words.specs.Layout as layout
 use Rattle.hk_words.specs.Row.{space_at}
@@ -40,11 +40,12 @@ use Rattle.hk_core.proofs.Columns.{old_at, raw_space, fired_if_some}
 use Rattle.hk_core.proofs.kinds.Seats.{FlightFacts, FlightsFacts, NewsFacts, CallsFacts, KeptMeans, MakesNothing, kept_means, facts_of_flight, facts_of_flights, news_upd, settled_upd, pass_upd}
 use Rattle.hk_core.proofs.kinds.Seats.{hands_upd, shades_upd, counted_kept, versions_kept, frames_counted_kept, frame_versions_kept}
 use Rattle.hk_core.proofs.kinds.Enter.{object_of}
-use Rattle.hk_core.proofs.kinds.Read.{Knows, ShapesFit, read_on, refuted, object_known}
+use Rattle.hk_core.proofs.kinds.Read.{Knows, ShapesFit, read_on, object_known}
 use Rattle.hk_core.proofs.kinds.Words.{words-load}
 use Rattle.hk_core.proofs.kinds.WriteCell.{ShadesMean, shades_mean}
 use Rattle.hk_core.proofs.kinds.WriteRegister.{writing_contents}
 use Rattle.hk_core.proofs.kinds.Effects.{with_register_seen, is_heap}
+use Rattle.hk_core.proofs.Shared.{few_numbers, refuted}
 
 -- COLOURS
 
@@ -87,9 +88,6 @@ shown_none names plain e = rw e refl
 pub shown_birth : (names : Names) (plain : Option ℕ) (b : ℕ) → plain ≡ Some b → shown names plain ≡ layout.pack_reference (names.number b) (names.refs b) (names.nums b)
 unfolding shown
 shown_birth names plain b e = rw e refl
-
-few_numbers : (g : Geometry) (n : ℕ) → n < numbers g → n + 1 < 2 ^ 20
-few_numbers g n h = omega arith
 
 module _ (g : Geometry) (w : Words) (held : ℕ → Bool) (ln : Line) (names : Names) (sh : Shades) (means : KeptMeans g w held ln names sh) where
   -- the reference of a kept birth names its number

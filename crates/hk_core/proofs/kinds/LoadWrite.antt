@@ -1,6 +1,6 @@
 -- A Load writes the reference that it has read into its register. The plain heap has it there since the read, so only
 -- the word changes, and from now on the word shows the plain heap's register.
-use Rattle.std.proofs.Common.{◌≡◌, ◌≢◌, ℕ, ◌<◌, ◌≤◌, Bool, true, false, List, length, inl, inr, refl, sym, ◌∙◌, ap, arith, Option, Some, None}
+use Rattle.std.proofs.Common.{◌≡◌, ◌≢◌, ℕ, ◌<◌, ◌≤◌, true, false, List, length, inl, inr, refl, sym, ◌∙◌, ap, arith, Option, Some, None}
 use Rattle.std.proofs.lemmas.Bool.{cases_eq, cases_lt, and_right, not_from_false, eq-eqb, ne_eqb}
 use Rattle.std.specs.Prelude.{nat_eq, not}
 use Rattle.hk_words.specs.declared.geometry.Geometry.{Geometry}
@@ -14,7 +14,6 @@ use Rattle.hk_model.proofs.Updates.{upd2_same, upd2_other}
 use Rattle.hk_core.specs.declared.event.Event.TheVariants as event
 use Rattle.hk_core.specs.declared.flight.Flight.{Flight}
 use Rattle.hk_core.specs.declared.spot.Spot.{Spot}
-use Rattle.hk_core.specs.declared.spot.Line.{Line}
 use Rattle.hk_core.specs.Begin.{copied}
 use Rattle.hk_core.specs.Event.{fired, fired_if, learnt}
 use Rattle.hk_words.specs.Bounds.{places_of}
@@ -31,10 +30,10 @@ use Rattle.hk_core.proofs.Columns.{fired_if_some}
 use Rattle.hk_core.proofs.kinds.Seats.{FlightFacts, FlightsFacts, NewsFacts, CallsFacts, MakesNothing, moved_on, facts_of_flight, facts_of_flights, news_upd, settled_upd, pass_upd}
 use Rattle.hk_core.proofs.kinds.Seats.{hands_upd, shades_upd, counted_kept, versions_kept, frames_counted_kept, frame_versions_kept}
 use Rattle.hk_core.proofs.kinds.Frame.{work_in_attempt}
-use Rattle.hk_core.proofs.kinds.Read.{refuted}
 use Rattle.hk_core.proofs.kinds.Words.{words-write_register}
-use Rattle.hk_core.proofs.kinds.WriteRegister.{writing_words}
+use Rattle.hk_core.proofs.kinds.WriteRegister.{writing_words, settled_write, shades_write}
 use Rattle.hk_core.proofs.kinds.LoadRead.{ColoursMean, colours_mean}
+use Rattle.hk_core.proofs.Shared.{refuted}
 
 -- ALL FACTS, AFTER A WRITE OF A REGISTER WORD ALONE
 
@@ -69,16 +68,6 @@ flights_write g w sh names plain flight s r v y h mine =
       | inl (e, u) ↦ rw (u, e) mine
       | inr (d, u) ↦ rw u (flight_elsewhere g w sh names plain s r v t (flight t) d (facts_of_flight g w sh names plain flight h t b))
     ])
-
-settled_write : (g : Geometry) (cycle : ℕ) (white grey : ℕ → Bool) (register : ℕ → ℕ → ℕ) (flight : ℕ → Flight) (s r v : ℕ) → NamesNoWhite white v
-    → IsSettled g cycle white grey register flight → IsSettled g cycle white grey (upd2 register s r v) flight
-settled_write g cycle white grey register flight s r v dark h = record {
-  none_grey = h.none_grey;
-  none_late = h.none_late;
-  registers = λ t k b c. elim (upd2_cases register s r v t k) [ inl (i, j, u) ↦ rw u dark | inr (d, u) ↦ rw u (h.registers t k b c) ];
-  entered = h.entered;
-  items = h.items;
-}
 
 module _ (g : Geometry) (w : Words) (z : Spaces) (sh : Shades) (flight : ℕ → Flight) (begun : ℕ → ℕ) (hand : ℕ → Hand) (t : Spot)
     (names : Names) (contents : Contents) (range : ℕ → Option ℕ) (s r v : ℕ) (y : Flight) where
@@ -294,11 +283,6 @@ claimed_not_white w z sh x c not_late claimed = c.not_white (layout.reference_nu
   | inl late ↦ absurd (not_late late)
   | inr recent ↦ omega arith
 ])
-
--- what many facts read of the words is the same after the write
-shades_write : (g : Geometry) (w : Words) (s r v : ℕ) (flight : ℕ → Flight) (ln : Line) (names : Names) → shades_of g (writing_words w s r v) flight ln names ≡ shades_of g w flight ln names
-unfolding shades_of
-shades_write g w s r v flight ln names = refl
 
 -- all facts hold after a Load has written its register; the plain heap stays as it is
 pub load_writes : (g : Geometry) (w : Words) (flight : ℕ → Flight) (begun : ℕ → ℕ) (t : Spot) (names : Names) (contents : Contents) (range : ℕ → Option ℕ) (s dest reg field : ℕ)

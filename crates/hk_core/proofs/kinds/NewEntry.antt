@@ -23,10 +23,10 @@ use Rattle.hk_core.specs.Lawful.{FactsOf, hands_of}
 use Rattle.hk_core.proofs.Counts.{count_kept, any_kept}
 use Rattle.hk_core.proofs.Columns.{raw_entry}
 use Rattle.hk_core.proofs.kinds.Seats.{FlightFacts, FlightsFacts, facts_of_flight}
-use Rattle.hk_core.proofs.kinds.Read.{refuted}
 use Rattle.hk_core.proofs.kinds.NewFlight.{MakingFacts, MakesWell, MakeApartIf, Settles, SameCounts, GoesQuietly, well_of, apart_of, new_inside, new_before_object, new_has_item, new_hand, new_holds_back}
 use Rattle.hk_core.proofs.kinds.NewFlight.{new_in_frame, new_before_frame, new_will_raise, new_has_raised, new_is_making, new_has_number, new_has_header, new_cycle_in_frame, new_flight_facts}
 use Rattle.hk_core.proofs.kinds.NewLoads.{new_on, between, quiet}
+use Rattle.hk_core.proofs.Shared.{refuted}
 
 not_between : (a b p : ℕ) → b < p → (nat_le a p && nat_le p b) ≡ false
 not_between a b p high = and_right (nat_le a p) (nat_le p b) (lt-leb p b high)
@@ -99,9 +99,6 @@ module _ (x : Flight) (q n : ℕ) (dest : ℕ) (shape : Shape) (was : HasMade x 
 
   pub on_raising : x.place ≤ q → q ≤ 7 → f.will_raise (new_on x q n) ≡ f.will_raise x
   on_raising after within = made_raises_no_more (new_on x q n) dest shape (on_made after within) ∙ sym (made_raises_no_more x dest shape was)
-
-  pub on_step : 4 ≤ q → IsNewInStep q x.full x.raised
-  on_step after = record { not_full_yet = λ b. absurd (omega arith); not_raised_yet = λ b. absurd (omega arith); raised_by_then = λ b e. was.raised }
 
 -- the facts of such a flight, in words in which those of the old one hold
 pub on_facts : (g : Geometry) (w : Words) (sh : Shades) (names : Names) (plain : ℕ → ℕ → Option ℕ) (s : ℕ) (x : Flight) (q n dest : ℕ) (shape : Shape) → HasMade x dest shape

@@ -23,7 +23,7 @@ use Rattle.hk_core.specs.Lawful.{Facts}
 use Rattle.hk_core.proofs.Update.{upd_cases, each_upd, pairs_upd}
 use Rattle.hk_core.proofs.Counts.{count_at_most}
 use Rattle.hk_core.proofs.kinds.Seats.{FlightFacts, FlightsFacts, facts_of_flights, flights_upd, pass_upd, counted_kept, frames_counted_kept}
-use Rattle.hk_core.proofs.kinds.Read.{refuted}
+use Rattle.hk_core.proofs.Shared.{refuted}
 
 -- WHAT NEWS SHOW THAT HAVE RAISED W0
 

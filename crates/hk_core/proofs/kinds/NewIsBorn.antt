@@ -30,7 +30,6 @@ use Rattle.hk_core.proofs.Update.{upd_cases, upd2_cases}
 use Rattle.hk_core.proofs.Counts.{count_kept}
 use Rattle.hk_core.proofs.kinds.Seats.{FlightsFacts, facts_of_flight, pass_upd, hands_upd}
 use Rattle.hk_core.proofs.kinds.Frame.{work_in_attempt}
-use Rattle.hk_core.proofs.kinds.Read.{refuted}
 use Rattle.hk_core.proofs.kinds.WriteRegister.{writing_words, writing_contents, HasWritten}
 use Rattle.hk_core.proofs.kinds.NewFlight.{MakingFacts, GoesQuietly, quiet_facts, well_of, new_hand, new_has_number, new_has_header, new_has_size, new_is_making, new_holds_back, new_stays, new_has_written, new_cycle_in_frame}
 use Rattle.hk_core.proofs.kinds.NewLoads.{new_on}
@@ -38,6 +37,7 @@ use Rattle.hk_core.proofs.kinds.NewEntry.{HasMade, made_is_making, made_raised, 
 use Rattle.hk_core.proofs.kinds.NewRaise.{SpacesMean, spaces_mean}
 use Rattle.hk_core.proofs.kinds.NewHeader.{holder_holds, held_not_kept, number_of_reference}
 use Rattle.hk_core.proofs.kinds.NewBorn.{born_names, born_shades, IsNextBirth, IsReady, born_facts, reference_here, size_same, size_here, shown_here}
+use Rattle.hk_core.proofs.Shared.{refuted}
 
 -- A REGISTER IS WRITTEN BY A CALL THAT NEEDS NO REGISTER ANY MORE
 

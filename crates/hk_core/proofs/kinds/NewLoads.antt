@@ -29,9 +29,9 @@ use Rattle.hk_core.specs.Facts.{IsFormed, IsSettled}
 use Rattle.hk_core.specs.Lawful.{FactsOf, hands_of}
 use Rattle.hk_core.proofs.Counts.{count_kept, count_more, count_room}
 use Rattle.hk_core.proofs.kinds.Seats.{FlightsFacts, facts_of_flight, hands_upd, shades_upd, idle_facts, idle_makes_nothing}
-use Rattle.hk_core.proofs.kinds.Read.{refuted}
 use Rattle.hk_core.proofs.kinds.NewFlight.{MakesWell, SameCounts, GoesQuietly, quiet_facts, new_inside, new_before_object, new_has_item, new_hand, new_holds_back}
 use Rattle.hk_core.proofs.kinds.NewFlight.{new_in_frame, new_before_frame, new_will_raise, new_has_raised, new_is_making, new_has_number, new_cycle_in_frame, new_flight_facts}
+use Rattle.hk_core.proofs.Shared.{refuted}
 
 -- A NEW THAT MAKES NOTHING
 

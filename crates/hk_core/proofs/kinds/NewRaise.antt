@@ -26,10 +26,10 @@ use Rattle.hk_core.specs.Facts.{IsOwn, IsUnread, FoundRoom, IsRecent, IsSettled}
 use Rattle.hk_core.specs.Lawful.{Facts, FactsOf, hands_of}
 use Rattle.hk_core.proofs.Counts.{count_less}
 use Rattle.hk_core.proofs.kinds.Seats.{FlightsFacts, flights_upd, pass_upd, hands_upd, shades_upd}
-use Rattle.hk_core.proofs.kinds.Read.{refuted}
 use Rattle.hk_core.proofs.kinds.WriteCell.{SpacesApart}
 use Rattle.hk_core.proofs.kinds.NewFlight.{MakingFacts, MakesWell, MakeApartIf, SameCounts, CountFacts, counts_set, settled_set, making_set, well_of, apart_of}
-use Rattle.hk_core.proofs.kinds.NewFlight.{new_inside, new_before_object, new_has_item, new_hand, new_holds_back, new_in_frame, new_before_frame, new_will_raise, new_has_raised, new_is_making, new_has_number, new_has_header, new_has_size, new_flight_facts}
+use Rattle.hk_core.proofs.kinds.NewFlight.{new_inside, new_before_object, new_has_item, new_hand, new_holds_back, new_in_frame, new_before_frame, new_will_raise, new_is_making, new_has_number, new_has_header, new_has_size, new_flight_facts}
+use Rattle.hk_core.proofs.Shared.{refuted}
 
 -- WHERE THE WORDS OF A NEW ARE
 
@@ -132,9 +132,6 @@ room_fits g shape word used e room =
       | inr more ↦ omega arith
     ]
 
-both_ways_not : {A : Type 0} (b : Bool) → b ≡ true → not b ≡ true → A
-both_ways_not b e d = absurd (cc)
-
 module _ (g : Geometry) (w : Words) (z : Spaces) (sh : Shades) (flight : ℕ → Flight) (begun : ℕ → ℕ) (hand : ℕ → Hand) (t : Spot)
     (names : Names) (contents : Contents) (range : ℕ → Option ℕ) (s dest : ℕ) (shape : Shape) (word : ℕ)
     (below : s < tasks g) (is_new : (flight s).call ≡ call.New dest shape) (at_3 : (flight s).place ≡ 3) (not_full : (flight s).full ≡ false)
@@ -170,9 +167,6 @@ module _ (g : Geometry) (w : Words) (z : Spaces) (sh : Shades) (flight : ℕ →
 
   it_has_no_header : f.has_header y ≡ false
   it_has_no_header = new_has_header y dest shape is_new
-
-  it_raised : f.has_raised y ≡ true
-  it_raised = new_has_raised y dest shape is_new
 
   it_making : f.has_room y ≡ true → f.is_making y ≡ true
   unfolding f.has_room

@@ -1,6 +1,6 @@
 -- What each place of a New does to a lawful state: its event, the flight and the entry by the tables, what the words say
 -- after the event, that the history after it is legal, and that all facts hold.
-use Rattle.std.proofs.Common.{◌≡◌, ℕ, ◌+◌, ◌<◌, ◌≤◌, Bool, true, false, [], ◌∷◌, ◌++◌, List, ◌≢◌, inl, inr, refl, ◌∙◌, ap, arith, Option, Some, None}
+use Rattle.std.proofs.Common.{◌≡◌, ℕ, ◌+◌, ◌<◌, ◌≤◌, Bool, true, false, ◌++◌, List, ◌≢◌, inl, inr, refl, ◌∙◌, ap, arith, Option, Some, None}
 use Rattle.std.proofs.lemmas.Bool.{cases_Bool, cases_eq, and_parts, not-true}
 use Rattle.std.specs.Prelude.{not, ◌&&◌, option_to_list}
 use Rattle.hk_words.specs.declared.geometry.Geometry.{Geometry}
@@ -19,7 +19,7 @@ use Rattle.hk_model.specs.History.{Entry, History, Legal}
 use Rattle.hk_core.specs.declared.event.Event.{Event}
 use Rattle.hk_core.specs.declared.event.Event.TheVariants as event
 use Rattle.hk_core.specs.declared.flight.Flight.{Flight}
-use Rattle.hk_core.specs.Event.{fired, fired_if, learnt, old_of}
+use Rattle.hk_core.specs.Event.{fired_if, learnt, old_of}
 use Rattle.hk_core.specs.State.{State, idle}
 use Rattle.hk_core.specs.Step.{event_of, took_of, effect_of, full_to, full_to_all, side_of, new_place, new_reference}
 use Rattle.hk_core.specs.View.{Words, words_of, names_of, contents_of, flight_at, begun_at}
@@ -40,6 +40,8 @@ use Rattle.hk_core.proofs.kinds.NewHeader.{new_writes_header, inside_elsewhere}
 use Rattle.hk_core.proofs.kinds.NewIsBorn.{new_is_born}
 use Rattle.hk_core.proofs.kinds.NewHistory.{made, next_birth, is_next, names-born, contents-born, legal-born}
 use Rattle.hk_core.proofs.kinds.NewTables.{NewSays, refused_if, new_says_1, new_says_2, new_says_3, new_says_4, new_says_5, new_says_6, new_says_7, new_rests_2, new_rests_3, new_rests_4, new_rests_5, new_rests_6, new_rests_7}
+use Rattle.std.proofs.lemmas.List.{append-nil}
+use Rattle.hk_core.proofs.Columns.{words_some, words_none}
 
 -- what a place of a New does to a lawful state
 pub record NewDoes (c : State) (history : History) (s : ℕ) (event' : Option Event) (flight' : Flight) (entry' : Option Entry) (words' : Words) (range : ℕ → Option ℕ) : Type 0 where
@@ -50,27 +52,19 @@ pub record NewDoes (c : State) (history : History) (s : ℕ) (event' : Option Ev
   pub legal : Legal (opening_of c.geometry) (history ++ option_to_list entry')
   pub facts : FactsOf c.geometry words' (upd (flight_at c) s flight') (begun_at c) c.spot (names_of c.geometry (history ++ option_to_list entry')) (contents_of c.geometry (history ++ option_to_list entry')) range
 
-append_nil : {A : Type 0} (xs : List A) → xs ++ [] ≡ xs
-append_nil [] = refl
-append_nil (x ∷ xs) = ap (λ ys. x ∷ ys) (append_nil xs)
-
 module _ (g : Geometry) (history : History) (seat dest : ℕ) (shape : Shape) (word : ℕ) where
   -- an entry that says that there was no room, or none at all, leaves the plain heap as it is, and is legal
   names_refused_if : (full : Bool) → names_of g (history ++ option_to_list (refused_if seat dest shape full word)) ≡ names_of g history
   names_refused_if true = names-full g history seat dest shape (layout.w0_words word)
-  names_refused_if false = ap (names_of g) (append_nil history)
+  names_refused_if false = ap (names_of g) (append-nil history)
 
   contents_refused_if : (full : Bool) → contents_of g (history ++ option_to_list (refused_if seat dest shape full word)) ≡ contents_of g history
   contents_refused_if true = contents-full g history seat dest shape (layout.w0_words word)
-  contents_refused_if false = ap (contents_of g) (append_nil history)
+  contents_refused_if false = ap (contents_of g) (append-nil history)
 
   legal_refused_if : (full : Bool) → Legal (opening_of g) history → Legal (opening_of g) (history ++ option_to_list (refused_if seat dest shape full word))
   legal_refused_if true legal = legal-full g history seat dest shape (layout.w0_words word) legal
-  legal_refused_if false legal = rw (append_nil history) legal
-
-learnt_load : (row : List ℕ) (word : ℕ) → learnt row (Some (event.Load word)) ≡ old_of row (event.Load word)
-unfolding learnt
-learnt_load row word = refl
+  legal_refused_if false legal = rw (append-nil history) legal
 
 -- what a load of W0 and a raise of it learn is the packed W0
 learnt_w0 : (g : Geometry) (row : List ℕ) → learnt row (Some (event.Load (w0_at g))) ≡ word_of g row W0
@@ -86,14 +80,6 @@ learnt_entry : (g : Geometry) (row : List ℕ) (list j : ℕ) → list < 2 → j
 unfolding learnt old_of
 learnt_entry g row list j a b = loads_entry g row list j a b
 
-words_some : (g : Geometry) (row : List ℕ) (e : Event) (w : Words) → words_of g (fired row e) ≡ w → words_of g (fired_if row (Some e)) ≡ w
-unfolding fired_if
-words_some g row e w h = h
-
-words_none : (g : Geometry) (row : List ℕ) → words_of g (fired_if row None) ≡ words_of g row
-unfolding fired_if
-words_none g row = refl
-
 module _ (c : State) (history : History) (h : Lawful c history) (s dest : ℕ) (shape : Shape) (below : s < tasks c.geometry) (is_new : (flight_at c s).call ≡ call.New dest shape) where
   abbrev w0 : ℕ
   w0 = word_of c.geometry c.row W0
@@ -104,10 +90,10 @@ module _ (c : State) (history : History) (h : Lawful c history) (s dest : ℕ) (
   -- the facts of a place that adds no entry
   silent : (w : Words) (y : Flight) → FactsOf c.geometry w (upd (flight_at c) s y) (begun_at c) c.spot (names_of c.geometry history) (contents_of c.geometry history) h.range
       → FactsOf c.geometry w (upd (flight_at c) s y) (begun_at c) c.spot (names_of c.geometry (history ++ option_to_list None)) (contents_of c.geometry (history ++ option_to_list None)) h.range
-  silent w y facts = rw (append_nil history) facts
+  silent w y facts = rw (append-nil history) facts
 
   legal_still : Legal (opening_of c.geometry) (history ++ option_to_list None)
-  legal_still = rw (append_nil history) h.legal
+  legal_still = rw (append-nil history) h.legal
 
   -- the first place
   pub new_does_1 : (flight_at c s).place ≡ 1

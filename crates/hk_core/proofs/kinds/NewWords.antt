@@ -4,7 +4,7 @@ use Rattle.hk_words.specs.declared.geometry.Geometry.{Geometry}
 use Rattle.hk_words.specs.declared.shape.Shape.{Shape}
 use Rattle.hk_words.specs.Geometry.{tasks, numbers, space_words, row_length}
 use Rattle.hk_words.specs.Shape.{size}
-use Rattle.hk_words.specs.Layout.{IsW0, w0_words, w0_objects, w0_cycle, raise_by, pack_header, words_bits, objects_bits, place_bits}
+use Rattle.hk_words.specs.Layout.{raise_by, pack_header, words_bits, objects_bits, place_bits}
 use Rattle.hk_words.specs.Row.{word_of, w0_at, header_at, place_at}
 use Rattle.hk_words.specs.Row.Slot.{W0, Header}
 use Rattle.hk_model.specs.View.{upd}
@@ -54,15 +54,6 @@ pub objects_fit : (g : Geometry) (objects : ℕ) (flight : ℕ → Flight) (s : 
     → fact.ObjectsStayBounded g objects flight → objects + 1 < 2 ^ objects_bits
 objects_fit g objects flight s below raises h =
     let some : 0 < count_below (tasks g) (λ t. f.will_raise (flight t)) = count_some (λ t. f.will_raise (flight t)) s (tasks g) below raises in
-    omega arith
-
--- so W0 stays a word
-pub raise_fits : (word used objects cycle q : ℕ) → IsW0 word used objects cycle → used + q < 2 ^ words_bits → objects + 1 < 2 ^ objects_bits → fact.CycleFits cycle
-    → word + raise_by q < 2 ^ 64
-raise_fits word used objects cycle q found words more cycles =
-    let a : w0_words word ≡ used = found.words in
-    let b : w0_objects word ≡ objects = found.objects in
-    let c : w0_cycle word ≡ cycle = found.cycle in
     omega arith
 
 -- the place of a new object is one of the spaces, and fits its field

@@ -1,6 +1,6 @@
 -- A Get reads the cell of its field. No word changes; the reply is what the plain heap answers.
 use Rattle.std.proofs.Common.{◌≡◌, ◌≢◌, ℕ, ◌+◌, ◌^◌, ◌<◌, Bool, true, false, [], ◌∷◌, ◌++◌, inl, inr, refl, sym, ◌∙◌, ap, arith, Option, Some, None}
-use Rattle.std.proofs.lemmas.Bool.{both_ways, and_right}
+use Rattle.std.proofs.lemmas.Bool.{and_right}
 use Rattle.std.specs.Prelude.{nat_eq, ◌&&◌}
 use Rattle.hk_words.specs.declared.geometry.Geometry.{Geometry}
 use Rattle.hk_words.specs.declared.call.Call.{Call}
@@ -28,6 +28,7 @@ use Rattle.hk_core.specs.Lawful.{Facts, FactsOf, hands_of}
 use Rattle.hk_core.proofs.kinds.Seats.{CallsFacts, FlightFacts, Changes, KeptMeans, GoesOn, SameObject, SameFrame, MakesNothing, calls_upd, facts_of_flight, counted_kept, versions_kept, frames_counted_kept, frame_versions_kept}
 use Rattle.hk_core.proofs.kinds.Seats.{hands_upd, shades_upd, goes_without_number}
 use Rattle.hk_core.proofs.kinds.Enter.{object_of}
+use Rattle.hk_core.proofs.Shared.{refuted}
 
 -- THE FLIGHT
 
@@ -54,9 +55,6 @@ pub record ReadsNumber (call : Call) (p q : ℕ) : Type 0 where
   pub held_back : (reg : ℕ) → f.holds_back_at call p reg ≡ false
   pub holds_back : (reg : ℕ) → f.holds_back_at call q reg ≡ false
   pub copies : copied call ≡ None
-
-pub refuted : {A : Type 0} (b : Bool) → b ≡ false → b ≡ true → A
-refuted b e h = absurd (both_ways b e h)
 
 pub none_in : {A : Type 0} (b c : Bool) → b ≡ false → (b && c) ≡ true → A
 none_in true c e h = absurd (cc)

@@ -14,7 +14,7 @@ use Rattle.hk_core.specs.declared.spot.Line.{Line}
 use Rattle.hk_core.specs.declared.spot.Line.TheVariants as line
 use Rattle.hk_core.specs.Counts.{count_below}
 use Rattle.hk_core.specs.Step.{reference_size, reserved_fits}
-use Rattle.hk_core.specs.View.{Words, Names, Contents, size_at, reference_at}
+use Rattle.hk_core.specs.View.{Words, Names, Contents, reference_at}
 use Rattle.hk_core.specs.Flights as f
 use Rattle.hk_core.specs.Flights.{Hand, no_claim, to_reserve, to_link}
 use Rattle.hk_core.specs.Lines as l
@@ -25,7 +25,8 @@ use Rattle.hk_core.specs.Lawful.{Facts}
 use Rattle.hk_core.proofs.Waiting.{linking_else, reserving_not_linking}
 use Rattle.hk_core.proofs.Update.{upd_cases}
 use Rattle.hk_core.proofs.Counts.{count_less}
-use Rattle.hk_core.proofs.kinds.WriteCell.{ShadesMean}
+use Rattle.hk_core.proofs.kinds.WriteCell.{ShadesMean, some_words}
+use Rattle.hk_core.proofs.Shared.{never_both, one_value}
 
 -- the words after a reserve of so many words, and the ranges; the claim in hand after it
 abbrev pub reserve_words : Words → ℕ → Words
@@ -48,16 +49,6 @@ pub record CanReserve (g : Geometry) (z : Spaces) (sh : Shades) (hand : ℕ → 
   pub two : 2 ≤ sh.size n
   pub live : z.live ≡ g.live
 
-pub size_some : (names : Names) (n : ℕ) → 0 < size_at names n
-unfolding size_at
-size_some names n = omega arith
-
-no_range : {A : Type 0} (o : Option ℕ) (n : ℕ) → o ≡ None → o ≡ Some n → A
-no_range o n none some = absurd (cc)
-
-one_number : (o : Option ℕ) (m n : ℕ) → o ≡ Some m → o ≡ Some n → m ≡ n
-one_number o m n a b = cc
-
 some_is : (m n : ℕ) → Some m ≡ Some n → m ≡ n
 some_is m n e = cc
 
@@ -74,8 +65,8 @@ linking_none a other d there e h = absurd (cc)
 
 item_left : (a : Hand) (item c offset other : ℕ) → (a ≡ no_claim) ⊎ (a ≡ to_link item c offset) → f.item_in a ≡ Some other → item ≡ other
 unfolding f.item_in
-item_left a item c offset other (inl e) h = let none : f.item_in a ≡ None = ap f.item_in e in no_range (f.item_in a) other none h
-item_left a item c offset other (inr e) h = let some : f.item_in a ≡ Some item = ap f.item_in e in one_number (f.item_in a) item other some h
+item_left a item c offset other (inl e) h = let none : f.item_in a ≡ None = ap f.item_in e in never_both (f.item_in a) other none h
+item_left a item c offset other (inr e) h = let some : f.item_in a ≡ Some item = ap f.item_in e in one_value (f.item_in a) item other some h
 
 reserves_left : (a : Hand) (item c offset : ℕ) → (a ≡ no_claim) ⊎ (a ≡ to_link item c offset) → f.is_to_reserve a ≡ false
 unfolding f.is_to_reserve
@@ -128,9 +119,6 @@ module _ (g : Geometry) (w : Words) (z : Spaces) (sh : Shades) (flight : ℕ →
   held_unreserved : (x : ℕ) → range x ≢ Some n
   held_unreserved x e = claim_held.unreserved x (e ∙ ap Some (sym o.number))
 
-  some_words : (j : ℕ) → 0 < sh.size j
-  some_words j = let e = m.size j in let some = size_some names j in omega arith
-
   busy : l.is_resting t.line ≡ false
   busy = marking_is_busy t.line (grey_is_marking g w.cycle sh.white sh.grey w.register flight t.line n (m.kept n o.is_kept).within held_grey h.settled_from_sweep)
 
@@ -140,12 +128,12 @@ module _ (g : Geometry) (w : Words) (z : Spaces) (sh : Shades) (flight : ℕ →
     where
       by_range : (a : Option ℕ) → range y ≡ a → range y ≡ None
       by_range None e = e
-      by_range (Some j) e = let within : y + sh.size j ≤ w.reserved = h.ranges_within y j e in let some = some_words j in absurd (omega arith)
+      by_range (Some j) e = let within : y + sh.size j ≤ w.reserved = h.ranges_within y j e in let some = some_words g w z sh flight t.line names m j in absurd (omega arith)
 
   -- so the ranges stay, and there is one more
   grown : (x j : ℕ) → range x ≡ Some j → upd range w.reserved (Some n) x ≡ Some j
   grown x j e = elim (upd_cases range w.reserved (Some n) x) [
-    | inl (a, u) ↦ no_range (range x) j (none_past x (omega arith)) e
+    | inl (a, u) ↦ never_both (range x) j (none_past x (omega arith)) e
     | inr (d, u) ↦ u ∙ e
   ]
 
@@ -154,9 +142,6 @@ module _ (g : Geometry) (w : Words) (z : Spaces) (sh : Shades) (flight : ℕ →
     | inl (a, u) ↦ inl (a, some_is n j (sym u ∙ e))
     | inr (d, u) ↦ inr (d, sym u ∙ e)
   ]
-
-  some_there : upd range w.reserved (Some n) w.reserved ≢ None
-  some_there e = no_range _ n e (upd_same range w.reserved (Some n))
 
   -- the first word past them is 0, where it is one of the area for evacuation
   zero_there : w.reserved < z.live → w.cell (z.current + w.reserved) ≡ 0
@@ -181,14 +166,14 @@ module _ (g : Geometry) (w : Words) (z : Spaces) (sh : Shades) (flight : ℕ →
         | inr (d, there) ↦
             let within : x + sh.size j ≤ w.reserved = h.ranges_within x j there in
             elim (upd_cases range w.reserved (Some n) (x + sh.size j)) [
-              | inl (a, u) ↦ λ none. no_range _ n none u
+              | inl (a, u) ↦ λ none. never_both _ n none u
               | inr (d, u) ↦ λ none. h.ranges_join x j there (omega arith) (sym u ∙ none)
             ]
       ]
 
   reserve_first : fact.FirstRange (w.reserved + reference_size item) (upd range w.reserved (Some n))
   reserve_first some = elim (upd_cases range w.reserved (Some n) 0) [
-    | inl (a, u) ↦ λ none. no_range _ n none u
+    | inl (a, u) ↦ λ none. never_both _ n none u
     | inr (d, u) ↦ λ none. h.first_range (omega arith) (sym u ∙ none)
   ]
 
@@ -242,7 +227,7 @@ module _ (g : Geometry) (w : Words) (z : Spaces) (sh : Shades) (flight : ℕ →
 
   reserve_linked : fact.RangesLinked z sh.size w.cell (reference_at names) (upd range w.reserved (Some n))
   reserve_linked x j e fits = elim (back x j e) [
-    | inl (a, b) ↦ let some = some_words j in inl (ap (λ y. w.cell (z.current + y)) a ∙ zero_there (omega arith))
+    | inl (a, b) ↦ let some = some_words g w z sh flight t.line names m j in inl (ap (λ y. w.cell (z.current + y)) a ∙ zero_there (omega arith))
     | inr (d, there) ↦ h.ranges_linked x j there fits
   ]
 
@@ -315,7 +300,7 @@ module _ (g : Geometry) (w : Words) (z : Spaces) (sh : Shades) (flight : ℕ →
     | inl (a, u) ↦
         let fit = left_fits other d there (sym u ∙ e) in
         let ends : w.reserved + sh.size n ≤ z.live = fit.3 in
-        let some = some_words n in
+        let some = some_words g w z sh flight t.line names m n in
         let number : layout.reference_number other ≡ n = ap (λ i. layout.reference_number i) (sym fit.0) ∙ o.number in
         record {
           some = λ null. claim_held.some (fit.0 ∙ null);

@@ -1,6 +1,6 @@
 -- A Load and a Store that are claimers reserve a place for the object of their reference; those that aren't rest. And the steps
 -- of their claim and of their reserve, on the row.
-use Rattle.std.proofs.Common.{◌≡◌, ◌≢◌, ℕ, zero, suc, ◌+◌, ◌^◌, ◌<◌, ◌≤◌, true, false, List, [], ◌∷◌, length, map, filter, slice_get, length-append, inl, inr, refl, sym, ◌∙◌, ap, arith, Option, Some, None}
+use Rattle.std.proofs.Common.{◌≡◌, ◌≢◌, ℕ, zero, suc, ◌+◌, ◌<◌, ◌≤◌, true, false, List, [], ◌∷◌, length, map, filter, slice_get, length-append, inl, inr, refl, sym, ◌∙◌, ap, arith, Option, Some, None}
 use Rattle.std.proofs.lemmas.Bool.{and_parts, and_from, cases_Bool, cases_eq, eq-eqb, ne_eqb}
 use Rattle.std.proofs.lemmas.List.Elements.{filter-append}
 use Rattle.std.specs.Prelude.{is_some, unwrap_or, option_map, if◌then◌else◌}
@@ -30,7 +30,7 @@ use Rattle.hk_core.specs.Colours.{spaces_of, Shades, shades_of, Covers, IsGood}
 use Rattle.hk_core.specs.Facts.{HoldsClaim}
 use Rattle.hk_core.specs.Lawful.{Facts, FactsOf, hands_of}
 use Rattle.hk_core.proofs.Update.{upd_own}
-use Rattle.hk_core.proofs.Columns.{fired_if_some, fired_if_none, old_at, raw_mark, raw_w1}
+use Rattle.hk_core.proofs.Columns.{fired_if_some, fired_if_none, old_at, raw_mark, raw_w1, nothing_learnt}
 use Rattle.hk_core.proofs.kinds.Seats.{kept_means}
 use Rattle.hk_core.proofs.kinds.Read.{ShapesFit}
 use Rattle.hk_core.proofs.kinds.WriteCell.{ShadesMean, shades_mean, reference_parts, size_of_reference}
@@ -121,18 +121,6 @@ bearers_have_fields g past n b e =
     let within : b < length (numbers_given past) = ((bearer_is_last past n b).0 e).0 in
     let some = objects_of_numbers g past in
     fields_of_birth (after (heap.opening_of g) past) b (omega arith)
-
--- and each birth has a shape whose parts a reference can hold
-small_in : (read : Object → ℕ) → ((o : Object) → read o < 2 ^ 8) → (objects : List Object) (i : ℕ) → unwrap_or (option_map read (slice_get objects i)) 0 < 2 ^ 8
-small_in read small [] i = omega arith
-small_in read small (o ∷ objects) zero = small o
-small_in read small (o ∷ objects) (suc i) = small_in read small objects i
-
-pub shapes_fit : (g : Geometry) (past : History) → ShapesFit (names_of g past)
-unfolding names_of heap.refs heap.nums of_object
-shapes_fit g past b =
-    let objects = (after (heap.opening_of g) past).objects in
-    (small_in (λ o. o.shape.refs) (λ o. let few = o.shape.few in omega arith) objects b, small_in (λ o. o.shape.nums) (λ o. let few = o.shape.few in omega arith) objects b)
 
 -- TABLES
 
@@ -299,50 +287,12 @@ store_reserves_at reg field from = record {
   links = refl;
 }
 
--- all facts hold after a Load has reserved
-pub load_reserves : (g : Geometry) (w : Words) (flight : ℕ → Flight) (begun : ℕ → ℕ) (t : Spot) (names : Names) (contents : Contents) (range : ℕ → Option ℕ) (s dest reg field : ℕ)
-    → s < tasks g → (flight s).call ≡ call.Load dest reg field → (flight s).place ≡ 6 → (flight s).claimer ≡ true → ShapesFit names → BearersHaveFields names
-    → FactsOf g w flight begun t names contents range
-    → FactsOf g (reserve_words w (reference_size (flight s).item)) (upd flight s (claim_on (flight s) 7 (flight s).claimer w.reserved)) begun t names contents
-    (reserve_range range w.reserved (claimed_number (flight s)))
-load_reserves g w flight begun t names contents range s dest reg field below is_load at_6 first fit fields h =
-    reserves_facts g w flight begun t names contents range s 7 below (rw (is_load, at_6) (load_reserves_at dest reg field)) first
-    (λ some. load_item_good g (shades_of g w flight t.line names).kept names flight s dest reg field below is_load (rw at_6 refl) some h.loaded_good) fit fields h
-
-pub load_reserves_none : (g : Geometry) (w : Words) (flight : ℕ → Flight) (begun : ℕ → ℕ) (t : Spot) (names : Names) (contents : Contents) (range : ℕ → Option ℕ) (s dest reg field : ℕ)
-    → s < tasks g → (flight s).call ≡ call.Load dest reg field → (flight s).place ≡ 6 → (flight s).claimer ≡ false
-    → FactsOf g w flight begun t names contents range
-    → FactsOf g w (upd flight s (claim_on (flight s) 7 (flight s).claimer 0)) begun t names contents range
-load_reserves_none g w flight begun t names contents range s dest reg field below is_load at_6 late h =
-    reserves_rests g w flight begun t names contents range s 7 below (rw (is_load, at_6) (load_reserves_at dest reg field)) late h
-
--- all facts hold after a Store has reserved
-pub store_reserves : (g : Geometry) (w : Words) (flight : ℕ → Flight) (begun : ℕ → ℕ) (t : Spot) (names : Names) (contents : Contents) (range : ℕ → Option ℕ) (s reg field from : ℕ)
-    → s < tasks g → (flight s).call ≡ call.Store reg field from → (flight s).place ≡ 4 → (flight s).claimer ≡ true → ShapesFit names → BearersHaveFields names
-    → FactsOf g w flight begun t names contents range
-    → FactsOf g (reserve_words w (reference_size (flight s).item)) (upd flight s (claim_on (flight s) 5 (flight s).claimer w.reserved)) begun t names contents
-    (reserve_range range w.reserved (claimed_number (flight s)))
-store_reserves g w flight begun t names contents range s reg field from below is_store at_4 first fit fields h =
-    reserves_facts g w flight begun t names contents range s 5 below (rw (is_store, at_4) (store_reserves_at reg field from)) first
-    (λ some. store_item_good g (shades_of g w flight t.line names).kept names w.register flight s reg field from below is_store (rw at_4 refl) some h.flights_formed h.copied_stays h.registers_good) fit fields h
-
-pub store_reserves_none : (g : Geometry) (w : Words) (flight : ℕ → Flight) (begun : ℕ → ℕ) (t : Spot) (names : Names) (contents : Contents) (range : ℕ → Option ℕ) (s reg field from : ℕ)
-    → s < tasks g → (flight s).call ≡ call.Store reg field from → (flight s).place ≡ 4 → (flight s).claimer ≡ false
-    → FactsOf g w flight begun t names contents range
-    → FactsOf g w (upd flight s (claim_on (flight s) 5 (flight s).claimer 0)) begun t names contents range
-store_reserves_none g w flight begun t names contents range s reg field from below is_store at_4 late h =
-    reserves_rests g w flight begun t names contents range s 5 below (rw (is_store, at_4) (store_reserves_at reg field from)) late h
-
 -- THE ROW OF A CLAIM
 
 -- words after an event by which each kept number stays at its place, and keeps the words of its object
 pub record SparesObjects (before after : Words) (sh : Shades) : Type 0 where
   pub place : after.place ≡ before.place
   pub cells : (n p : ℕ) → sh.kept n ≡ true → Covers (before.place n) (sh.size n) p → after.cell p ≡ before.cell p
-
-nothing_learnt : (row : List ℕ) → learnt row None ≡ 0
-unfolding learnt
-nothing_learnt row = refl
 
 -- a claim finds the mark, and a reserve the words reserved
 pub found-claim : (g : Geometry) (row : List ℕ) (n c : ℕ) → n < numbers g → learnt row (Some (event.Max (mark_at g n) c)) ≡ (words_of g row).mark n

@@ -1,9 +1,9 @@
 -- The facts of the flights, after the flight of one seat has changed. A kind of step shows the facts of the seat's new
 -- flight, and the lemmas here carry those of the other seats over.
 use Rattle.std.proofs.Common.{◌≡◌, ◌≢◌, ℕ, ◌+◌, ◌<◌, ◌≤◌, Bool, true, false, inl, inr, refl, sym, ◌∙◌, ap, arith, Option, Some}
-use Rattle.std.proofs.lemmas.Bool.{both_ways, and_parts, and_from, ltb-true, lt-ltb, cases_Bool, or_cases}
+use Rattle.std.proofs.lemmas.Bool.{both_ways, and_parts, and_from, ltb-true, lt-ltb, cases_Bool, or_cases, not-true}
 use Rattle.std.proofs.lemmas.Bool.Decides.{nat_tests}
-use Rattle.std.specs.Prelude.{nat_eq, nat_lt, nat_le, is_some, not, ◌&&◌, ◌||◌, if◌then◌else◌}
+use Rattle.std.specs.Prelude.{nat_eq, nat_lt, nat_le, is_some, ◌&&◌, ◌||◌, if◌then◌else◌}
 use Rattle.hk_words.specs.declared.geometry.Geometry.{Geometry}
 use Rattle.hk_words.specs.declared.call.Call.{Call}
 use Rattle.hk_words.specs.declared.call.Call.TheVariants as call
@@ -30,6 +30,7 @@ use Rattle.hk_core.specs.Facts.{IsFormed, IsRecent, IsSettled, IsOwn, FoundRoom}
 use Rattle.hk_core.specs.Lawful.{hands_of}
 use Rattle.hk_core.proofs.Update.{upd_cases, each_upd, pairs_upd}
 use Rattle.hk_core.proofs.Counts.{count_kept, count_some, any_kept}
+use Rattle.hk_core.proofs.Shared.{never}
 
 -- THE FACTS OF ONE FLIGHT
 
@@ -276,10 +277,6 @@ pub record IsKept (g : Geometry) (cycle : ℕ) (marking : Bool) (held : ℕ → 
   pub placed : place n ≢ 0
   pub is_fresh : is_fresh cycle marking (mark n) ≡ true
 
-not_true : (b : Bool) → not b ≡ true → b ≡ false
-not_true true e = absurd (cc)
-not_true false e = refl
-
 not_equal : (m n : ℕ) → nat_eq m n ≡ false → m ≢ n
 not_equal m n e = grind (arith, nat_tests)
 
@@ -293,8 +290,8 @@ kept_parts g cycle marking held bearer place mark n e =
     record {
       within = ltb-true n (numbers g) a.0;
       is_born = c.0;
-      not_held = not_true (held n) c.1;
-      placed = not_equal (place n) 0 (not_true (nat_eq (place n) 0) b.0);
+      not_held = not-true (held n) c.1;
+      placed = not_equal (place n) 0 (not-true (nat_eq (place n) 0) b.0);
       is_fresh = b.1;
     }
 
@@ -503,9 +500,6 @@ pub record Ends (call : Call) (p : ℕ) : Type 0 where
   pub holds_back : (reg : ℕ) → f.holds_back_at call p reg ≡ false
   pub will_raise : f.is_new_at 2 3 call p ≡ false
   pub numbered : f.is_new_at 5 6 call p ≡ false
-
-never : {A : Type 0} → false ≡ true → A
-never e = absurd (cc)
 
 pub idle_makes_nothing : (seat : ℕ) → MakesNothing (idle seat)
 unfolding f.has_raised f.has_room f.is_making f.has_number f.is_new_at idle

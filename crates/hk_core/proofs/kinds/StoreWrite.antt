@@ -24,38 +24,31 @@ use Rattle.hk_core.specs.declared.spot.Line.{Line}
 use Rattle.hk_core.specs.Begin.{copied, has_field}
 use Rattle.hk_core.specs.Event.{fired_if, learnt}
 use Rattle.hk_core.specs.Step.{reference_cell, write_cell, store_event, store_took, store_entry, event_at, event_of, took_at, took_of, effect_at, effect_of}
-use Rattle.hk_core.specs.View.{Words, Names, Contents, shown, refs_at, nums_at, size_at, words_of, names_of, contents_of}
+use Rattle.hk_core.specs.View.{Words, Names, Contents, shown, words_of, names_of, contents_of}
 use Rattle.hk_core.specs.Flights as f
 use Rattle.hk_core.specs.Flights.{Hand, hand_of_flight}
 use Rattle.hk_core.specs.Colours.{Spaces, spaces_of, Shades, shades_of, held_by, IsKeptBirth, IsNullOrKept}
 use Rattle.hk_core.specs.Facts as fact
 use Rattle.hk_core.specs.Lawful.{Facts, FactsOf, hands_of}
 use Rattle.hk_core.proofs.Update.{upd2_cases}
-use Rattle.hk_core.proofs.Columns.{fired_if_some, fired_if_none}
+use Rattle.hk_core.proofs.Columns.{fired_if_some, fired_if_none, nothing_learnt}
 use Rattle.hk_core.proofs.kinds.Seats.{FlightFacts, CallsFacts, Changes, MakesNothing, KeptMeans, GoesOn, SameObject, SameFrame, SameClaim, SameItem, moved_on, kept_means, calls_upd, facts_of_flight, counted_kept, versions_kept, frames_counted_kept, frame_versions_kept}
 use Rattle.hk_core.proofs.kinds.Seats.{hands_upd, shades_upd, goes_making_nothing, goes_without_number, goes_hand, goes_so, goes_is_inside, goes_before_object, goes_in_frame, goes_before_frame, goes_in_object}
 use Rattle.hk_core.proofs.kinds.Enter.{object_of}
 use Rattle.hk_core.proofs.kinds.Words.{some_in_object, words-write_cell}
-use Rattle.hk_core.proofs.kinds.Read.{Knows, ShapesFit, refuted, object_known}
-use Rattle.hk_core.proofs.kinds.WriteCell.{ShadesMean, WritesInside, CellFacts, BearersNumbered, shades_mean, cells_write, cell_words}
+use Rattle.hk_core.proofs.kinds.Read.{Knows, ShapesFit, object_known}
+use Rattle.hk_core.proofs.kinds.WriteCell.{ShadesMean, WritesInside, CellFacts, BearersNumbered, shades_mean, cells_write, cell_words, shades_cell}
 use Rattle.hk_core.proofs.kinds.Effects.{is_heap}
 use Rattle.hk_core.proofs.kinds.LoadCycle.{loaded_on}
 use Rattle.hk_core.proofs.kinds.LoadRead.{colours_mean, kept_number, shown_birth}
 use Rattle.hk_core.proofs.kinds.LoadWrite.{claimed_not_white}
+use Rattle.hk_core.proofs.Shared.{refuted, size_borne, one_value}
 
 -- THE PLAIN HEAP
 
 -- its contents after a reference cell was written
 abbrev pub link_contents : Contents → (birth field : ℕ) → Option ℕ → Contents
 link_contents c birth field p = record c { link = upd2 c.link birth field p }
-
--- the words of the object that a number bears
-size_borne : (names : Names) (n b : ℕ) → names.bearer n ≡ Some b → size_at names n ≡ 1 + names.refs b + names.nums b
-unfolding size_at refs_at nums_at
-size_borne names n b e = rw e refl
-
-same_birth : (names : Names) (n b c : ℕ) → names.bearer n ≡ Some b → names.bearer n ≡ Some c → b ≡ c
-same_birth names n b c d e = cc
 
 module _ (g : Geometry) (w : Words) (z : Spaces) (sh : Shades) (flight : ℕ → Flight) (t : Spot) (names : Names) (contents : Contents)
     (apart : fact.ObjectsApart sh.kept w.place sh.size) (m : ShadesMean g w z sh flight t.line names) (n birth field v : ℕ) (p : Option ℕ)
@@ -72,7 +65,7 @@ module _ (g : Geometry) (w : Words) (z : Spaces) (sh : Shades) (flight : ℕ →
       let size : sh.size k ≡ 1 + names.refs b + names.nums b = m.size k ∙ size_borne names k b borne in
       let differ : w.place k + 1 + names.refs b + i ≢ w.place n + 1 + field = elim (cases_eq k n) [
         | inl e ↦
-            let same : b ≡ birth = same_birth names n b birth (ap names.bearer (sym e) ∙ borne) bears in
+            let same : b ≡ birth = one_value (names.bearer n) b birth (ap names.bearer (sym e) ∙ borne) bears in
             let refs : names.refs b ≡ names.refs birth = ap names.refs same in
             let stands : w.place k ≡ w.place n = ap w.place e in
             λ q. omega arith
@@ -89,7 +82,7 @@ module _ (g : Geometry) (w : Words) (z : Spaces) (sh : Shades) (flight : ℕ →
       let shows : w.cell (w.place k + 1 + i) ≡ shown names (contents.link b i) = h k b kept borne i below in
       elim (cases_eq k n) [
         | inl e ↦
-            let same : b ≡ birth = same_birth names n b birth (ap names.bearer (sym e) ∙ borne) bears in
+            let same : b ≡ birth = one_value (names.bearer n) b birth (ap names.bearer (sym e) ∙ borne) bears in
             let stands : w.place k ≡ w.place n = ap w.place e in
             elim (cases_eq i field) [
               | inl f ↦
@@ -148,11 +141,6 @@ module _ (g : Geometry) (w : Words) (z : Spaces) (sh : Shades) (flight : ℕ →
       let calls : CallsFacts g words sh t.line names plain (upd flight s y) =
       calls_upd g words sh t.line names plain flight s y (goes_so x q x.at goes g words sh t.line names plain flight s below refl claim item known between) between in
       assumption
-
--- what many facts read of the words is the same after the write
-shades_cell : (g : Geometry) (w : Words) (p v : ℕ) (flight : ℕ → Flight) (ln : Line) (names : Names) → shades_of g (cell_words w p v) flight ln names ≡ shades_of g w flight ln names
-unfolding shades_of
-shades_cell g w p v flight ln names = refl
 
 -- STORE
 
@@ -546,10 +534,6 @@ module _ (g : Geometry) (x : Flight) (reg field from : ℕ) (is_store : x.call �
   pub store_rest_entry : (old : ℕ) → effect_of g x old ≡ None
   unfolding effect_of effect_at store_entry
   store_rest_entry old = rw (is_store, at_2) refl
-
-nothing_learnt : (row : List ℕ) → learnt row None ≡ 0
-unfolding learnt
-nothing_learnt row = refl
 
 -- all facts hold of the row and of the flights after a Store of null has rested
 pub store_rests_row : (g : Geometry) (row : List ℕ) (flight : ℕ → Flight) (begun : ℕ → ℕ) (t : Spot) (names : Names) (contents : Contents) (range : ℕ → Option ℕ) (s reg field from : ℕ)

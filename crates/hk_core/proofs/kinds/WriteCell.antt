@@ -38,6 +38,8 @@ use Rattle.hk_core.proofs.kinds.Enter.{object_of}
 use Rattle.hk_core.proofs.kinds.Read.{Knows, ShapesFit, object_known}
 use Rattle.hk_core.proofs.kinds.Words.{some_in_object}
 use Rattle.hk_core.proofs.kinds.Seats.{FlightFacts}
+use Rattle.hk_core.proofs.Update.{unwritten}
+use Rattle.hk_core.proofs.Shared.{few_numbers, never_both, size_borne, size_some, one_value}
 
 -- WHAT THE SHADES AND THE SPACES MEAN
 
@@ -77,14 +79,19 @@ shades_mean g w flight ln names = record {
   whole = refl;
 }
 
--- the words of the object that a number bears
-size_borne : (names : Names) (n b : ℕ) → names.bearer n ≡ Some b → size_at names n ≡ 1 + names.refs b + names.nums b
-unfolding size_at refs_at nums_at
-size_borne names n b e = rw e refl
+module _ (g : Geometry) (w : Words) (z : Spaces) (sh : Shades) (flight : ℕ → Flight) (ln : Line) (names : Names)
+    (m : ShadesMean g w z sh flight ln names) where
+  -- an object has words
+  pub some_words : (n : ℕ) → 0 < sh.size n
+  some_words n = let e = m.size n in let some = size_some names n in omega arith
 
-size_some : (names : Names) (n : ℕ) → 0 < size_at names n
-unfolding size_at
-size_some names n = omega arith
+  -- a number whose place is in the current space isn't grey
+  pub not_grey : (n y : ℕ) → w.place n ≡ z.current + y → y < z.live → sh.grey n ≢ true
+  not_grey n y stands below e =
+      let o : IsGreyIn z w.cycle w.place w.mark n = m.grey n e in
+      let after : z.old ≤ w.place n = o.after in
+      let before : w.place n < z.old + (z.live + z.alloc) = o.before in
+      elim m.spaces [ inl a ↦ omega arith | inr a ↦ omega arith ]
 
 -- TABLES OF LINES
 
@@ -190,9 +197,6 @@ pub record IsMoving (z : Spaces) (sh : Shades) (scan item : ℕ) (range : ℕ �
   pub fits : scan + sh.size (layout.reference_number item) ≤ z.live
   pub size : reference_size item ≡ sh.size (layout.reference_number item)
 
-no_range : {A : Type 0} (o : Option ℕ) (n : ℕ) → o ≡ None → o ≡ Some n → A
-no_range o n none some = absurd (cc)
-
 packed : (number refs nums word : ℕ) → number + 1 < 2 ^ 20 → refs < 2 ^ 8 → nums < 2 ^ 8 → word ≡ layout.pack_reference number refs nums
     → (layout.reference_number word ≡ number) × (layout.reference_refs word ≡ refs) × (layout.reference_nums word ≡ nums)
 packed number refs nums word a b c e = rw e (omega arith, omega arith, omega arith)
@@ -204,9 +208,6 @@ fits_byte names fit n = by_bearer (names.bearer n)
     by_bearer : (o : Option ℕ) → (unwrap_or (option_map names.refs o) 0 < 2 ^ 8) × (unwrap_or (option_map names.nums o) 0 < 2 ^ 8)
     by_bearer None = (omega arith, omega arith)
     by_bearer (Some b) = fit b
-
-few_numbers : (g : Geometry) (n : ℕ) → n < numbers g → n + 1 < 2 ^ 20
-few_numbers g n h = omega arith
 
 -- the reference of a kept number has its parts
 pub reference_parts : (g : Geometry) (names : Names) (n item : ℕ) → n < numbers g → ShapesFit names → item ≡ reference_at names n
@@ -227,23 +228,12 @@ fresh_when_done cycle false mark done fresh = elim (or_cases (nat_eq mark cycle)
 module _ (g : Geometry) (w : Words) (z : Spaces) (sh : Shades) (flight : ℕ → Flight) (begun : ℕ → ℕ) (hand : ℕ → Hand) (t : Spot)
     (names : Names) (contents : Contents) (range : ℕ → Option ℕ) (h : Facts g w z sh flight begun hand t names contents range)
     (m : ShadesMean g w z sh flight t.line names) where
-  some_words : (k : ℕ) → 0 < sh.size k
-  some_words k = let e = m.size k in let some = size_some names k in omega arith
-
-  -- a number whose place is in the current space isn't grey
-  not_grey : (k y : ℕ) → w.place k ≡ z.current + y → y < z.live → sh.grey k ≢ true
-  not_grey k y stands below e =
-      let o : IsGreyIn z w.cycle w.place w.mark k = m.grey k e in
-      let after : z.old ≤ w.place k = o.after in
-      let before : w.place k < z.old + (z.live + z.alloc) = o.before in
-      elim m.spaces [ inl a ↦ omega arith | inr a ↦ omega arith ]
-
   was_moved : l.is_resting t.line ≡ false → (k y : ℕ) → sh.kept k ≡ true → w.place k ≡ z.current + y → y < z.live → WasMoved z t.scan sh.size range k y
   was_moved busy k y kept stands below =
       let there : range y ≡ Some k = h.moved_stands_in_range busy k y kept stands below in
       elim (cases_lt y t.scan) [
         | inl lower ↦ record { has_range = there; ends = (h.ranges_below_moved y k there lower).ends; scanned = (h.scan_bounded busy).1 }
-        | inr upper ↦ absurd (not_grey k y stands below (h.ranges_above_grey y k there (omega arith)).1)
+        | inr upper ↦ absurd (not_grey g w z sh flight t.line names m k y stands below (h.ranges_above_grey y k there (omega arith)).1)
       ]
 
   is_moving : ShapesFit names → l.has_item t.line ≡ true → IsMoving z sh t.scan t.item range
@@ -276,7 +266,7 @@ module _ (g : Geometry) (w : Words) (z : Spaces) (sh : Shades) (flight : ℕ →
     -- it is no link word of a range that fits
     in_no_link : (x k : ℕ) → range x ≡ Some k → x + sh.size k ≤ z.live → z.current + x ≢ p
     in_no_link x k there fits e =
-        let some : 0 < sh.size k = some_words k in
+        let some : 0 < sh.size k = some_words g w z sh flight t.line names m k in
         let after : w.place n < p = o.after in
         let before : p < w.place n + sh.size n = o.before in
         elim (h.objects_in_one_space n o.is_kept) [
@@ -295,7 +285,7 @@ module _ (g : Geometry) (w : Words) (z : Spaces) (sh : Shades) (flight : ℕ →
                     omega arith
                 | inr busy ↦
                     let moved : WasMoved z t.scan sh.size range n y = was_moved busy n y o.is_kept stands (omega arith) in
-                    no_range (range x) k (h.ranges_apart y n x moved.has_range (omega arith) (omega arith)) there
+                    never_both (range x) k (h.ranges_apart y n x moved.has_range (omega arith) (omega arith)) there
               ]
         ]
 
@@ -385,10 +375,6 @@ module _ (g : Geometry) (w : Words) (z : Spaces) (sh : Shades) (flight : ℕ →
 
 -- THE FACTS OF CELLS
 
--- a column after a write at another index
-unwritten : (cell : ℕ → ℕ) (p v i : ℕ) (P : ℕ → Type 0) → i ≢ p → P (cell i) → P (upd cell p v i)
-unwritten cell p v i P differ o = rw (upd_other cell p v i differ) o
-
 -- the facts that read the words of the spaces, but what these show of the plain heap
 pub record CellFacts (g : Geometry) (w : Words) (z : Spaces) (sh : Shades) (flight : ℕ → Flight) (hand : ℕ → Hand) (t : Spot)
     (names : Names) (range : ℕ → Option ℕ) (cell : ℕ → ℕ) : Type 0 where
@@ -462,9 +448,6 @@ module _ (g : Geometry) (w : Words) (z : Spaces) (sh : Shades) (flight : ℕ →
 abbrev pub BearersNumbered : Names → Type 0
 BearersNumbered names = (n b : ℕ) → names.bearer n ≡ Some b → names.number b ≡ n
 
-same_birth : (names : Names) (n b c : ℕ) → names.bearer n ≡ Some b → names.bearer n ≡ Some c → b ≡ c
-same_birth names n b c d e = cc
-
 module _ (g : Geometry) (w : Words) (z : Spaces) (sh : Shades) (flight : ℕ → Flight) (begun : ℕ → ℕ) (hand : ℕ → Hand) (t : Spot)
     (names : Names) (contents : Contents) (range : ℕ → Option ℕ) (h : Facts g w z sh flight begun hand t names contents range)
     (m : ShadesMean g w z sh flight t.line names) (n birth field v : ℕ) (o : WritesInside w sh n (w.place n + 1 + names.refs birth + field))
@@ -476,7 +459,7 @@ module _ (g : Geometry) (w : Words) (z : Spaces) (sh : Shades) (flight : ℕ →
       let size : sh.size k ≡ 1 + names.refs b + names.nums b = m.size k ∙ size_borne names k b borne in
       let differ : w.place k + 1 + i ≢ p = elim (cases_eq k n) [
         | inl e ↦
-            let same : b ≡ birth = same_birth names n b birth (ap names.bearer (sym e) ∙ borne) bears in
+            let same : b ≡ birth = one_value (names.bearer n) b birth (ap names.bearer (sym e) ∙ borne) bears in
             let refs : names.refs b ≡ names.refs birth = ap names.refs same in
             let stands : w.place k ≡ w.place n = ap w.place e in
             λ q. omega arith
@@ -492,7 +475,7 @@ module _ (g : Geometry) (w : Words) (z : Spaces) (sh : Shades) (flight : ℕ →
       let shows : w.cell (w.place k + 1 + names.refs b + i) ≡ contents.value b i = h.values_shown k b kept borne i below in
       elim (cases_eq k n) [
         | inl e ↦
-            let same : b ≡ birth = same_birth names n b birth (ap names.bearer (sym e) ∙ borne) bears in
+            let same : b ≡ birth = one_value (names.bearer n) b birth (ap names.bearer (sym e) ∙ borne) bears in
             let refs : names.refs b ≡ names.refs birth = ap names.refs same in
             let stands : w.place k ≡ w.place n = ap w.place e in
             elim (cases_eq i field) [

@@ -21,7 +21,7 @@ use Rattle.hk_core.proofs.Update.{upd_cases, upd2_cases}
 use Rattle.hk_core.proofs.kinds.Seats.{FlightFacts, FlightsFacts, NewsFacts, CallsFacts, Changes, facts_of_flight, facts_of_flights, news_upd, settled_upd, pass_upd, counted_kept, versions_kept, frames_counted_kept, frame_versions_kept}
 use Rattle.hk_core.proofs.kinds.Seats.{Ends, ends_so, ends_hand, ends_without_number, idle_makes_nothing, GoesOn, SameObject, SameFrame, SameClaim, SameItem, moved_on, hands_upd, shades_upd, goes_making_nothing, goes_without_number, goes_hand, goes_so, goes_is_inside, goes_before_object, goes_in_frame, goes_before_frame}
 use Rattle.hk_core.proofs.kinds.Frame.{work_in_attempt}
-use Rattle.hk_core.proofs.kinds.Read.{refuted}
+use Rattle.hk_core.proofs.Shared.{refuted}
 
 -- the words, and the contents of the plain heap, after a register was written
 abbrev pub writing_words : Words → (s r v : ℕ) → Words
@@ -112,7 +112,8 @@ flights_write g w sh names plain flight s r v p y h mine =
       | inr (d, u) ↦ rw u (flight_elsewhere g w sh names plain s r v p t (flight t) d (facts_of_flight g w sh names plain flight h t b))
     ])
 
-settled_write : (g : Geometry) (cycle : ℕ) (white grey : ℕ → Bool) (register : ℕ → ℕ → ℕ) (flight : ℕ → Flight) (s r v : ℕ) → NamesNoWhite white v
+-- a settled state stays so where the register gets no white number
+pub settled_write : (g : Geometry) (cycle : ℕ) (white grey : ℕ → Bool) (register : ℕ → ℕ → ℕ) (flight : ℕ → Flight) (s r v : ℕ) → NamesNoWhite white v
     → IsSettled g cycle white grey register flight → IsSettled g cycle white grey (upd2 register s r v) flight
 settled_write g cycle white grey register flight s r v dark h = record {
   none_grey = h.none_grey;
@@ -188,7 +189,7 @@ module _ (g : Geometry) (w : Words) (z : Spaces) (sh : Shades) (flight : ℕ →
       attempted P null u i none (inr some) = let same : w.frame_accessors u ≡ w.frame_accessors s = ap w.frame_accessors i in absurd (omega arith)
 
 -- what many facts read of the words is the same after the write
-shades_write : (g : Geometry) (w : Words) (s r v : ℕ) (flight : ℕ → Flight) (ln : Line) (names : Names) → shades_of g (writing_words w s r v) flight ln names ≡ shades_of g w flight ln names
+pub shades_write : (g : Geometry) (w : Words) (s r v : ℕ) (flight : ℕ → Flight) (ln : Line) (names : Names) → shades_of g (writing_words w s r v) flight ln names ≡ shades_of g w flight ln names
 unfolding shades_of
 shades_write g w s r v flight ln names = refl
 
@@ -246,10 +247,6 @@ module _ (x : Flight) (dest from : ℕ) (is_move : x.call ≡ call.Move dest fro
 
   move_copies : copied x.call ≡ Some from
   move_copies = rw is_move refl
-
-  move_has_item : f.has_item x ≡ true
-  unfolding f.has_item f.has_item_at
-  move_has_item = rw (is_move, at_2) refl
 
 -- all facts hold after a Move has written its register, for the plain heap after the Move
 pub move_writes : (g : Geometry) (w : Words) (flight : ℕ → Flight) (begun : ℕ → ℕ) (t : Spot) (names : Names) (contents : Contents) (range : ℕ → Option ℕ) (s dest from : ℕ)

@@ -9,20 +9,20 @@ pub returns-in_err-read_line : goal.returns-in_err-read_line
 returns-in_err-read_line c =
     let p = err_from_is_err_and c.from_residual.result c.from_residual.ensures.1 in
     rw (p.1, p.2) (subst (Refuses c.in_err-read_line.field-0.0) c.loop-end.invariant.1
-    (stops c.loop-end.line c.loop-end.end (progress_of c.loop-end.reading) c.loop-end.rest.now c.cut.result.0.now c.in_err-read_line.field-0.0 c.loop-end.invariant.0 (omega arith) c.cut.ensures.before c.in_err-read_line.ensures))
+    (stops c.args.limits c.loop-end.line c.loop-end.end (progress_of c.loop-end.reading) c.loop-end.rest.now c.cut.result.0.now c.in_err-read_line.field-0.0 c.loop-end.invariant.0 (omega arith) c.cut.ensures.before c.in_err-read_line.ensures))
 
 pub loop-end-preserved : goal.loop-end-preserved
 loop-end-preserved c =
-    let on = goes_on c.loop-end.line c.loop-end.end (progress_of c.loop-end.reading) (progress_of c.read_line.new.reading) c.loop-end.rest.now c.cut.result.0.now c.cut.result.1.now c.loop-end.invariant.0 (omega arith) c.cut.ensures.before c.cut.ensures.after c.in_ok-read_line.ensures in
+    let on = goes_on c.args.limits c.loop-end.line c.loop-end.end (progress_of c.loop-end.reading) (progress_of c.read_line.new.reading) c.loop-end.rest.now c.cut.result.0.now c.cut.result.1.now c.loop-end.invariant.0 (omega arith) c.cut.ensures.before c.cut.ensures.after c.in_ok-read_line.ensures in
     (c.place_of-end-in-loop-end.ensures.place, rw c.saturating_add-line.ensures (sym on ∙ c.loop-end.invariant.1))
 
 pub returns-in_err-read_line-2 : goal.returns-in_err-read_line-2
 returns-in_err-read_line-2 c =
     let p = err_from_is_err_and c.from_residual-in_err-read_line-2.result c.from_residual-in_err-read_line-2.ensures.1 in
-    let last = last_line c.loop-end.line c.loop-end.end (progress_of c.loop-end.reading) c.loop-end.rest.now c.loop-end.invariant.0 (omega arith) in
+    let last = last_line c.args.limits c.loop-end.line c.loop-end.end (progress_of c.loop-end.reading) c.loop-end.rest.now c.loop-end.invariant.0 (omega arith) in
     rw (p.1, p.2) (subst (Refuses c.in_err-read_line-2.field-0.0) (sym last ∙ c.loop-end.invariant.1) c.in_err-read_line-2.ensures)
 
 pub returns : goal.returns
 returns c =
-    let last = last_line c.loop-end.line c.loop-end.end (progress_of c.loop-end.reading) c.loop-end.rest.now c.loop-end.invariant.0 (omega arith) in
+    let last = last_line c.args.limits c.loop-end.line c.loop-end.end (progress_of c.loop-end.reading) c.loop-end.rest.now c.loop-end.invariant.0 (omega arith) in
     sym c.loop-end.invariant.1 ∙ last ∙ c.in_ok-read_line-2.ensures

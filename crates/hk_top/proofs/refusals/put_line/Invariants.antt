@@ -1,5 +1,5 @@
--- The words so far were written.
-use Rattle.std.proofs.Common.{◌≡◌, ◌≤◌}
+-- The words so far were written, and no write failed.
+use Rattle.std.proofs.Common.{◌≡◌}
 use Rattle.std.specs.Io.KnownBytes.{Appends}
 use Rattle.hk_top.proofs.WordLemmas.{first_words, has_begun}
 use Rattle.hk_top.proofs.refusals.put_line.Given as goal
@@ -8,5 +8,5 @@ abbrev pub invariant-loop-word : goal.invariant-loop-word
 invariant-loop-word g l = record {
   written : Appends (g.K.Sink.taken l.initial.sink) (g.K.Sink.taken l.sink) (first_words l.words l.word-index);
   begun : l.begun ≡ has_begun (first_words l.words l.word-index);
-  later : g.K.Sink.faults l.initial.sink ≤ g.K.Sink.faults l.sink;
+  kept : g.K.Sink.faults l.sink ≡ g.K.Sink.faults l.initial.sink;
 }

@@ -1,5 +1,5 @@
 -- One line behind another.
-use Rattle.std.proofs.Common.{◌∙◌, zip, arith}
+use Rattle.std.proofs.Common.{◌∙◌, zip}
 use Rattle.std.proofs.lemmas.Result.{err_from_is_err_and}
 use Rattle.hk_top.specs.Report.{line_of_response}
 use Rattle.hk_top.proofs.Parts.{more_front, more_prefix, all_front}
@@ -28,12 +28,10 @@ loop-place-preserved g c =
     let within = c.loop-place-test.true in
     let is = response_text tasks responses place c.index-tasks-place.result _ c.bytes_of.result.now text within c.requires.whole c.index-tasks-place.is c.bytes_of.ensures
     (c.bytes.ensures.value ∙ c.high_line-line.ensures) in
-    let later = c.push.ensures.cause.later in
-    let before = c.loop-place.invariant.later in
     record {
       front = more_front line_of_response (zip tasks responses) _ _ _ c.args.gather.now c.loop-place.gather text place _ (zip_within tasks responses place c.requires.whole within) is _
           c.loop-place.invariant.front c.in_ok-push.ensures.ok;
-      later = omega (arith, before, later);
+      kept = c.in_ok-push.ensures.cause.kept ∙ c.loop-place.invariant.kept;
     }
 
 pub returns-clause-ok : goal.returns-clause-ok

@@ -1,5 +1,5 @@
 -- One line behind another.
-use Rattle.std.proofs.Common.{◌∙◌, arith}
+use Rattle.std.proofs.Common.{◌∙◌}
 use Rattle.std.proofs.lemmas.Result.{err_from_is_err_and}
 use Rattle.hk_top.specs.Report.{line_of_low}
 use Rattle.hk_top.proofs.Parts.{more_front, more_prefix}
@@ -22,9 +22,7 @@ loop-task-preserved g c =
     let place = c.loop-task.task-index in
     let text = c.bytes.result.now in
     let is = low_text tasks place c.task-item.result c.bytes_of.result.now text c.task-item.is c.bytes_of.ensures (c.bytes.ensures.value ∙ c.low_line.ensures) in
-    let later = c.push.ensures.cause.later in
-    let before = c.loop-task.invariant.later in
     record {
       front = more_front line_of_low tasks _ _ _ c.args.gather.now c.loop-task.gather text place _ c.loop-task-test.true is _ c.loop-task.invariant.front c.in_ok-push.ensures.ok;
-      later = omega (arith, before, later);
+      kept = c.in_ok-push.ensures.cause.kept ∙ c.loop-task.invariant.kept;
     }

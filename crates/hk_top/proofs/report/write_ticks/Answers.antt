@@ -1,5 +1,5 @@
 -- The text of one tick behind another.
-use Rattle.std.proofs.Common.{◌∙◌, arith}
+use Rattle.std.proofs.Common.{◌∙◌}
 use Rattle.std.proofs.lemmas.Result.{err_from_is_err_and}
 use Rattle.std.specs.List.{range_with_len}
 use Rattle.hk_top.specs.Report.{tick_text}
@@ -27,7 +27,6 @@ loop-tick-preserved g c =
     let tick = c.loop-tick.tick in
     let inv = c.loop-tick.invariant in
     let inside = c.loop-tick-test.true in
-    let before = inv.later in
     record {
       at = c.tick.ensures.at;
       front = elim c.match-tick.branch [
@@ -45,9 +44,9 @@ loop-tick-preserved g c =
             (quiet_front (tick_text sheet) (range_with_len 0 sheet.ticks) _ _ c.args.gather.now c.loop-tick.gather tick 0
             (tick_within tick sheet.ticks inside) (tick_at sheet tick sheet.ticks _ inside is) inv.front)
       ];
-      later = elim c.match-tick.branch [
-        | in-Some+in_ok-push w ↦ let s = w.sink-is in let l = w.push.ensures.cause.later in rw s (omega (arith, l, before))
-        | in_default w ↦ rw w.sink-is before
+      kept = elim c.match-tick.branch [
+        | in-Some+in_ok-push w ↦ rw w.sink-is (w.in_ok-push.ensures.cause.kept ∙ inv.kept)
+        | in_default w ↦ rw w.sink-is inv.kept
       ];
     }
 

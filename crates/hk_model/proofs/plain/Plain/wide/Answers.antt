@@ -1,4 +1,4 @@
-use Rattle.std.proofs.Common.{ℕ, ◌<◌, subst, sym, ◌∙◌, ap, arith}
+use Rattle.std.proofs.Common.{◌<◌, subst, sym, ◌∙◌, ap, arith}
 use Rattle.hk_model.specs.Heap.{IsPlain, register_count, opening}
 use Rattle.hk_model.proofs.Fields.{IsPlain-kept, opening_is}
 use Rattle.hk_model.proofs.Heaps.{IsHeap-opening, opening_count}

@@ -39,7 +39,7 @@ get_here [] i d lt = absurd (omega arith)
 get_here (x ∷ s) zero d lt = refl
 get_here (x ∷ s) (suc i) d lt = get_here s i d (omega arith)
 
-get_past : (s : List Statement) (i : ℕ) → length s ≤ i → slice_get s i ≡ None
+pub get_past : (s : List Statement) (i : ℕ) → length s ≤ i → slice_get s i ≡ None
 get_past [] i le = refl
 get_past (x ∷ s) zero le = absurd (omega arith)
 get_past (x ∷ s) (suc i) le = get_past s i (omega arith)

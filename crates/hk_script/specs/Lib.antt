@@ -17,3 +17,4 @@ pub mod Levels
 pub mod Walks
 pub mod Runs
 pub mod Needs
+pub mod Left

@@ -20,7 +20,9 @@ mod walk;
 
 pub use costs::{MAX_COST, cost, largest, words};
 pub use error::ScriptError;
-pub use laws::{needs_fit, one_script, printed_again, walks_within_cost, wider_limits};
+pub use laws::{
+    needs_fit, one_script, printed_again, walks_fall, walks_fit, walks_within_cost, wider_limits,
+};
 pub use parsing::{parse, parse_in};
 pub use printing::print;
 pub use script::Script;

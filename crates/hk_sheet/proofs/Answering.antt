@@ -12,12 +12,13 @@ use Rattle.hk_sheet.specs.declared.arrivals.Arrivals.TheVariants.{Every}
 use Rattle.hk_sheet.specs.declared.arrivals.Arrivals.TheVariants as arrivals
 use Rattle.hk_sheet.specs.declared.error.SheetError.{SheetError}
 use Rattle.hk_sheet.specs.declared.error.SheetError.TheVariants as error
+use Rattle.hk_sheet.specs.declared.sheet.HeapKeys.{HeapKeys}
 use Rattle.hk_sheet.specs.declared.sheet.Sheet.{Sheet}
 use Rattle.hk_sheet.specs.Answers.{IsDocument, IsRead, Answers}
 use Rattle.hk_sheet.specs.Code.{Gives}
-use Rattle.hk_sheet.specs.Rules.{Wrong, no_such_kind, out_of_range, Rule, wrong_in, number_at, top_rules, heap_rules, high_rules, low_rules}
-use Rattle.hk_sheet.specs.Reading.{text_at, table_at, highs_of, lows_of, arrivals_in, sheet_in}
-use Rattle.hk_sheet.specs.Faults.{first_of, unknown_keys, least, shown, unknown_fault, error_of, fault_of_value, fault_of_key, fault_of_table, faults_of_tasks, task_path, is_name, is_among, faults_of_names, names_of, faults_of_ticks, fault_of_arrivals, fault_of_high_arrivals, fault_of_low_arrivals, fault_of_text, fault_of_script, sizes_of, fault_of_geometry, fault_of, sheet_of}
+use Rattle.hk_sheet.specs.Rules.{Wrong, no_such_kind, out_of_range, Rule, wrong_in, number_at, is_second, top_rules, heap_rules, high_rules, low_rules}
+use Rattle.hk_sheet.specs.Reading.{text_at, table_at, highs_of, lows_of, arrivals_in, heap_of, sheet_in}
+use Rattle.hk_sheet.specs.Faults.{first_of, counted, unknown_keys, least, shown, unknown_fault, error_of, fault_of_value, fault_of_key, fault_of_table, faults_of_tasks, task_path, is_name, is_among, faults_of_names, names_of, faults_of_ticks, fault_of_arrivals, fault_of_high_arrivals, fault_of_low_arrivals, fault_of_text, fault_of_script, sizes_of, fault_of_geometry, fault_of, sheet_of}
 use Rattle.hk_sheet.specs.Valid.{IsSheet}
 use Rattle.hk_sheet.proofs.FaultOrder.{or_else, high_faults, low_faults, fault_of-in_order}
 use Rattle.hk_sheet.proofs.Validity.{sheet_right}
@@ -66,7 +67,7 @@ tasks_not : (kind : List ℕ) (rules : Members → List Rule) (index : ℕ) (tas
 tasks_not kind rules index [] = tt
 tasks_not kind rules index (entries ∷ rest) = (table_not (task_path kind index) (rules entries) entries, tasks_not kind rules (index + 1) rest)
 
-name_not : (index : ℕ) (right : Bool) → NotText (if right then None else Some (error.Name index))
+name_not : (index : ℕ) (right : Bool) → NotText (if right then None else Some (error.Name (counted index)))
 name_not index true = λ is. cc
 name_not index false = λ is. cc
 
@@ -74,7 +75,7 @@ names_not : (earlier : List (List ℕ)) (index : ℕ) (names : List (List ℕ)) 
 names_not earlier index [] = tt
 names_not earlier index (name ∷ rest) = (name_not index (is_name name && not (is_among earlier name)), names_not (name ∷ earlier) (index + 1) rest)
 
-close_not : (task : List ℕ) (place earlier later : ℕ) (close : Bool) → NotText (if close then Some (error.Arrivals task place earlier later) else None)
+close_not : (task : List ℕ) (place earlier later : ℕ) (close : Bool) → NotText (if close then Some (error.Arrivals task (counted place) earlier later) else None)
 close_not task place earlier later true = λ is. cc
 close_not task place earlier later false = λ is. cc
 
@@ -92,9 +93,9 @@ text_not : (task : List ℕ) (read : Result (List Statement) ScriptError) → No
 text_not task (Ok script) = λ is. cc
 text_not task (Err fault) = λ is. cc
 
-script_not : (entries : Members) → NotText (fault_of_script entries)
+script_not : (heap : HeapKeys) (entries : Members) → NotText (fault_of_script heap entries)
 unfolding fault_of_script
-script_not entries = text_not (text_at (codes "name") entries) (script_of (text_at (codes "script") entries))
+script_not heap entries = text_not (text_at (codes "name") entries) (script_of (text_at (codes "script") entries))
 
 sizes_not : (fault : Option GeoError) → NotText (option_map error.Geometry fault)
 sizes_not None = λ is. cc
@@ -102,19 +103,19 @@ sizes_not (Some fault) = λ is. cc
 
 geometry_not : (sheet : Sheet) → NotText (fault_of_geometry sheet)
 unfolding fault_of_geometry
-geometry_not sheet = sizes_not (first_error (sizes_of sheet))
+geometry_not sheet = sizes_not (first_error sheet.heap.fields (sizes_of sheet))
 
 document_not : (document : Members) → NotText (fault_of document)
 document_not document is =
     let all = neither_text (fault_of_table [] top_rules document) _ (table_not [] top_rules document)
-    (neither_text (fault_of_table (codes "heap.") heap_rules (table_at (codes "heap") document)) _ (table_not (codes "heap.") heap_rules (table_at (codes "heap") document))
+    (neither_text (fault_of_table (codes "heap.") (heap_rules (is_second document)) (table_at (codes "heap") document)) _ (table_not (codes "heap.") (heap_rules (is_second document)) (table_at (codes "heap") document))
     (neither_text (high_faults document) _ (first_not _ (tasks_not (codes "high") (high_rules (number_at (codes "ticks") document)) 0 (highs_of document)))
     (neither_text (low_faults document) _ (first_not _ (tasks_not (codes "low") (low_rules (number_at (codes "ticks") document)) 0 (lows_of document)))
     (neither_text (first_of (faults_of_names [] 0 (names_of document))) _ (first_not _ (names_not [] 0 (names_of document)))
     (neither_text (first_of (map fault_of_high_arrivals (highs_of document))) _ (first_not _ (each_not fault_of_high_arrivals (λ entries. arrivals_not (text_at (codes "name") entries) (number_at (codes "period") entries) (arrivals_in entries)) (highs_of document)))
     (neither_text (first_of (map fault_of_low_arrivals (lows_of document))) _ (first_not _ (each_not fault_of_low_arrivals (λ entries. arrivals_not (text_at (codes "name") entries) 1 (arrivals_in entries)) (lows_of document)))
-    (neither_text (first_of (map fault_of_script (highs_of document))) _ (first_not _ (each_not fault_of_script script_not (highs_of document)))
-    (neither_text (first_of (map fault_of_script (lows_of document))) _ (first_not _ (each_not fault_of_script script_not (lows_of document)))
+    (neither_text (first_of (map (fault_of_script (heap_of document)) (highs_of document))) _ (first_not _ (each_not (fault_of_script (heap_of document)) (script_not (heap_of document)) (highs_of document)))
+    (neither_text (first_of (map (fault_of_script (heap_of document)) (lows_of document))) _ (first_not _ (each_not (fault_of_script (heap_of document)) (script_not (heap_of document)) (lows_of document)))
     (geometry_not (sheet_in document))))))))))
     in
     all (sym (fault_of-in_order document) ∙ is)

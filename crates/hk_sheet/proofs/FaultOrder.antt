@@ -4,8 +4,9 @@ use Rattle.std.proofs.lemmas.List.{map-append}
 use Rattle.std.specs.List.{AllByRecursion}
 use Rattle.toml.specs.Data.{Members}
 use Rattle.hk_sheet.specs.declared.error.SheetError.{SheetError}
-use Rattle.hk_sheet.specs.Rules.{top_rules, heap_rules, high_rules, low_rules, number_at}
-use Rattle.hk_sheet.specs.Reading.{table_at, highs_of, lows_of, sheet_in}
+use Rattle.hk_sheet.specs.declared.sheet.HeapKeys.{HeapKeys}
+use Rattle.hk_sheet.specs.Rules.{top_rules, heap_rules, high_rules, low_rules, number_at, is_second}
+use Rattle.hk_sheet.specs.Reading.{table_at, highs_of, lows_of, heap_of, sheet_in}
 use Rattle.hk_sheet.specs.Faults.{first_of, fault_of_table, faults_of_tasks, faults_of_tables, faults_of_names, names_of, fault_of_high_arrivals, fault_of_low_arrivals, fault_of_script, fault_of_geometry, fault_of}
 
 -- the first fault, and the other one where there is none
@@ -80,20 +81,20 @@ both : (xs ys : List (Option SheetError)) (x y : Option SheetError) → first_of
 both xs ys x y one two = first_of-append xs ys ∙ (ap (λ o. or_else o (first_of ys)) one ∙ ap (or_else x) two)
 
 -- the faults of a document in a row
-in_a_row : (top heap : Option SheetError) (highs lows names high_arrivals low_arrivals : List (Option SheetError)) (high low : List Members) (geometry : Option SheetError)
-    → first_of ((top ∷ heap ∷ highs ++ lows) ++ names ++ high_arrivals ++ low_arrivals ++ map fault_of_script (high ++ low) ++ geometry ∷ [])
-    ≡ one_after_another top heap (first_of highs) (first_of lows) (first_of names) (first_of high_arrivals) (first_of low_arrivals) (first_of (map fault_of_script high)) (first_of (map fault_of_script low)) geometry
-in_a_row top heap highs lows names high_arrivals low_arrivals high low geometry =
+in_a_row : (top heap : Option SheetError) (highs lows names high_arrivals low_arrivals : List (Option SheetError)) (heap_keys : HeapKeys) (high low : List Members) (geometry : Option SheetError)
+    → first_of ((top ∷ heap ∷ highs ++ lows) ++ names ++ high_arrivals ++ low_arrivals ++ map (fault_of_script heap_keys) (high ++ low) ++ geometry ∷ [])
+    ≡ one_after_another top heap (first_of highs) (first_of lows) (first_of names) (first_of high_arrivals) (first_of low_arrivals) (first_of (map (fault_of_script heap_keys) high)) (first_of (map (fault_of_script heap_keys) low)) geometry
+in_a_row top heap highs lows names high_arrivals low_arrivals heap_keys high low geometry =
     let start = first_of-cons top (heap ∷ highs) ∙ ap (or_else top) (first_of-cons heap highs) in
     let tables = both (top ∷ heap ∷ highs) lows _ _ start refl in
     let with_names = both (top ∷ heap ∷ highs ++ lows) names _ _ tables refl in
     let with_highs = both (top ∷ heap ∷ highs ++ lows ++ names) high_arrivals _ _ with_names refl in
     let with_lows = both (top ∷ heap ∷ highs ++ lows ++ names ++ high_arrivals) low_arrivals _ _ with_highs refl in
-    let scripts = ap first_of (map-append fault_of_script high low) ∙ first_of-append (map fault_of_script high) (map fault_of_script low) in
-    let with_scripts = both (top ∷ heap ∷ highs ++ lows ++ names ++ high_arrivals ++ low_arrivals) (map fault_of_script (high ++ low)) _ _ with_lows scripts in
+    let scripts = ap first_of (map-append (fault_of_script heap_keys) high low) ∙ first_of-append (map (fault_of_script heap_keys) high) (map (fault_of_script heap_keys) low) in
+    let with_scripts = both (top ∷ heap ∷ highs ++ lows ++ names ++ high_arrivals ++ low_arrivals) (map (fault_of_script heap_keys) (high ++ low)) _ _ with_lows scripts in
     let last = first_of-cons geometry [] ∙ or_else-none geometry in
-    let all = both (top ∷ heap ∷ highs ++ lows ++ names ++ high_arrivals ++ low_arrivals ++ map fault_of_script (high ++ low)) (geometry ∷ []) _ _ with_scripts last in
-    all ∙ rebracket top heap (first_of highs) (first_of lows) (first_of names) (first_of high_arrivals) (first_of low_arrivals) (first_of (map fault_of_script high)) (first_of (map fault_of_script low)) geometry
+    let all = both (top ∷ heap ∷ highs ++ lows ++ names ++ high_arrivals ++ low_arrivals ++ map (fault_of_script heap_keys) (high ++ low)) (geometry ∷ []) _ _ with_scripts last in
+    all ∙ rebracket top heap (first_of highs) (first_of lows) (first_of names) (first_of high_arrivals) (first_of low_arrivals) (first_of (map (fault_of_script heap_keys) high)) (first_of (map (fault_of_script heap_keys) low)) geometry
 
 module _ (document : Members) where
   abbrev pub high_faults : Option SheetError
@@ -103,16 +104,16 @@ module _ (document : Members) where
   low_faults = first_of (faults_of_tasks (codes "low") (low_rules (number_at (codes "ticks") document)) 0 (lows_of document))
 
   abbrev pub in_order : Option SheetError
-  in_order = one_after_another (fault_of_table [] top_rules document) (fault_of_table (codes "heap.") heap_rules (table_at (codes "heap") document)) high_faults low_faults
+  in_order = one_after_another (fault_of_table [] top_rules document) (fault_of_table (codes "heap.") (heap_rules (is_second document)) (table_at (codes "heap") document)) high_faults low_faults
       (first_of (faults_of_names [] 0 (names_of document))) (first_of (map fault_of_high_arrivals (highs_of document))) (first_of (map fault_of_low_arrivals (lows_of document)))
-      (first_of (map fault_of_script (highs_of document))) (first_of (map fault_of_script (lows_of document))) (fault_of_geometry (sheet_in document))
+      (first_of (map (fault_of_script (heap_of document)) (highs_of document))) (first_of (map (fault_of_script (heap_of document)) (lows_of document))) (fault_of_geometry (sheet_in document))
 
   -- the first fault of a document
   pub fault_of-in_order : fault_of document ≡ in_order
   unfolding fault_of faults_of_tables
-  fault_of-in_order = in_a_row (fault_of_table [] top_rules document) (fault_of_table (codes "heap.") heap_rules (table_at (codes "heap") document))
+  fault_of-in_order = in_a_row (fault_of_table [] top_rules document) (fault_of_table (codes "heap.") (heap_rules (is_second document)) (table_at (codes "heap") document))
       (faults_of_tasks (codes "high") (high_rules (number_at (codes "ticks") document)) 0 (highs_of document)) (faults_of_tasks (codes "low") (low_rules (number_at (codes "ticks") document)) 0 (lows_of document))
-      (faults_of_names [] 0 (names_of document)) (map fault_of_high_arrivals (highs_of document)) (map fault_of_low_arrivals (lows_of document)) (highs_of document) (lows_of document) (fault_of_geometry (sheet_in document))
+      (faults_of_names [] 0 (names_of document)) (map fault_of_high_arrivals (highs_of document)) (map fault_of_low_arrivals (lows_of document)) (heap_of document) (highs_of document) (lows_of document) (fault_of_geometry (sheet_in document))
 
 -- a stage without a fault is passed, and one with a fault ends the search
 pub skip : {a b : Option SheetError} → a ≡ None → or_else a b ≡ b

@@ -4,8 +4,7 @@ use Rattle.std.proofs.lemmas.Bool.{and_parts, false≢true}
 use Rattle.std.proofs.lemmas.Bool.Decides.{nat_tests}
 use Rattle.std.specs.List.{AllByRecursion, list_all}
 use Rattle.toml.specs.Data.{Data, string, integer, float, boolean, datetime, array, table, Members, get_member, as_table}
-use Rattle.hk_sheet.specs.declared.sheet.TheConstants.{MAX_ARRIVALS}
-use Rattle.hk_sheet.specs.Rules.{number, pair, ticks_of_run, one_table, top_rules, Wrong, Rule, needs, elements_of, number_of, number_held, number_at, is_in, wrong_unless, wrong_in}
+use Rattle.hk_sheet.specs.Rules.{number, pair, ticks_of_run, one_table, top_rules, Wrong, Rule, needs, may_have, elements_of, number_of, number_held, number_at, is_in, wrong_unless, wrong_in}
 use Rattle.hk_sheet.specs.Reading.{held, value_at, numbers_at, first_of_pair, second_of_pair}
 use Rattle.hk_sheet.specs.Faults.{unknown_fault, error_of, fault_of_value, fault_of_key, fault_of_table}
 use Rattle.hk_sheet.specs.Valid.{IsFrom}
@@ -49,6 +48,14 @@ number_value path key low high (Some d) none = number_in low high d (in_range _ 
 pub number_key : (path key : List ℕ) (low high : ℕ) (entries : Members) → fault_of_key path entries (needs key (number low high)) ≡ None → IsFrom low high (number_at key entries)
 number_key path key low high entries none = number_value path key low high (get_member key entries) none
 
+-- the number at a key that may be missing
+optional_value : (path key : List ℕ) (high : ℕ) (o : Option Data) → fault_of_value (path ++ key) (may_have key (number 0 high)) o ≡ None → number_held o ≤ high
+optional_value path key high None none = omega arith
+optional_value path key high (Some d) none = (number_in 0 high d (in_range _ _ (right (path ++ key) (wrong_in (number 0 high) d) none))).at_most
+
+pub optional_key : (path key : List ℕ) (high : ℕ) (entries : Members) → fault_of_key path entries (may_have key (number 0 high)) ≡ None → number_at key entries ≤ high
+optional_key path key high entries none = optional_value path key high (get_member key entries) none
+
 -- the numbers of a pair
 first_in : (high : ℕ) (ds : List Data) → list_all (is_in 0 high) ds ≡ true → first_of_pair (map number_of ds) ≤ high
 first_in high [] all = omega arith
@@ -78,7 +85,7 @@ ticks_in ticks (d ∷ ds) some all =
     (omega (arith, last), ticks_in ticks ds some both.1)
 
 ticks_value : (path key : List ℕ) (ticks : ℕ) (o : Option Data) → fault_of_value (path ++ key) (needs key (ticks_of_run ticks)) o ≡ None
-    → (nat_le (length (elements_of (held o))) MAX_ARRIVALS && list_all (is_in 0 (ticks - 1)) (elements_of (held o))) ≡ true
+    → (nat_le (length (elements_of (held o))) 4096 && list_all (is_in 0 (ticks - 1)) (elements_of (held o))) ≡ true
 ticks_value path key ticks None none = cc
 ticks_value path key ticks (Some d) none = in_range _ _ (right (path ++ key) (wrong_in (ticks_of_run ticks) d) none)
 
@@ -90,11 +97,11 @@ few : (n m : ℕ) → nat_le n m ≡ true → n ≤ m
 few n m is = grind (arith, nat_tests)
 
 pub ticks_key : (path key : List ℕ) (ticks : ℕ) (entries : Members) → 1 ≤ ticks → fault_of_key path entries (needs key (ticks_of_run ticks)) ≡ None
-    → AllByRecursion (λ tick. tick < ticks) (numbers_at key entries) × (length (numbers_at key entries) ≤ MAX_ARRIVALS)
+    → AllByRecursion (λ tick. tick < ticks) (numbers_at key entries) × (length (numbers_at key entries) ≤ 4096)
 ticks_key path key ticks entries some none =
     let ds = elements_of (value_at key entries) in
-    let both = and_parts (nat_le (length ds) MAX_ARRIVALS) (list_all (is_in 0 (ticks - 1)) ds) (ticks_value path key ticks (get_member key entries) none) in
-    (ticks_in ticks ds some both.1, rw (length-map number_of ds) (few (length ds) MAX_ARRIVALS both.0))
+    let both = and_parts (nat_le (length ds) 4096) (list_all (is_in 0 (ticks - 1)) ds) (ticks_value path key ticks (get_member key entries) none) in
+    (ticks_in ticks ds some both.1, rw (length-map number_of ds) (few (length ds) 4096 both.0))
 
 -- a table that is there
 of_kind : (kind : Bool) → wrong_unless kind true ≡ None → kind ≡ true

@@ -1,6 +1,7 @@
 -- The document of a sheet declares that sheet.
-use Rattle.std.proofs.Common.{◌≡◌, ℕ, List, [], ◌∷◌, map, filter_map, Ok, refl, ap, ◌∙◌}
+use Rattle.std.proofs.Common.{◌≡◌, ℕ, Bool, true, false, ◌==◌, codes, if◌then◌else◌, sym, arith, List, [], ◌∷◌, map, filter_map, Ok, refl, ap, ◌∙◌}
 use Rattle.std.specs.List.{AllByRecursion}
+use Rattle.std.proofs.lemmas.Bool.Decides.{nat_tests}
 use Rattle.toml.specs.Data.{Data, table, Members, as_table}
 use Rattle.toml.specs.View.{items_of}
 use Rattle.hk_rta.specs.declared.Timing.{Timing}
@@ -17,10 +18,10 @@ use Rattle.hk_sheet.specs.declared.sheet.HeapKeys.{HeapKeys}
 use Rattle.hk_sheet.specs.declared.sheet.High.{High}
 use Rattle.hk_sheet.specs.declared.sheet.Low.{Low}
 use Rattle.hk_sheet.specs.declared.sheet.Sheet.{Sheet}
-use Rattle.hk_sheet.specs.Rules.{elements, number_of}
-use Rattle.hk_sheet.specs.Reading.{read_script, heap_in, arrivals_in, script_in, timing_in, high_in, low_in, highs_of, lows_of, sheet_in}
-use Rattle.hk_sheet.specs.Printing.{number_data, heap_entries, high_entries, low_entries, document_of}
-use Rattle.hk_sheet.specs.Valid.{IsHigh, IsLow, IsSheet}
+use Rattle.hk_sheet.specs.Rules.{elements, number_of, number_at, is_second}
+use Rattle.hk_sheet.specs.Reading.{read_script, heap_in, arrivals_in, script_in, timing_in, high_in, low_in, highs_of, lows_of, heap_of, sheet_in}
+use Rattle.hk_sheet.specs.Printing.{is_wide, heap_table, number_data, heap_entries, high_entries, low_entries, document_of}
+use Rattle.hk_sheet.specs.Valid.{is_breadth, IsHigh, IsLow, IsSheet}
 
 -- an array has the elements that it was made of
 pub elements_again : (ds : List Data) → elements (items_of ds) ≡ ds
@@ -42,43 +43,67 @@ tables_again entries (t ∷ tasks) = ap (λ rest. entries t ∷ rest) (tables_ag
 pub script_again : (script : List Statement) → IsScript script → script_of (text_of script) ≡ Ok script
 script_again script is = text_again (text_of script) script (script_spelled script is)
 
--- the heap
-heap_again : (heap : HeapKeys) → heap_in (heap_entries heap) ≡ heap
+-- the heap, which is one of version 2 or not
+pub version_again : (second : Bool) → (if second then 2 else 1) == 2 ≡ second
+version_again true = refl
+version_again false = refl
+
+-- the fields and the registers of a breadth
+second_breadth : (fields registers : ℕ) → is_breadth fields registers ≡ true → fields == 254 ≡ true → fields ≡ 254
+second_breadth fields registers is wide = grind (arith, nat_tests)
+
+pub first_breadth : (fields registers : ℕ) → is_breadth fields registers ≡ true → fields == 254 ≡ false → (fields ≡ 62) × (registers ≡ 8)
+first_breadth fields registers is narrow = (grind (arith, nat_tests), grind (arith, nat_tests))
+
+heap_by_version : (second : Bool) (heap : HeapKeys) → is_wide heap ≡ second → is_breadth heap.fields heap.registers ≡ true → heap_in second (heap_table second heap) ≡ heap
 unfolding heap_in
-heap_again heap = refl
+heap_by_version true heap wide is =
+    let most = sym (second_breadth heap.fields heap.registers is wide) in
+    λ i. record { live = heap.live; alloc = heap.alloc; reserve = heap.reserve; rate = heap.rate; refs = heap.refs; nums = heap.nums; registers = heap.registers; fields = most i }
+heap_by_version false heap narrow is =
+    let few = first_breadth heap.fields heap.registers is narrow in
+    λ i. record { live = heap.live; alloc = heap.alloc; reserve = heap.reserve; rate = heap.rate; refs = heap.refs; nums = heap.nums; registers = sym few.1 i; fields = sym few.0 i }
+
+heap_again : (heap : HeapKeys) → is_breadth heap.fields heap.registers ≡ true → heap_in (is_wide heap) (heap_entries heap) ≡ heap
+heap_again heap is = heap_by_version (is_wide heap) heap refl is
 
 -- a high task
-high_by_fields : (name : List ℕ) (timing : Timing) (words : ℕ) (arrives : Arrivals) (script : List Statement) → IsScript script
-    → high_in (high_entries (record { name = name; timing = timing; words = words; arrivals = arrives; script = script })) ≡ record { name = name; timing = timing; words = words; arrivals = arrives; script = script }
+high_by_fields : (heap : HeapKeys) (name : List ℕ) (timing : Timing) (words lag : ℕ) (arrives : Arrivals) (script : List Statement) → IsScript script
+    → high_in heap (high_entries (record { name = name; timing = timing; words = words; lag = lag; arrivals = arrives; script = script })) ≡ record { name = name; timing = timing; words = words; lag = lag; arrivals = arrives; script = script }
 unfolding high_in timing_in arrivals_in script_in
-high_by_fields name timing words (Every first step) script is =
-    λ i. record { name = name; timing = timing; words = words; arrivals = Every first step; script = read_script (script_again script is i) }
-high_by_fields name timing words (arrivals.List ticks) script is =
-    λ i. record { name = name; timing = timing; words = words; arrivals = arrivals.List (numbers_again ticks i); script = read_script (script_again script is i) }
+high_by_fields heap name timing words lag (Every first step) script is =
+    λ i. record { name = name; timing = timing; words = words; lag = lag; arrivals = Every first step; script = read_script (script_again script is i) }
+high_by_fields heap name timing words lag (arrivals.List ticks) script is =
+    λ i. record { name = name; timing = timing; words = words; lag = lag; arrivals = arrivals.List (numbers_again ticks i); script = read_script (script_again script is i) }
 
-pub high_again : (task : High) → IsScript task.script → high_in (high_entries task) ≡ task
-high_again task is = high_by_fields task.name task.timing task.words task.arrivals task.script is
+pub high_again : (heap : HeapKeys) (task : High) → IsScript task.script → high_in heap (high_entries task) ≡ task
+high_again heap task is = high_by_fields heap task.name task.timing task.words task.lag task.arrivals task.script is
 
 -- a low task
-low_by_fields : (name : List ℕ) (arrives : Arrivals) (script : List Statement) → IsScript script
-    → low_in (low_entries (record { name = name; arrivals = arrives; script = script })) ≡ record { name = name; arrivals = arrives; script = script }
+low_by_fields : (heap : HeapKeys) (name : List ℕ) (arrives : Arrivals) (script : List Statement) → IsScript script
+    → low_in heap (low_entries (record { name = name; arrivals = arrives; script = script })) ≡ record { name = name; arrivals = arrives; script = script }
 unfolding low_in arrivals_in script_in
-low_by_fields name (Every first step) script is =
+low_by_fields heap name (Every first step) script is =
     λ i. record { name = name; arrivals = Every first step; script = read_script (script_again script is i) }
-low_by_fields name (arrivals.List ticks) script is =
+low_by_fields heap name (arrivals.List ticks) script is =
     λ i. record { name = name; arrivals = arrivals.List (numbers_again ticks i); script = read_script (script_again script is i) }
 
-pub low_again : (task : Low) → IsScript task.script → low_in (low_entries task) ≡ task
-low_again task is = low_by_fields task.name task.arrivals task.script is
+pub low_again : (heap : HeapKeys) (task : Low) → IsScript task.script → low_in heap (low_entries task) ≡ task
+low_again heap task is = low_by_fields heap task.name task.arrivals task.script is
 
 -- the tasks
-highs_again : (ticks : ℕ) (tasks : List High) → AllByRecursion (IsHigh ticks) tasks → map high_in (map high_entries tasks) ≡ tasks
-highs_again ticks [] are = refl
-highs_again ticks (t ∷ tasks) are = λ i. high_again t are.0.script i ∷ highs_again ticks tasks are.1 i
+highs_again : (ticks : ℕ) (heap : HeapKeys) (tasks : List High) → AllByRecursion (IsHigh ticks heap) tasks → map (high_in heap) (map high_entries tasks) ≡ tasks
+highs_again ticks heap [] are = refl
+highs_again ticks heap (t ∷ tasks) are = λ i. high_again heap t are.0.script i ∷ highs_again ticks heap tasks are.1 i
 
-lows_again : (ticks : ℕ) (tasks : List Low) → AllByRecursion (IsLow ticks) tasks → map low_in (map low_entries tasks) ≡ tasks
-lows_again ticks [] are = refl
-lows_again ticks (t ∷ tasks) are = λ i. low_again t are.0.script i ∷ lows_again ticks tasks are.1 i
+lows_again : (ticks : ℕ) (heap : HeapKeys) (tasks : List Low) → AllByRecursion (IsLow ticks heap) tasks → map (low_in heap) (map low_entries tasks) ≡ tasks
+lows_again ticks heap [] are = refl
+lows_again ticks heap (t ∷ tasks) are = λ i. low_again heap t are.0.script i ∷ lows_again ticks heap tasks are.1 i
+
+-- the ticks
+ticks_again : (sheet : Sheet) → number_at (codes "ticks") (document_of sheet) ≡ sheet.ticks
+unfolding document_of
+ticks_again sheet = refl
 
 -- the tables of the tasks
 pub highs_of-document : (sheet : Sheet) → highs_of (document_of sheet) ≡ map high_entries sheet.high
@@ -89,10 +114,22 @@ pub lows_of-document : (sheet : Sheet) → lows_of (document_of sheet) ≡ map l
 unfolding document_of
 lows_of-document sheet = tables_again low_entries sheet.low
 
+-- the version, and the heap
+pub second_again : (sheet : Sheet) → is_second (document_of sheet) ≡ is_wide sheet.heap
+unfolding document_of
+second_again sheet = version_again (is_wide sheet.heap)
+
+pub heap_of-document : (sheet : Sheet) → is_breadth sheet.heap.fields sheet.heap.registers ≡ true → heap_of (document_of sheet) ≡ sheet.heap
+unfolding heap_of document_of
+heap_of-document sheet is = ap (λ second. heap_in second (heap_entries sheet.heap)) (version_again (is_wide sheet.heap)) ∙ heap_again sheet.heap is
+
 -- the sheet
 pub sheet_again : (sheet : Sheet) → IsSheet sheet → sheet_in (document_of sheet) ≡ sheet
-unfolding sheet_in heap_in document_of
+unfolding sheet_in
 sheet_again sheet is =
-    let high : map high_in (highs_of (document_of sheet)) ≡ sheet.high = ap (map high_in) (highs_of-document sheet) ∙ highs_again sheet.ticks sheet.high is.high in
-    let low : map low_in (lows_of (document_of sheet)) ≡ sheet.low = ap (map low_in) (lows_of-document sheet) ∙ lows_again sheet.ticks sheet.low is.low in
-    λ i. record { ticks = sheet.ticks; heap = sheet.heap; high = high i; low = low i }
+    let document = document_of sheet in
+    let heap = heap_of-document sheet is.heap.breadth in
+    let high : map (high_in (heap_of document)) (highs_of document) ≡ sheet.high = (λ i. map (high_in (heap i)) (highs_of-document sheet i)) ∙ highs_again sheet.ticks sheet.heap sheet.high is.high in
+    let low : map (low_in (heap_of document)) (lows_of document) ≡ sheet.low = (λ i. map (low_in (heap i)) (lows_of-document sheet i)) ∙ lows_again sheet.ticks sheet.heap sheet.low is.low in
+    let ticks : number_at (codes "ticks") document ≡ sheet.ticks = ticks_again sheet in
+    λ i. record { ticks = ticks i; heap = heap i; high = high i; low = low i }

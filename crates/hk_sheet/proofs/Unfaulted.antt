@@ -1,8 +1,9 @@
 -- The document of a sheet has no fault.
-use Rattle.std.proofs.Common.{◌≡◌, ℕ, ◌+◌, ◌-◌, ◌<◌, ◌≤◌, true, false, List, [], ◌∷◌, ◌++◌, length, map, codes, Option, Some, None, is_some, Ok, refl, ap, sym, arith}
+use Rattle.std.proofs.Common.{◌≡◌, ℕ, ◌+◌, ◌-◌, ◌<◌, ◌≤◌, ◌==◌, if◌then◌else◌, Bool, true, false, List, [], ◌∷◌, ◌++◌, length, map, codes, Option, Some, None, is_some, Ok, refl, ap, sym, arith}
 use Rattle.std.specs.List.{AllByRecursion, list_all}
 use Rattle.std.specs.Str.{bytes_eq}
 use Rattle.std.proofs.lemmas.Bool.{both_ways, false_from_ne_true, le-leb, le-ltb, or_from, or_parts}
+use Rattle.std.proofs.lemmas.Bool.Decides.{nat_tests}
 use Rattle.std.proofs.lemmas.List.{length-map, map-append}
 use Rattle.std.proofs.lemmas.Slice.Eq.{bytes_eq-Decides}
 use Rattle.toml.specs.Data.{Data, string, array, table, Members, get_member, as_table}
@@ -19,13 +20,12 @@ use Rattle.hk_sheet.specs.declared.sheet.HeapKeys.{HeapKeys}
 use Rattle.hk_sheet.specs.declared.sheet.High.{High}
 use Rattle.hk_sheet.specs.declared.sheet.Low.{Low}
 use Rattle.hk_sheet.specs.declared.sheet.Sheet.{Sheet}
-use Rattle.hk_sheet.specs.declared.sheet.TheConstants.{MAX_TICKS, MAX_SIZE, MAX_RATE, MAX_BOARD, MAX_ARRIVALS}
-use Rattle.hk_sheet.specs.Rules.{Kind, number, pair, ticks_of_run, text, one_table, tables, Rule, needs, may_have, wrong_in, is_in, is_integer, number_at, top_rules, heap_rules, arrival_rules, high_rules, low_rules}
-use Rattle.hk_sheet.specs.Reading.{text_at, timing_in, arrivals_in, high_in, low_in, highs_of, lows_of, sheet_in}
+use Rattle.hk_sheet.specs.Rules.{Kind, number, pair, ticks_of_run, text, one_table, tables, Rule, needs, may_have, wrong_in, is_in, is_integer, number_at, is_second, top_rules, register_rules, heap_rules, arrival_rules, high_rules, low_rules}
+use Rattle.hk_sheet.specs.Reading.{text_at, timing_in, arrivals_in, high_in, low_in, highs_of, lows_of, heap_of, sheet_in}
 use Rattle.hk_sheet.specs.Faults.{first_of, unknown_keys, unknown_fault, fault_of_key, fault_of_table, faults_of_tasks, task_path, is_name, is_among, faults_of_names, faults_of_ticks, fault_of_arrivals, fault_of_high_arrivals, fault_of_low_arrivals, fault_of_script, fault_of_geometry, tasks_of, names_of, faults_of_tables, fault_of, sheet_of}
-use Rattle.hk_sheet.specs.Printing.{number_data, numbers_data, heap_entries, high_entries, low_entries, high_data, low_data, document_of}
-use Rattle.hk_sheet.specs.Valid.{IsHeap, AreSpaced, AreArrivals, IsTiming, IsHigh, IsLow, AreDistinct, names_in, IsSheet}
-use Rattle.hk_sheet.proofs.Redeclared.{elements_again, script_again, high_again, low_again, highs_of-document, lows_of-document, sheet_again}
+use Rattle.hk_sheet.specs.Printing.{is_wide, version_of, heap_table, number_data, numbers_data, heap_entries, high_entries, low_entries, high_data, low_data, document_of}
+use Rattle.hk_sheet.specs.Valid.{is_breadth, IsFrom, IsHeap, AreSpaced, AreArrivals, IsTiming, IsHigh, IsLow, AreDistinct, names_in, IsSheet}
+use Rattle.hk_sheet.proofs.Redeclared.{elements_again, script_again, high_again, low_again, second_again, highs_of-document, lows_of-document, sheet_again}
 
 -- FAULTS
 
@@ -69,9 +69,9 @@ are_in_run ticks (n ∷ numbers) before =
     let most : n ≤ ticks - 1 = omega arith in
     rw (le-leb 0 n least, le-leb n (ticks - 1) most, are_in_run ticks numbers before.1)
 
-ticks_fit : (ticks : ℕ) (numbers : List ℕ) → AllByRecursion (λ tick. tick < ticks) numbers → length numbers ≤ MAX_ARRIVALS → wrong_in (ticks_of_run ticks) (numbers_data numbers) ≡ None
+ticks_fit : (ticks : ℕ) (numbers : List ℕ) → AllByRecursion (λ tick. tick < ticks) numbers → length numbers ≤ 4096 → wrong_in (ticks_of_run ticks) (numbers_data numbers) ≡ None
 ticks_fit ticks numbers before few =
-    rw (elements_again (map number_data numbers), are_integers_again numbers, length-map numbers number_data, le-leb (length numbers) MAX_ARRIVALS few, are_in_run ticks numbers before)
+    rw (elements_again (map number_data numbers), are_integers_again numbers, length-map numbers number_data, le-leb (length numbers) 4096 few, are_in_run ticks numbers before)
 
 are_tables : {A : Type 0} (entries : A → Members) (tasks : List A) → list_all (λ d. is_some (as_table d)) (map (λ task. table (entries task)) tasks) ≡ true
 are_tables entries [] = refl
@@ -90,6 +90,13 @@ key_may_fit path key entries kind d holds fits = rw (holds, fits)
 key_number : (path key : List ℕ) (entries : Members) (low high n : ℕ) → get_member key entries ≡ Some (number_data n) → low ≤ n → n ≤ high → fault_of_key path entries (needs key (number low high)) ≡ None
 key_number path key entries low high n holds least most = key_fits path key entries (number low high) (number_data n) holds (number_fits low high n least most)
 
+key_may_number : (path key : List ℕ) (entries : Members) (high n : ℕ) → get_member key entries ≡ Some (number_data n) → n ≤ high → fault_of_key path entries (may_have key (number 0 high)) ≡ None
+key_may_number path key entries high n holds most = key_may_fit path key entries (number 0 high) (number_data n) holds (number_fits 0 high n (omega arith) most)
+
+-- a jitter below a deadline
+before_last : (jitter deadline : ℕ) → jitter < deadline → jitter ≤ deadline - 1
+before_last jitter deadline below = omega arith
+
 key_text : (path key : List ℕ) (entries : Members) (s : List ℕ) → get_member key entries ≡ Some (string s) → fault_of_key path entries (needs key text) ≡ None
 key_text path key entries s holds = key_fits path key entries text (string s) holds refl
 
@@ -102,49 +109,73 @@ table_unfaulted : (path : List ℕ) (rules : List Rule) (entries : Members) → 
 unfolding fault_of_table unknown_fault
 table_unfaulted path rules entries known none = rw known (first_of_none _ (none_map (fault_of_key path entries) rules none))
 
--- the heap
-heap_unfaulted : (path : List ℕ) (heap : HeapKeys) → IsHeap heap → fault_of_table path heap_rules (heap_entries heap) ≡ None
-unfolding heap_rules
-heap_unfaulted path heap is =
-    table_unfaulted path heap_rules (heap_entries heap) refl
-    (also (key_number path (codes "live") (heap_entries heap) 0 MAX_SIZE heap.live refl (omega arith) is.live)
-    (also (key_number path (codes "alloc") (heap_entries heap) 0 MAX_SIZE heap.alloc refl (omega arith) is.alloc)
-    (also (key_number path (codes "reserve") (heap_entries heap) 0 MAX_SIZE heap.reserve refl (omega arith) is.reserve)
-    (also (key_number path (codes "rate") (heap_entries heap) 1 MAX_RATE heap.rate refl is.rate.at_least is.rate.at_most)
-    (also (key_fits path (codes "board") (heap_entries heap) (pair MAX_BOARD) (numbers_data (heap.refs ∷ heap.nums ∷ [])) refl (pair_fits MAX_BOARD heap.refs heap.nums is.refs is.nums))
-    tt)))))
+-- the registers of a heap of version 2
+wide_registers : (fields registers : ℕ) → is_breadth fields registers ≡ true → fields == 254 ≡ true → IsFrom 2 32 registers
+wide_registers fields registers is wide = record { at_least = grind (arith, nat_tests); at_most = grind (arith, nat_tests) }
+
+-- the heap, in version 2 and in version 1
+module _ (path : List ℕ) (heap : HeapKeys) (is : IsHeap heap) where
+  heap_by_version : (second : Bool) → is_wide heap ≡ second → fault_of_table path (heap_rules second) (heap_table second heap) ≡ None
+  unfolding heap_rules register_rules
+  heap_by_version true wide =
+      let entries = heap_table true heap in
+      let many = wide_registers heap.fields heap.registers is.breadth wide in
+      table_unfaulted path (heap_rules true) entries refl
+      (also (key_number path (codes "live") entries 0 1000000 heap.live refl (omega arith) is.live)
+      (also (key_number path (codes "alloc") entries 0 1000000 heap.alloc refl (omega arith) is.alloc)
+      (also (key_number path (codes "reserve") entries 0 1000000 heap.reserve refl (omega arith) is.reserve)
+      (also (key_number path (codes "rate") entries 1 4096 heap.rate refl is.rate.at_least is.rate.at_most)
+      (also (key_fits path (codes "board") entries (pair 255) (numbers_data (heap.refs ∷ heap.nums ∷ [])) refl (pair_fits 255 heap.refs heap.nums is.refs is.nums))
+      (also (key_number path (codes "registers") entries 2 32 heap.registers refl many.at_least many.at_most)
+      tt))))))
+  heap_by_version false narrow =
+      let entries = heap_table false heap in
+      table_unfaulted path (heap_rules false) entries refl
+      (also (key_number path (codes "live") entries 0 1000000 heap.live refl (omega arith) is.live)
+      (also (key_number path (codes "alloc") entries 0 1000000 heap.alloc refl (omega arith) is.alloc)
+      (also (key_number path (codes "reserve") entries 0 1000000 heap.reserve refl (omega arith) is.reserve)
+      (also (key_number path (codes "rate") entries 1 4096 heap.rate refl is.rate.at_least is.rate.at_most)
+      (also (key_fits path (codes "board") entries (pair 255) (numbers_data (heap.refs ∷ heap.nums ∷ [])) refl (pair_fits 255 heap.refs heap.nums is.refs is.nums))
+      tt)))))
+
+  heap_unfaulted : fault_of_table path (heap_rules (is_wide heap)) (heap_entries heap) ≡ None
+  heap_unfaulted = heap_by_version (is_wide heap) refl
 
 -- a high task
-high_fields : (path name : List ℕ) (timing : Timing) (words : ℕ) (arrives : Arrivals) (script : List Statement) (ticks : ℕ)
-    → IsTiming timing → words ≤ MAX_TICKS → AreArrivals ticks timing.period arrives
-    → let entries = high_entries (record { name = name; timing = timing; words = words; arrivals = arrives; script = script }) in fault_of_table path (high_rules ticks entries) entries ≡ None
+high_fields : (path name : List ℕ) (timing : Timing) (words lag : ℕ) (arrives : Arrivals) (script : List Statement) (ticks : ℕ)
+    → IsTiming timing → words ≤ 16777216 → lag ≤ 16777216 → AreArrivals ticks timing.period arrives
+    → let entries = high_entries (record { name = name; timing = timing; words = words; lag = lag; arrivals = arrives; script = script }) in fault_of_table path (high_rules ticks entries) entries ≡ None
 unfolding high_rules arrival_rules
-high_fields path name timing words (Every first step) script ticks times few arrive =
-    let entries = high_entries (record { name = name; timing = timing; words = words; arrivals = Every first step; script = script }) in
+high_fields path name timing words lag (Every first step) script ticks times few small arrive =
+    let entries = high_entries (record { name = name; timing = timing; words = words; lag = lag; arrivals = Every first step; script = script }) in
     table_unfaulted path (high_rules ticks entries) entries refl
     (also (key_text path (codes "name") entries name refl)
-    (also (key_number path (codes "period") entries 1 MAX_TICKS timing.period refl times.period.at_least times.period.at_most)
+    (also (key_number path (codes "period") entries 1 16777216 timing.period refl times.period.at_least times.period.at_most)
     (also (key_number path (codes "deadline") entries 1 timing.period timing.deadline refl times.deadline.at_least times.deadline.at_most)
-    (also (key_number path (codes "cost") entries 1 MAX_TICKS timing.cost refl times.cost.at_least times.cost.at_most)
-    (also (key_number path (codes "words") entries 0 MAX_TICKS words refl (omega arith) few)
-    (also (key_number path (codes "first") entries 0 MAX_TICKS first refl (omega arith) arrive.0)
-    (also (key_number path (codes "every") entries 1 MAX_TICKS step refl arrive.1.at_least arrive.1.at_most)
+    (also (key_number path (codes "cost") entries 1 16777216 timing.cost refl times.cost.at_least times.cost.at_most)
+    (also (key_number path (codes "words") entries 0 16777216 words refl (omega arith) few)
+    (also (key_may_number path (codes "jitter") entries (timing.deadline - 1) timing.jitter refl (before_last timing.jitter timing.deadline times.jitter))
+    (also (key_may_number path (codes "lag") entries 16777216 lag refl small)
+    (also (key_number path (codes "first") entries 0 16777216 first refl (omega arith) arrive.0)
+    (also (key_number path (codes "every") entries 1 16777216 step refl arrive.1.at_least arrive.1.at_most)
     (also (key_text path (codes "script") entries (text_of script) refl)
-    tt))))))))
-high_fields path name timing words (arrivals.List numbers) script ticks times few arrive =
-    let entries = high_entries (record { name = name; timing = timing; words = words; arrivals = arrivals.List numbers; script = script }) in
+    tt))))))))))
+high_fields path name timing words lag (arrivals.List numbers) script ticks times few small arrive =
+    let entries = high_entries (record { name = name; timing = timing; words = words; lag = lag; arrivals = arrivals.List numbers; script = script }) in
     table_unfaulted path (high_rules ticks entries) entries refl
     (also (key_text path (codes "name") entries name refl)
-    (also (key_number path (codes "period") entries 1 MAX_TICKS timing.period refl times.period.at_least times.period.at_most)
+    (also (key_number path (codes "period") entries 1 16777216 timing.period refl times.period.at_least times.period.at_most)
     (also (key_number path (codes "deadline") entries 1 timing.period timing.deadline refl times.deadline.at_least times.deadline.at_most)
-    (also (key_number path (codes "cost") entries 1 MAX_TICKS timing.cost refl times.cost.at_least times.cost.at_most)
-    (also (key_number path (codes "words") entries 0 MAX_TICKS words refl (omega arith) few)
+    (also (key_number path (codes "cost") entries 1 16777216 timing.cost refl times.cost.at_least times.cost.at_most)
+    (also (key_number path (codes "words") entries 0 16777216 words refl (omega arith) few)
+    (also (key_may_number path (codes "jitter") entries (timing.deadline - 1) timing.jitter refl (before_last timing.jitter timing.deadline times.jitter))
+    (also (key_may_number path (codes "lag") entries 16777216 lag refl small)
     (also (key_fits path (codes "arrivals") entries (ticks_of_run ticks) (numbers_data numbers) refl (ticks_fit ticks numbers arrive.0 arrive.1))
     (also (key_text path (codes "script") entries (text_of script) refl)
-    tt)))))))
+    tt)))))))))
 
-high_unfaulted : (path : List ℕ) (ticks : ℕ) (task : High) → IsHigh ticks task → fault_of_table path (high_rules ticks (high_entries task)) (high_entries task) ≡ None
-high_unfaulted path ticks task is = high_fields path task.name task.timing task.words task.arrivals task.script ticks is.timing is.words is.arrivals
+high_unfaulted : (path : List ℕ) (ticks : ℕ) (heap : HeapKeys) (task : High) → IsHigh ticks heap task → fault_of_table path (high_rules ticks (high_entries task)) (high_entries task) ≡ None
+high_unfaulted path ticks heap task is = high_fields path task.name task.timing task.words task.lag task.arrivals task.script ticks is.timing is.words is.lag is.arrivals
 
 -- a low task
 low_fields : (path name : List ℕ) (arrives : Arrivals) (script : List Statement) (ticks : ℕ) → AreArrivals ticks 1 arrives
@@ -154,8 +185,8 @@ low_fields path name (Every first step) script ticks arrive =
     let entries = low_entries (record { name = name; arrivals = Every first step; script = script }) in
     table_unfaulted path (low_rules ticks entries) entries refl
     (also (key_text path (codes "name") entries name refl)
-    (also (key_number path (codes "first") entries 0 MAX_TICKS first refl (omega arith) arrive.0)
-    (also (key_number path (codes "every") entries 1 MAX_TICKS step refl arrive.1.at_least arrive.1.at_most)
+    (also (key_number path (codes "first") entries 0 16777216 first refl (omega arith) arrive.0)
+    (also (key_number path (codes "every") entries 1 16777216 step refl arrive.1.at_least arrive.1.at_most)
     (also (key_text path (codes "script") entries (text_of script) refl)
     tt))))
 low_fields path name (arrivals.List numbers) script ticks arrive =
@@ -166,69 +197,76 @@ low_fields path name (arrivals.List numbers) script ticks arrive =
     (also (key_text path (codes "script") entries (text_of script) refl)
     tt)))
 
-low_unfaulted : (path : List ℕ) (ticks : ℕ) (task : Low) → IsLow ticks task → fault_of_table path (low_rules ticks (low_entries task)) (low_entries task) ≡ None
-low_unfaulted path ticks task is = low_fields path task.name task.arrivals task.script ticks is.arrivals
+low_unfaulted : (path : List ℕ) (ticks : ℕ) (heap : HeapKeys) (task : Low) → IsLow ticks heap task → fault_of_table path (low_rules ticks (low_entries task)) (low_entries task) ≡ None
+low_unfaulted path ticks heap task is = low_fields path task.name task.arrivals task.script ticks is.arrivals
+
+-- the version is 1 or 2
+version_from : (second : Bool) → IsFrom 1 2 (if second then 2 else 1)
+version_from true = record { at_least = omega arith; at_most = omega arith }
+version_from false = record { at_least = omega arith; at_most = omega arith }
 
 -- the document's own table
 top_unfaulted : (sheet : Sheet) → IsSheet sheet → fault_of_table [] top_rules (document_of sheet) ≡ None
 unfolding top_rules document_of
 top_unfaulted sheet is =
     table_unfaulted [] top_rules (document_of sheet) refl
-    (also (key_number [] (codes "version") (document_of sheet) 1 1 1 refl (omega arith) (omega arith))
-    (also (key_number [] (codes "ticks") (document_of sheet) 1 MAX_TICKS sheet.ticks refl is.ticks.at_least is.ticks.at_most)
+    (also (key_number [] (codes "version") (document_of sheet) 1 2 (version_of sheet.heap) refl (version_from (is_wide sheet.heap)).at_least (version_from (is_wide sheet.heap)).at_most)
+    (also (key_number [] (codes "ticks") (document_of sheet) 1 16777216 sheet.ticks refl is.ticks.at_least is.ticks.at_most)
     (also (key_fits [] (codes "heap") (document_of sheet) one_table (table (heap_entries sheet.heap)) refl refl)
     (also (key_may_fit [] (codes "high") (document_of sheet) tables (array (items_of (map high_data sheet.high))) refl (tables_fit high_entries sheet.high))
     (also (key_may_fit [] (codes "low") (document_of sheet) tables (array (items_of (map low_data sheet.low))) refl (tables_fit low_entries sheet.low))
     tt)))))
 
 -- the tables of the tasks
-highs_unfaulted : (kind : List ℕ) (ticks index : ℕ) (tasks : List High) → AllByRecursion (IsHigh ticks) tasks → AreNone (faults_of_tasks kind (high_rules ticks) index (map high_entries tasks))
-highs_unfaulted kind ticks index [] are = tt
-highs_unfaulted kind ticks index (t ∷ tasks) are = (high_unfaulted (task_path kind index) ticks t are.0, highs_unfaulted kind ticks (index + 1) tasks are.1)
+highs_unfaulted : (kind : List ℕ) (ticks index : ℕ) (heap : HeapKeys) (tasks : List High) → AllByRecursion (IsHigh ticks heap) tasks → AreNone (faults_of_tasks kind (high_rules ticks) index (map high_entries tasks))
+highs_unfaulted kind ticks index heap [] are = tt
+highs_unfaulted kind ticks index heap (t ∷ tasks) are = (high_unfaulted (task_path kind index) ticks heap t are.0, highs_unfaulted kind ticks (index + 1) heap tasks are.1)
 
-lows_unfaulted : (kind : List ℕ) (ticks index : ℕ) (tasks : List Low) → AllByRecursion (IsLow ticks) tasks → AreNone (faults_of_tasks kind (low_rules ticks) index (map low_entries tasks))
-lows_unfaulted kind ticks index [] are = tt
-lows_unfaulted kind ticks index (t ∷ tasks) are = (low_unfaulted (task_path kind index) ticks t are.0, lows_unfaulted kind ticks (index + 1) tasks are.1)
+lows_unfaulted : (kind : List ℕ) (ticks index : ℕ) (heap : HeapKeys) (tasks : List Low) → AllByRecursion (IsLow ticks heap) tasks → AreNone (faults_of_tasks kind (low_rules ticks) index (map low_entries tasks))
+lows_unfaulted kind ticks index heap [] are = tt
+lows_unfaulted kind ticks index heap (t ∷ tasks) are = (low_unfaulted (task_path kind index) ticks heap t are.0, lows_unfaulted kind ticks (index + 1) heap tasks are.1)
 
 tables_unfaulted : (sheet : Sheet) → IsSheet sheet → AreNone (faults_of_tables (document_of sheet))
 unfolding faults_of_tables document_of
 tables_unfaulted sheet is =
     let highs : AreNone (faults_of_tasks (codes "high") (high_rules sheet.ticks) 0 (highs_of (document_of sheet))) =
-    rw (highs_of-document sheet) (highs_unfaulted (codes "high") sheet.ticks 0 sheet.high is.high) in
+    rw (highs_of-document sheet) (highs_unfaulted (codes "high") sheet.ticks 0 sheet.heap sheet.high is.high) in
     let lows : AreNone (faults_of_tasks (codes "low") (low_rules sheet.ticks) 0 (lows_of (document_of sheet))) =
-    rw (lows_of-document sheet) (lows_unfaulted (codes "low") sheet.ticks 0 sheet.low is.low) in
-    (top_unfaulted sheet is, (heap_unfaulted (codes "heap.") sheet.heap is.heap, none_append _ _ highs lows))
+    rw (lows_of-document sheet) (lows_unfaulted (codes "low") sheet.ticks 0 sheet.heap sheet.low is.low) in
+    let heap : fault_of_table (codes "heap.") (heap_rules (is_second (document_of sheet))) (heap_entries sheet.heap) ≡ None =
+    rw (second_again sheet) (heap_unfaulted (codes "heap.") sheet.heap is.heap) in
+    (top_unfaulted sheet is, (heap, none_append _ _ highs lows))
 
 -- FIELDS
 
 -- the fields of a task stand in its table
-high_named : (task : High) → IsScript task.script → text_at (codes "name") (high_entries task) ≡ task.name
+high_named : (heap : HeapKeys) (task : High) → IsScript task.script → text_at (codes "name") (high_entries task) ≡ task.name
 unfolding high_in
-high_named task is = ap (λ (t : High). t.name) (high_again task is)
+high_named heap task is = ap (λ (t : High). t.name) (high_again heap task is)
 
-high_spaced : (task : High) → IsScript task.script → number_at (codes "period") (high_entries task) ≡ task.timing.period
+high_spaced : (heap : HeapKeys) (task : High) → IsScript task.script → number_at (codes "period") (high_entries task) ≡ task.timing.period
 unfolding high_in timing_in
-high_spaced task is = ap (λ (t : High). t.timing.period) (high_again task is)
+high_spaced heap task is = ap (λ (t : High). t.timing.period) (high_again heap task is)
 
-high_listed : (task : High) → IsScript task.script → arrivals_in (high_entries task) ≡ task.arrivals
+high_listed : (heap : HeapKeys) (task : High) → IsScript task.script → arrivals_in (high_entries task) ≡ task.arrivals
 unfolding high_in
-high_listed task is = ap (λ (t : High). t.arrivals) (high_again task is)
+high_listed heap task is = ap (λ (t : High). t.arrivals) (high_again heap task is)
 
-low_named : (task : Low) → IsScript task.script → text_at (codes "name") (low_entries task) ≡ task.name
+low_named : (heap : HeapKeys) (task : Low) → IsScript task.script → text_at (codes "name") (low_entries task) ≡ task.name
 unfolding low_in
-low_named task is = ap (λ (t : Low). t.name) (low_again task is)
+low_named heap task is = ap (λ (t : Low). t.name) (low_again heap task is)
 
-low_listed : (task : Low) → IsScript task.script → arrivals_in (low_entries task) ≡ task.arrivals
+low_listed : (heap : HeapKeys) (task : Low) → IsScript task.script → arrivals_in (low_entries task) ≡ task.arrivals
 unfolding low_in
-low_listed task is = ap (λ (t : Low). t.arrivals) (low_again task is)
+low_listed heap task is = ap (λ (t : Low). t.arrivals) (low_again heap task is)
 
-high_text_by : (name : List ℕ) (timing : Timing) (words : ℕ) (arrives : Arrivals) (script : List Statement)
-    → text_at (codes "script") (high_entries (record { name = name; timing = timing; words = words; arrivals = arrives; script = script })) ≡ text_of script
-high_text_by name timing words (Every first step) script = refl
-high_text_by name timing words (arrivals.List ticks) script = refl
+high_text_by : (name : List ℕ) (timing : Timing) (words lag : ℕ) (arrives : Arrivals) (script : List Statement)
+    → text_at (codes "script") (high_entries (record { name = name; timing = timing; words = words; lag = lag; arrivals = arrives; script = script })) ≡ text_of script
+high_text_by name timing words lag (Every first step) script = refl
+high_text_by name timing words lag (arrivals.List ticks) script = refl
 
 high_text : (task : High) → text_at (codes "script") (high_entries task) ≡ text_of task.script
-high_text task = high_text_by task.name task.timing task.words task.arrivals task.script
+high_text task = high_text_by task.name task.timing task.words task.lag task.arrivals task.script
 
 low_text_by : (name : List ℕ) (arrives : Arrivals) (script : List Statement) → text_at (codes "script") (low_entries (record { name = name; arrivals = arrives; script = script })) ≡ text_of script
 low_text_by name (Every first step) script = refl
@@ -264,25 +302,25 @@ names_unfaulted earlier index (name ∷ names) are new distinct =
     (rw (are.0, new.0), names_unfaulted (name ∷ earlier) (index + 1) names are.1 (new_to_more name earlier names apart new.1) distinct.1)
 
 -- the names of a document of a sheet are those of its tasks
-highs_named : (ticks : ℕ) (tasks : List High) → AllByRecursion (IsHigh ticks) tasks → map (text_at (codes "name")) (map high_entries tasks) ≡ map (λ (task : High). task.name) tasks
-highs_named ticks [] are = refl
-highs_named ticks (t ∷ tasks) are = λ i. high_named t are.0.script i ∷ highs_named ticks tasks are.1 i
+highs_named : (ticks : ℕ) (heap : HeapKeys) (tasks : List High) → AllByRecursion (IsHigh ticks heap) tasks → map (text_at (codes "name")) (map high_entries tasks) ≡ map (λ (task : High). task.name) tasks
+highs_named ticks heap [] are = refl
+highs_named ticks heap (t ∷ tasks) are = λ i. high_named heap t are.0.script i ∷ highs_named ticks heap tasks are.1 i
 
-lows_named : (ticks : ℕ) (tasks : List Low) → AllByRecursion (IsLow ticks) tasks → map (text_at (codes "name")) (map low_entries tasks) ≡ map (λ (task : Low). task.name) tasks
-lows_named ticks [] are = refl
-lows_named ticks (t ∷ tasks) are = λ i. low_named t are.0.script i ∷ lows_named ticks tasks are.1 i
+lows_named : (ticks : ℕ) (heap : HeapKeys) (tasks : List Low) → AllByRecursion (IsLow ticks heap) tasks → map (text_at (codes "name")) (map low_entries tasks) ≡ map (λ (task : Low). task.name) tasks
+lows_named ticks heap [] are = refl
+lows_named ticks heap (t ∷ tasks) are = λ i. low_named heap t are.0.script i ∷ lows_named ticks heap tasks are.1 i
 
 names_again : (sheet : Sheet) → IsSheet sheet → names_of (document_of sheet) ≡ names_in sheet
 names_again sheet is =
-    rw (highs_of-document sheet, lows_of-document sheet, map-append (text_at (codes "name")) (map high_entries sheet.high) (map low_entries sheet.low), highs_named sheet.ticks sheet.high is.high, lows_named sheet.ticks sheet.low is.low)
+    rw (highs_of-document sheet, lows_of-document sheet, map-append (text_at (codes "name")) (map high_entries sheet.high) (map low_entries sheet.low), highs_named sheet.ticks sheet.heap sheet.high is.high, lows_named sheet.ticks sheet.heap sheet.low is.low)
 
-highs_have_names : (ticks : ℕ) (tasks : List High) → AllByRecursion (IsHigh ticks) tasks → AllByRecursion (λ name. is_name name ≡ true) (map (λ (task : High). task.name) tasks)
-highs_have_names ticks [] are = tt
-highs_have_names ticks (t ∷ tasks) are = (are.0.name, highs_have_names ticks tasks are.1)
+highs_have_names : (ticks : ℕ) (heap : HeapKeys) (tasks : List High) → AllByRecursion (IsHigh ticks heap) tasks → AllByRecursion (λ name. is_name name ≡ true) (map (λ (task : High). task.name) tasks)
+highs_have_names ticks heap [] are = tt
+highs_have_names ticks heap (t ∷ tasks) are = (are.0.name, highs_have_names ticks heap tasks are.1)
 
-lows_have_names : (ticks : ℕ) (tasks : List Low) → AllByRecursion (IsLow ticks) tasks → AllByRecursion (λ name. is_name name ≡ true) (map (λ (task : Low). task.name) tasks)
-lows_have_names ticks [] are = tt
-lows_have_names ticks (t ∷ tasks) are = (are.0.name, lows_have_names ticks tasks are.1)
+lows_have_names : (ticks : ℕ) (heap : HeapKeys) (tasks : List Low) → AllByRecursion (IsLow ticks heap) tasks → AllByRecursion (λ name. is_name name ≡ true) (map (λ (task : Low). task.name) tasks)
+lows_have_names ticks heap [] are = tt
+lows_have_names ticks heap (t ∷ tasks) are = (are.0.name, lows_have_names ticks heap tasks are.1)
 
 all_append : {A : Type 0} (P : A → Type 0) (xs ys : List A) → AllByRecursion P xs → AllByRecursion P ys → AllByRecursion P (xs ++ ys)
 all_append P [] ys front back = back
@@ -291,7 +329,7 @@ all_append P (x ∷ xs) ys front back = (front.0, all_append P xs ys front.1 bac
 sheet_named : (sheet : Sheet) → IsSheet sheet → AreNone (faults_of_names [] 0 (names_of (document_of sheet)))
 sheet_named sheet is =
     rw (names_again sheet is)
-    (names_unfaulted [] 0 (names_in sheet) (all_append (λ name. is_name name ≡ true) _ _ (highs_have_names sheet.ticks sheet.high is.high) (lows_have_names sheet.ticks sheet.low is.low)) (new_to_none (names_in sheet)) is.names)
+    (names_unfaulted [] 0 (names_in sheet) (all_append (λ name. is_name name ≡ true) _ _ (highs_have_names sheet.ticks sheet.heap sheet.high is.high) (lows_have_names sheet.ticks sheet.heap sheet.low is.low)) (new_to_none (names_in sheet)) is.names)
 
 -- ARRIVALS
 
@@ -305,32 +343,32 @@ unfolding fault_of_arrivals
 arrivals_unfaulted task ticks gap (Every first step) arrive = rw (le-ltb step gap arrive.2)
 arrivals_unfaulted task ticks gap (arrivals.List list) arrive = first_of_none _ (ticks_unfaulted task gap 1 list arrive.2)
 
-high_arrives : (ticks : ℕ) (task : High) → IsHigh ticks task → fault_of_high_arrivals (high_entries task) ≡ None
-high_arrives ticks task is = rw (high_named task is.script, high_spaced task is.script, high_listed task is.script) (arrivals_unfaulted task.name ticks task.timing.period task.arrivals is.arrivals)
+high_arrives : (ticks : ℕ) (heap : HeapKeys) (task : High) → IsHigh ticks heap task → fault_of_high_arrivals (high_entries task) ≡ None
+high_arrives ticks heap task is = rw (high_named heap task is.script, high_spaced heap task is.script, high_listed heap task is.script) (arrivals_unfaulted task.name ticks task.timing.period task.arrivals is.arrivals)
 
-low_arrives : (ticks : ℕ) (task : Low) → IsLow ticks task → fault_of_low_arrivals (low_entries task) ≡ None
-low_arrives ticks task is = rw (low_named task is.script, low_listed task is.script) (arrivals_unfaulted task.name ticks 1 task.arrivals is.arrivals)
+low_arrives : (ticks : ℕ) (heap : HeapKeys) (task : Low) → IsLow ticks heap task → fault_of_low_arrivals (low_entries task) ≡ None
+low_arrives ticks heap task is = rw (low_named heap task is.script, low_listed heap task is.script) (arrivals_unfaulted task.name ticks 1 task.arrivals is.arrivals)
 
 -- SCRIPTS
 
-high_scripted : (task : High) → IsScript task.script → fault_of_script (high_entries task) ≡ None
+high_scripted : (heap : HeapKeys) (task : High) → IsScript task.script → fault_of_script heap (high_entries task) ≡ None
 unfolding fault_of_script
-high_scripted task is = rw (high_text task, script_again task.script is)
+high_scripted heap task is = rw (high_text task, script_again task.script is)
 
-low_scripted : (task : Low) → IsScript task.script → fault_of_script (low_entries task) ≡ None
+low_scripted : (heap : HeapKeys) (task : Low) → IsScript task.script → fault_of_script heap (low_entries task) ≡ None
 unfolding fault_of_script
-low_scripted task is = rw (low_text task, script_again task.script is)
+low_scripted heap task is = rw (low_text task, script_again task.script is)
 
 -- no task has a fault of its arrivals or of its script
-none_at_highs : (ticks : ℕ) (fault : Members → Option SheetError) (tasks : List High) → ((task : High) → IsHigh ticks task → fault (high_entries task) ≡ None) → AllByRecursion (IsHigh ticks) tasks
+none_at_highs : (ticks : ℕ) (heap : HeapKeys) (fault : Members → Option SheetError) (tasks : List High) → ((task : High) → IsHigh ticks heap task → fault (high_entries task) ≡ None) → AllByRecursion (IsHigh ticks heap) tasks
     → AreNone (map fault (map high_entries tasks))
-none_at_highs ticks fault [] none are = tt
-none_at_highs ticks fault (t ∷ tasks) none are = (none t are.0, none_at_highs ticks fault tasks none are.1)
+none_at_highs ticks heap fault [] none are = tt
+none_at_highs ticks heap fault (t ∷ tasks) none are = (none t are.0, none_at_highs ticks heap fault tasks none are.1)
 
-none_at_lows : (ticks : ℕ) (fault : Members → Option SheetError) (tasks : List Low) → ((task : Low) → IsLow ticks task → fault (low_entries task) ≡ None) → AllByRecursion (IsLow ticks) tasks
+none_at_lows : (ticks : ℕ) (heap : HeapKeys) (fault : Members → Option SheetError) (tasks : List Low) → ((task : Low) → IsLow ticks heap task → fault (low_entries task) ≡ None) → AllByRecursion (IsLow ticks heap) tasks
     → AreNone (map fault (map low_entries tasks))
-none_at_lows ticks fault [] none are = tt
-none_at_lows ticks fault (t ∷ tasks) none are = (none t are.0, none_at_lows ticks fault tasks none are.1)
+none_at_lows ticks heap fault [] none are = tt
+none_at_lows ticks heap fault (t ∷ tasks) none are = (none t are.0, none_at_lows ticks heap fault tasks none are.1)
 
 -- THE DOCUMENT
 
@@ -342,13 +380,13 @@ document_unfaulted : (sheet : Sheet) → IsSheet sheet → fault_of (document_of
 unfolding fault_of
 document_unfaulted sheet is =
     let document = document_of sheet in
-    let scripts : AreNone (map fault_of_script (tasks_of document)) =
-    rw (highs_of-document sheet, lows_of-document sheet, map-append fault_of_script (map high_entries sheet.high) (map low_entries sheet.low))
+    let scripts : AreNone (map (fault_of_script (heap_of document)) (tasks_of document)) =
+    rw (highs_of-document sheet, lows_of-document sheet, map-append (fault_of_script (heap_of document)) (map high_entries sheet.high) (map low_entries sheet.low))
     (none_append _ _
-    (none_at_highs sheet.ticks fault_of_script sheet.high (λ task is. high_scripted task is.script) is.high)
-    (none_at_lows sheet.ticks fault_of_script sheet.low (λ task is. low_scripted task is.script) is.low)) in
-    let highs : AreNone (map fault_of_high_arrivals (highs_of document)) = rw (highs_of-document sheet) (none_at_highs sheet.ticks fault_of_high_arrivals sheet.high (high_arrives sheet.ticks) is.high) in
-    let lows : AreNone (map fault_of_low_arrivals (lows_of document)) = rw (lows_of-document sheet) (none_at_lows sheet.ticks fault_of_low_arrivals sheet.low (low_arrives sheet.ticks) is.low) in
+    (none_at_highs sheet.ticks sheet.heap (fault_of_script (heap_of document)) sheet.high (λ task is. high_scripted (heap_of document) task is.script) is.high)
+    (none_at_lows sheet.ticks sheet.heap (fault_of_script (heap_of document)) sheet.low (λ task is. low_scripted (heap_of document) task is.script) is.low)) in
+    let highs : AreNone (map fault_of_high_arrivals (highs_of document)) = rw (highs_of-document sheet) (none_at_highs sheet.ticks sheet.heap fault_of_high_arrivals sheet.high (high_arrives sheet.ticks sheet.heap) is.high) in
+    let lows : AreNone (map fault_of_low_arrivals (lows_of document)) = rw (lows_of-document sheet) (none_at_lows sheet.ticks sheet.heap fault_of_low_arrivals sheet.low (low_arrives sheet.ticks sheet.heap) is.low) in
     let geometry : AreNone (fault_of_geometry (sheet_in document) ∷ []) = (geometry_fits sheet is, tt) in
     first_of_none _
     (none_append _ (fault_of_geometry (sheet_in document) ∷ [])

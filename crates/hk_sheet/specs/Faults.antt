@@ -1,7 +1,7 @@
 -- The first fault of a document, in the stated order: the tables one after another, the document's own first, then the
 -- heap's, the high tasks' and the low tasks'; in a table an unknown key, and then key by key. After all tables the names,
 -- then the arrivals, then the scripts of all tasks, and at last the geometry.
-use Rattle.std.specs.Prelude.{ℕ, ◌+◌, min, nat_lt, nat_le, Bool, not, ◌&&◌, ◌||◌, ◌==◌, bytes_eq, List, [], ◌∷◌, ◌++◌, length, map, filter, flat_map, fold, take, codes, decimal, Option, Some, None, option_map, Result, Ok, Err, if◌then◌else◌}
+use Rattle.std.specs.Prelude.{ℕ, ◌+◌, ◌-◌, ◌^◌, min, nat_lt, nat_le, Bool, not, ◌&&◌, ◌||◌, ◌==◌, bytes_eq, List, [], ◌∷◌, ◌++◌, length, map, filter, flat_map, fold, take, codes, decimal, Option, Some, None, option_map, Result, Ok, Err, if◌then◌else◌}
 use Rattle.std.specs.Char.{is_ascii_graphic, is_ascii_lowercase, is_ascii_digit}
 use Rattle.std.specs.List.{list_all, list_any}
 use Rattle.std.specs.Ordering.{is_lt, nat_cmp}
@@ -18,9 +18,8 @@ use Rattle.hk_sheet.specs.declared.error.SheetError.{SheetError}
 use Rattle.hk_sheet.specs.declared.error.SheetError.TheVariants as error
 use Rattle.hk_sheet.specs.declared.sheet.HeapKeys.{HeapKeys}
 use Rattle.hk_sheet.specs.declared.sheet.Sheet.{Sheet}
-use Rattle.hk_sheet.specs.declared.sheet.TheConstants.{MAX_NAME, MAX_KEY, MAX_COUNTED}
-use Rattle.hk_sheet.specs.Rules.{Rule, Wrong, no_such_kind, out_of_range, wrong_in, number_at, top_rules, heap_rules, high_rules, low_rules}
-use Rattle.hk_sheet.specs.Reading.{text_at, table_at, highs_of, lows_of, arrivals_in, sheet_in}
+use Rattle.hk_sheet.specs.Rules.{Rule, Wrong, no_such_kind, out_of_range, wrong_in, number_at, is_second, top_rules, heap_rules, high_rules, low_rules}
+use Rattle.hk_sheet.specs.Reading.{text_at, table_at, highs_of, lows_of, arrivals_in, heap_of, sheet_in}
 
 -- the first fault of some, in their order
 abbrev pub first_of : List (Option SheetError) → Option SheetError
@@ -60,7 +59,7 @@ abbrev pub shown_byte : ℕ → List ℕ
 shown_byte byte = if is_ascii_graphic byte then byte ∷ [] else if goes_on byte then [] else 63 ∷ []
 
 unfoldable pub shown : List ℕ → List ℕ
-shown path = take MAX_KEY (flat_map shown_byte path)
+shown path = take 80 (flat_map shown_byte path)
 
 -- the least unknown key of a table; paths in the table begin so
 unfoldable pub unknown_fault : (path : List ℕ) → List Rule → Members → Option SheetError
@@ -92,6 +91,12 @@ faults_of_tasks kind rules index [] = []
 faults_of_tasks kind rules index (entries ∷ rest) =
     fault_of_table (task_path kind index) (rules entries) entries ∷ faults_of_tasks kind rules (index + 1) rest
 
+-- COUNTS
+
+-- a count as an error shows it, in 32 bits: one past the greatest number of them is shown as that number
+abbrev pub counted : ℕ → ℕ
+counted n = min n (2 ^ 32 - 1)
+
 -- NAMES
 
 -- a name: 1 to 16 bytes, a small letter, and then small letters, digits and `_`
@@ -100,7 +105,7 @@ is_name_byte byte = is_ascii_lowercase byte || is_ascii_digit byte || byte == 95
 
 abbrev pub is_name : List ℕ → Bool
 is_name [] = nat_lt 0 0
-is_name (first ∷ rest) = is_ascii_lowercase first && (list_all is_name_byte rest && nat_le (length (first ∷ rest)) MAX_NAME)
+is_name (first ∷ rest) = is_ascii_lowercase first && (list_all is_name_byte rest && nat_le (length (first ∷ rest)) 16)
 
 -- the fault of each name, from the task with this number on: it is no name, or that of an earlier task
 abbrev pub is_among : List (List ℕ) → List ℕ → Bool
@@ -109,7 +114,7 @@ is_among names name = list_any (bytes_eq name) names
 abbrev pub faults_of_names : (earlier : List (List ℕ)) → ℕ → List (List ℕ) → List (Option SheetError)
 faults_of_names earlier index [] = []
 faults_of_names earlier index (name ∷ rest) =
-    (if is_name name && not (is_among earlier name) then None else Some (error.Name index))
+    (if is_name name && not (is_among earlier name) then None else Some (error.Name (counted index)))
     ∷ faults_of_names (name ∷ earlier) (index + 1) rest
 
 -- ARRIVALS
@@ -117,7 +122,7 @@ faults_of_names earlier index (name ∷ rest) =
 -- the fault of each arrival after the first, from this place of the list on: it comes less than a gap after the one before
 abbrev pub faults_of_ticks : (task : List ℕ) → (gap place : ℕ) → List ℕ → List (Option SheetError)
 faults_of_ticks task gap place (earlier ∷ later ∷ rest) =
-    (if nat_lt later (earlier + gap) then Some (error.Arrivals task place earlier later) else None)
+    (if nat_lt later (earlier + gap) then Some (error.Arrivals task (counted place) earlier later) else None)
     ∷ faults_of_ticks task gap (place + 1) (later ∷ rest)
 faults_of_ticks task gap place ticks = []
 
@@ -138,8 +143,9 @@ abbrev pub fault_of_text : (task : List ℕ) → Result (List Statement) ScriptE
 fault_of_text task (Ok script) = None
 fault_of_text task (Err fault) = Some (error.Script task fault)
 
-unfoldable pub fault_of_script : Members → Option SheetError
-fault_of_script entries = fault_of_text (text_at (codes "name") entries) (script_of (text_at (codes "script") entries))
+-- of a task beside this heap
+unfoldable pub fault_of_script : HeapKeys → Members → Option SheetError
+fault_of_script heap entries = fault_of_text (text_at (codes "name") entries) (script_of (text_at (codes "script") entries))
 
 -- THE GEOMETRY
 
@@ -149,17 +155,19 @@ sizes_for heap high low = record {
   live = heap.live;
   alloc = heap.alloc;
   reserve = heap.reserve;
-  high = min high MAX_COUNTED;
-  low = min low MAX_COUNTED;
+  high = min high 255;
+  low = min low 255;
   refs = heap.refs;
   nums = heap.nums;
+  registers = heap.registers;
 }
 
 abbrev pub sizes_of : Sheet → Sizes
 sizes_of sheet = sizes_for sheet.heap (length sheet.high) (length sheet.low)
 
+-- the first reason why the sizes of a sheet are no geometry whose board is at most as large as an object may be
 unfoldable pub fault_of_geometry : Sheet → Option SheetError
-fault_of_geometry sheet = option_map error.Geometry (first_error (sizes_of sheet))
+fault_of_geometry sheet = option_map error.Geometry (first_error sheet.heap.fields (sizes_of sheet))
 
 -- THE DOCUMENT
 
@@ -175,7 +183,7 @@ names_of document = map (text_at (codes "name")) (tasks_of document)
 unfoldable pub faults_of_tables : Members → List (Option SheetError)
 faults_of_tables document =
     fault_of_table [] top_rules document
-    ∷ fault_of_table (codes "heap.") heap_rules (table_at (codes "heap") document)
+    ∷ fault_of_table (codes "heap.") (heap_rules (is_second document)) (table_at (codes "heap") document)
     ∷ faults_of_tasks (codes "high") (high_rules (number_at (codes "ticks") document)) 0 (highs_of document)
     ++ faults_of_tasks (codes "low") (low_rules (number_at (codes "ticks") document)) 0 (lows_of document)
 
@@ -186,7 +194,7 @@ fault_of document = first_of (
     ++ faults_of_names [] 0 (names_of document)
     ++ map fault_of_high_arrivals (highs_of document)
     ++ map fault_of_low_arrivals (lows_of document)
-    ++ map fault_of_script (tasks_of document)
+    ++ map (fault_of_script (heap_of document)) (tasks_of document)
     ++ fault_of_geometry (sheet_in document) ∷ [])
 
 -- the sheet of a document, or its first fault

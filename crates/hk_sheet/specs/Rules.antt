@@ -1,8 +1,7 @@
 -- The tables of a sheet and their keys: what each key may hold, and whether it is needed.
-use Rattle.std.specs.Prelude.{ℕ, ◌-◌, nat_le, nat_eq, Bool, true, false, not, ◌&&◌, pos, List, [], ◌∷◌, ◌++◌, length, codes, is_some, Option, Some, None, if◌then◌else◌}
+use Rattle.std.specs.Prelude.{ℕ, ◌-◌, nat_le, nat_eq, Bool, true, false, not, ◌&&◌, ◌==◌, pos, List, [], ◌∷◌, ◌++◌, length, codes, is_some, Option, Some, None, if◌then◌else◌}
 use Rattle.std.specs.List.{list_all}
 use Rattle.toml.specs.Data.{Data, integer, array, Items, no_items, item, Members, get_member, as_integer, as_str, as_array, as_table}
-use Rattle.hk_sheet.specs.declared.sheet.TheConstants.{MAX_TICKS, MAX_SIZE, MAX_RATE, MAX_BOARD, MAX_ARRIVALS}
 
 -- what a key may hold: an integer of a range, an array of two integers of a range from 0, an array of ticks of a run, a
 -- string, a table, or an array of tables
@@ -44,12 +43,12 @@ abbrev pub wrong_unless : (of_kind in_range : Bool) → Option Wrong
 wrong_unless of_kind in_range = if not of_kind then Some no_such_kind else if in_range then None else Some out_of_range
 
 -- what is wrong with a value where a key is to hold this kind. All elements of an array have their kind before any range
--- is looked at
+-- is looked at. There are at most 4,096 ticks
 abbrev pub wrong_in : Kind → Data → Option Wrong
 wrong_in (number low high) d = wrong_unless (is_integer d) (is_in low high d)
 wrong_in (pair high) d = wrong_unless (are_integers d && nat_eq (length (elements_of d)) 2) (list_all (is_in 0 high) (elements_of d))
 wrong_in (ticks_of_run ticks) d =
-    wrong_unless (are_integers d) (nat_le (length (elements_of d)) MAX_ARRIVALS && list_all (is_in 0 (ticks - 1)) (elements_of d))
+    wrong_unless (are_integers d) (nat_le (length (elements_of d)) 4096 && list_all (is_in 0 (ticks - 1)) (elements_of d))
 wrong_in text d = wrong_unless (is_some (as_str d)) true
 wrong_in one_table d = wrong_unless (is_some (as_table d)) true
 wrong_in tables d = wrong_unless (is_some (as_array d) && list_all (λ e. is_some (as_table e)) (elements_of d)) true
@@ -83,22 +82,31 @@ number_at key entries = number_held (get_member key entries)
 -- the document
 unfoldable pub top_rules : List Rule
 top_rules =
-    needs (codes "version") (number 1 1)
-    ∷ needs (codes "ticks") (number 1 MAX_TICKS)
+    needs (codes "version") (number 1 2)
+    ∷ needs (codes "ticks") (number 1 16777216)
     ∷ needs (codes "heap") one_table
     ∷ may_have (codes "high") tables
     ∷ may_have (codes "low") tables
     ∷ []
 
--- the heap
-unfoldable pub heap_rules : List Rule
-heap_rules =
-    needs (codes "live") (number 0 MAX_SIZE)
-    ∷ needs (codes "alloc") (number 0 MAX_SIZE)
-    ∷ needs (codes "reserve") (number 0 MAX_SIZE)
-    ∷ needs (codes "rate") (number 1 MAX_RATE)
-    ∷ needs (codes "board") (pair MAX_BOARD)
-    ∷ []
+-- a sheet is of version 2
+abbrev pub is_second : Members → Bool
+is_second document = number_at (codes "version") document == 2
+
+-- the registers of a task, which a sheet of version 2 gives; in every other sheet the key is unknown
+unfoldable pub register_rules : (second : Bool) → List Rule
+register_rules true = needs (codes "registers") (number 2 32) ∷ []
+register_rules false = []
+
+-- the heap, of a sheet of version 2 or of another
+unfoldable pub heap_rules : (second : Bool) → List Rule
+heap_rules second =
+    needs (codes "live") (number 0 1000000)
+    ∷ needs (codes "alloc") (number 0 1000000)
+    ∷ needs (codes "reserve") (number 0 1000000)
+    ∷ needs (codes "rate") (number 1 4096)
+    ∷ needs (codes "board") (pair 255)
+    ∷ register_rules second
 
 -- when the jobs of a task arrive: a list of ticks, or else the first job and the step from each to the next. Where the
 -- list is there, the other two are unknown
@@ -107,16 +115,18 @@ has_list entries = is_some (get_member (codes "arrivals") entries)
 
 unfoldable pub arrival_rules : (ticks : ℕ) → (listed : Bool) → List Rule
 arrival_rules ticks true = needs (codes "arrivals") (ticks_of_run ticks) ∷ []
-arrival_rules ticks false = needs (codes "first") (number 0 MAX_TICKS) ∷ needs (codes "every") (number 1 MAX_TICKS) ∷ []
+arrival_rules ticks false = needs (codes "first") (number 0 16777216) ∷ needs (codes "every") (number 1 16777216) ∷ []
 
--- a high task of a run of so many ticks: its deadline is at most its period
+-- a high task of a run of so many ticks: its deadline is at most its period, and its jitter is below its deadline
 unfoldable pub high_rules : (ticks : ℕ) → Members → List Rule
 high_rules ticks entries =
     needs (codes "name") text
-    ∷ needs (codes "period") (number 1 MAX_TICKS)
+    ∷ needs (codes "period") (number 1 16777216)
     ∷ needs (codes "deadline") (number 1 (number_at (codes "period") entries))
-    ∷ needs (codes "cost") (number 1 MAX_TICKS)
-    ∷ needs (codes "words") (number 0 MAX_TICKS)
+    ∷ needs (codes "cost") (number 1 16777216)
+    ∷ needs (codes "words") (number 0 16777216)
+    ∷ may_have (codes "jitter") (number 0 (number_at (codes "deadline") entries - 1))
+    ∷ may_have (codes "lag") (number 0 16777216)
     ∷ arrival_rules ticks (has_list entries)
     ++ needs (codes "script") text ∷ []
 

@@ -40,13 +40,14 @@ pub enum SheetError {
     Kind(Key),
     /// The value of a key is out of its range.
     Range(Key),
-    /// The name of this task, counted from 0 over all tasks, the high ones first, is no name or that of an earlier task.
-    Name(u64),
+    /// The name of this task, counted from 0 over all tasks, the high ones first, is no name or that of an earlier task. A number
+    /// past 2^32 - 1 is shown as that one.
+    Name(u32),
     /// The arrivals of a task come too close: at this place of its list, counted from 0, after the one before. For a
     /// periodic task it is place 1.
     Arrivals {
         task: Name,
-        place: u64,
+        place: u32,
         earlier: u64,
         later: u64,
     },

@@ -16,14 +16,13 @@ mod tasks;
 pub use arrivals::{Arrivals, Ticks};
 pub use error::{Key, SheetError};
 pub use laws::text_read_again;
-pub use printing::{Memory, text};
+pub use hk_words::Memory;
+pub use printing::text;
 pub use reader::read;
 pub use sheet::{
     HeapKeys, High, Highs, Low, Lows, MAX_ARRIVALS, MAX_BOARD, MAX_COUNTED, MAX_KEY, MAX_NAME,
     MAX_RATE, MAX_SIZE, MAX_TICKS, Name, Sheet,
 };
 
-#[cfg(test)]
-mod printing_tests;
 #[cfg(test)]
 mod tests;

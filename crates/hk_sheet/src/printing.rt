@@ -8,26 +8,15 @@ ghost use Rattle.hk_script.specs.Blocks.{IsScript};
 ghost use Rattle.hk_script.specs.Printing.{text_of};
 ghost use Rattle.hk_sheet.specs.Answers.{IsRead};
 ghost use Rattle.hk_sheet.specs.Faults.{is_name};
-ghost use Rattle.hk_sheet.specs.Printing.{number_data, numbers_data, with_entry, with_arrivals, heap_entries, high_entries, low_entries, high_data, low_data, document_of, FitsInteger, ArrivalsFit, IsHighOfRun, IsLowOfRun};
+ghost use Rattle.hk_sheet.specs.Printing.{number_data, numbers_data, with_entry, with_arrivals, heap_entries, high_entries, low_entries, high_data, low_data, document_of, version_of, FitsInteger, ArrivalsFit, IsHighOfRun, IsLowOfRun};
 ghost use Rattle.hk_sheet.specs.Valid.{IsHeap, IsSheet};
 
 use crate::{Arrivals, HeapKeys, High, Low, Name, Sheet};
 use hk_script::Script;
+use hk_words::{MAX_FIELDS, Memory};
 use std::alloc::{AllocError, Global};
 use toml::{Table, Value};
 
-/// The version of the sheets that are printed.
-const VERSION: u64 = 1;
-
-/// There was no memory.
-#[derive(Clone, Copy, Debug, PartialEq, Eq)]
-pub struct Memory;
-
-impl From<AllocError> for Memory {
-    fn from(_error: AllocError) -> Memory {
-        Memory
-    }
-}
 
 /// A number as a value.
 fn number_value(number: u64) -> Value
@@ -85,6 +74,13 @@ fn put_arrivals(alloc: Global, table: &mut Table, arrivals: &Arrivals) -> Result
     }
 }
 
+/// The version of the sheets with this heap.
+fn version(heap: &HeapKeys) -> u64
+    ensures { result ≡ version_of heap.now }
+{
+    if heap.fields == MAX_FIELDS { 2 } else { 1 }
+}
+
 /// The table of the heap.
 fn heap_table(alloc: Global, heap: &HeapKeys) -> Result<Table, AllocError>
     requires { IsHeap heap.now }
@@ -102,6 +98,14 @@ fn heap_table(alloc: Global, heap: &HeapKeys) -> Result<Table, AllocError>
     )?;
     put(alloc, &mut table, "rate", number_value(heap.rate))?;
     put(alloc, &mut table, "board", board)?;
+    if heap.fields == MAX_FIELDS {
+        put(
+            alloc,
+            &mut table,
+            "registers",
+            number_value(heap.registers.into()),
+        )?;
+    }
     Ok(table)
 }
 
@@ -136,6 +140,8 @@ fn high_table(alloc: Global, high: &High) -> Result<Table, AllocError>
     put(alloc, &mut table, "deadline", number_value(timing.deadline))?;
     put(alloc, &mut table, "cost", number_value(timing.cost))?;
     put(alloc, &mut table, "words", number_value(high.words))?;
+    put(alloc, &mut table, "jitter", number_value(timing.jitter))?;
+    put(alloc, &mut table, "lag", number_value(high.lag))?;
     put_script(alloc, &mut table, &high.script)?;
     put_arrivals(alloc, &mut table, &high.arrivals)?;
     Ok(table)
@@ -187,7 +193,7 @@ fn document(alloc: Global, sheet: &Sheet) -> Result<Table, AllocError>
     let high = highs_value(alloc, &sheet.high.items)?;
     let low = lows_value(alloc, &sheet.low.items)?;
     let mut table = Table::new(alloc);
-    put(alloc, &mut table, "version", number_value(VERSION))?;
+    put(alloc, &mut table, "version", number_value(version(&sheet.heap)))?;
     put(alloc, &mut table, "ticks", number_value(sheet.ticks))?;
     put(alloc, &mut table, "heap", Value::Table(heap))?;
     put(alloc, &mut table, "high", high)?;

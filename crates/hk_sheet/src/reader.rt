@@ -1,7 +1,7 @@
 //! A task sheet from its bytes.
 ghost use Rattle.std.specs.Prelude.{◌≡◌, [], codes, None, IfOk, IfErr};
 ghost use Rattle.toml.specs.View.{table_view};
-ghost use Rattle.hk_sheet.specs.Rules.{top_rules};
+ghost use Rattle.hk_sheet.specs.Rules.{is_second, top_rules};
 ghost use Rattle.hk_sheet.specs.Reading.{table_at, highs_of, lows_of, heap_in, sheet_in};
 ghost use Rattle.hk_sheet.specs.Faults.{fault_of_table, fault_of, fault_of_geometry};
 ghost use Rattle.hk_sheet.specs.Valid.{IsHeap, IsSheet};
@@ -12,6 +12,7 @@ use crate::keys::{number_at, pair_at, table_at, tables_at};
 use crate::tables::{check_document, check_heap, check_highs, check_lows};
 use crate::tasks::{check_high_arrivals, check_low_arrivals, check_task_names, highs_in, lows_in};
 use crate::{HeapKeys, Sheet, SheetError};
+use hk_words::{MAX_FIELDS, REGISTERS, USUAL_FIELDS};
 use std::alloc::Global;
 use toml::Table;
 
@@ -27,11 +28,18 @@ fn document_of(alloc: Global, bytes: &[u8]) -> Result<Table, SheetError>
     }
 }
 
-/// The heap that a table declares.
+/// Whether a document is a sheet of version 2.
+fn is_second(document: &Table) -> bool
+    ensures { result ≡ is_second (table_view document.now) }
+{
+    number_at(document, "version") == 2
+}
+
+/// The heap that a table declares, in a sheet of version 2 or of another.
 #[tactic(auto, unfolding(crate::specs::Reading::heap_in))]
-fn heap_in(table: &Table) -> HeapKeys
-    requires { IsHeap (heap_in (table_view table.now)) }
-    ensures { result ≡ heap_in (table_view table.now) }
+fn heap_in(second: bool, table: &Table) -> HeapKeys
+    requires { IsHeap (heap_in second (table_view table.now)) }
+    ensures { result ≡ heap_in second (table_view table.now) }
 {
     let (refs, nums) = pair_at(table, "board");
     HeapKeys {
@@ -41,12 +49,19 @@ fn heap_in(table: &Table) -> HeapKeys
         rate: number_at(table, "rate"),
         refs: refs as u8,
         nums: nums as u8,
+        registers: if second {
+            number_at(table, "registers") as u8
+        } else {
+            REGISTERS
+        },
+        fields: if second { MAX_FIELDS } else { USUAL_FIELDS },
     }
 }
 
 /// Checks that the heap and the tasks of a sheet are a geometry.
 #[tactic(auto, unfolding(crate::specs::Faults::fault_of_geometry))]
 fn check_geometry(sheet: &Sheet) -> Result<(), SheetError>
+    requires { IsHeap sheet.now.heap }
     ensures { Checks (fault_of_geometry sheet.now) result }
 {
     match sheet.try_geometry() {
@@ -71,17 +86,19 @@ fn sheet_from(
     ensures { Gives (fault_of (table_view document.now)) (sheet_in (table_view document.now)) result }
 {
     let ticks = number_at(document, "ticks");
-    check_heap(alloc, heap)?;
+    let second = is_second(document);
+    check_heap(alloc, second, heap)?;
     check_highs(alloc, ticks, highs)?;
     check_lows(alloc, ticks, lows)?;
     check_task_names(alloc, highs, lows)?;
     check_high_arrivals(alloc, highs)?;
     check_low_arrivals(alloc, lows)?;
-    let high = highs_in(alloc, highs)?;
-    let low = lows_in(alloc, lows)?;
+    let keys = heap_in(second, heap);
+    let high = highs_in(alloc, &keys, highs)?;
+    let low = lows_in(alloc, &keys, lows)?;
     let sheet = Sheet {
         ticks,
-        heap: heap_in(heap),
+        heap: keys,
         high,
         low,
     };

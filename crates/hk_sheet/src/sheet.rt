@@ -3,7 +3,7 @@ ghost use Rattle.std.specs.Prelude.{◌≡◌, min, MatchResult};
 use crate::Arrivals;
 use hk_rta::Timing;
 use hk_script::Script;
-use hk_words::{GeoError, Geometry};
+use hk_words::{GeoError, Geometry, MAX_FIELDS};
 use std::marker::Model;
 
 /// The most ticks of a run, and the greatest period, deadline, cost, first arrival and step.
@@ -47,7 +47,8 @@ impl Model for Name {
 
 /// The heap that a sheet asks for. Sizes are in words; a space has `live` words for evacuation and `alloc` words for
 /// allocation, of which `reserve` are kept for the high tasks. Each word that is taken makes the collector owe `rate`
-/// events. The board has `refs` reference fields and `nums` number fields.
+/// events. The board has `refs` reference fields and `nums` number fields. Each task has so many `registers`, and an
+/// object at most so many `fields`: 8 and 62 in a sheet of version 1, and 2 to 32 and 254 in one of version 2.
 #[derive(Clone, Copy, Debug, PartialEq, Eq)]
 pub struct HeapKeys {
     pub live: u32,
@@ -56,15 +57,18 @@ pub struct HeapKeys {
     pub rate: u64,
     pub refs: u8,
     pub nums: u8,
+    pub registers: u8,
+    pub fields: u8,
 }
 
-/// A high task: its times in ticks, the most words that one of its jobs takes, when its jobs arrive, and what each
-/// does.
+/// A high task: its times in ticks, the most words that one of its jobs takes, how many ticks longer each job is delayed
+/// than the one before, when its jobs arrive, and what each does.
 #[derive(Debug, Drop)]
 pub struct High {
     pub name: Name,
     pub timing: Timing,
     pub words: u64,
+    pub lag: u64,
     pub arrivals: Arrivals,
     pub script: Script,
 }
@@ -126,15 +130,28 @@ fn counted(tasks: usize) -> u8
 impl Sheet {
     ghost use Rattle.hk_words.specs.Geometry.{first_error, HasSizes};
     ghost use Rattle.hk_sheet.specs.Faults.{sizes_of};
-    ghost use Rattle.hk_sheet.specs.Valid.{IsSheet};
+    ghost use Rattle.hk_sheet.specs.Valid.{IsHeap, IsSheet};
 
     /// The geometry of the sizes of the heap and of the tasks that use it, or the first reason why there is none.
     pub(crate) fn try_geometry(&self) -> Result<Geometry, GeoError>
-        ensures { MatchResult result (λ g. (first_error (sizes_of self.now) ≡ None) × HasSizes g (sizes_of self.now)) (λ e. first_error (sizes_of self.now) ≡ Some e) }
+        requires { IsHeap self.now.heap }
+        ensures { MatchResult result (λ g. (first_error self.now.heap.fields (sizes_of self.now) ≡ None) × HasSizes g (sizes_of self.now)) (λ e. first_error self.now.heap.fields (sizes_of self.now) ≡ Some e) }
     {
         let heap = self.heap;
         let high = counted(self.high.items.len());
         let low = counted(self.low.items.len());
+        if heap.fields == MAX_FIELDS {
+            return Geometry::wide(
+                heap.registers,
+                heap.live,
+                heap.alloc,
+                heap.reserve,
+                high,
+                low,
+                heap.refs,
+                heap.nums,
+            );
+        }
         Geometry::new(
             heap.live,
             heap.alloc,

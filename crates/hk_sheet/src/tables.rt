@@ -1,5 +1,5 @@
 //! The first fault of each table of a document.
-ghost use Rattle.std.specs.Prelude.{◌≡◌, ◌++◌, [], codes, option_map};
+ghost use Rattle.std.specs.Prelude.{◌≡◌, ◌++◌, [], codes, option_map, IfOk};
 ghost use Rattle.toml.specs.View.{table_view};
 ghost use Rattle.hk_sheet.specs.Rules.{top_rules, heap_rules, high_rules, low_rules};
 ghost use Rattle.hk_sheet.specs.Faults.{first_of, unknown_keys, least, unknown_fault, fault_of_key, fault_of_table, faults_of_tasks};
@@ -10,7 +10,8 @@ use crate::keys::{has, number_at, value_at};
 use crate::paths::{key_at, shown_at, task_path};
 use crate::rules::{Kind, Rule, Wrong, is_known, may_have, needs, task_rules, wrong_in};
 use crate::sheet::{MAX_BOARD, MAX_RATE, MAX_SIZE, MAX_TICKS};
-use std::alloc::Global;
+use hk_words::{MAX_REGISTERS, MIN_REGISTERS};
+use std::alloc::{AllocError, Global};
 use toml::Table;
 
 /// The least key of a table that no rule has. The keys of a table ascend, so it is the first one.
@@ -71,7 +72,7 @@ pub(crate) fn check_document(alloc: Global, document: &Table) -> Result<(), Shee
     ensures { Checks (fault_of_table [] top_rules (table_view document.now)) result }
 {
     let rules = [
-        needs("version", Kind::Number(1, 1)),
+        needs("version", Kind::Number(1, 2)),
         needs("ticks", Kind::Number(1, MAX_TICKS)),
         needs("heap", Kind::Table),
         may_have("high", Kind::Tables),
@@ -80,18 +81,30 @@ pub(crate) fn check_document(alloc: Global, document: &Table) -> Result<(), Shee
     check_table(alloc, "", &rules, document)
 }
 
-/// Checks the keys of the heap.
-#[tactic(auto, unfolding(crate::specs::Rules::heap_rules))]
-pub(crate) fn check_heap(alloc: Global, heap: &Table) -> Result<(), SheetError>
-    ensures { Checks (fault_of_table (codes "heap.") heap_rules (table_view heap.now)) result }
+/// The rules of the heap, in a sheet of version 2 or of another.
+#[tactic(auto, using(crate::proofs::Values::pushes), unfolding(crate::specs::Rules::heap_rules, crate::specs::Rules::register_rules))]
+fn heap_rules(alloc: Global, second: bool) -> Result<Vec<Rule>, AllocError>
+    ensures { IfOk result (λ v. rules_of v.items ≡ heap_rules second) }
 {
-    let rules = [
+    let own = [
         needs("live", Kind::Number(0, MAX_SIZE)),
         needs("alloc", Kind::Number(0, MAX_SIZE)),
         needs("reserve", Kind::Number(0, MAX_SIZE)),
         needs("rate", Kind::Number(1, MAX_RATE)),
         needs("board", Kind::Pair(MAX_BOARD)),
     ];
+    let mut rules = Vec::from_slice(alloc, &own)?;
+    if second {
+        rules.push(needs("registers", Kind::Number(MIN_REGISTERS.into(), MAX_REGISTERS.into())))?;
+    }
+    Ok(rules)
+}
+
+/// Checks the keys of the heap, in a sheet of version 2 or of another.
+pub(crate) fn check_heap(alloc: Global, second: bool, heap: &Table) -> Result<(), SheetError>
+    ensures { Checks (fault_of_table (codes "heap.") (heap_rules second) (table_view heap.now)) result }
+{
+    let rules = heap_rules(alloc, second)?;
     check_table(alloc, "heap.", &rules, heap)
 }
 
@@ -106,6 +119,11 @@ fn check_high(alloc: Global, path: &str, ticks: u64, task: &Table) -> Result<(),
         needs("deadline", Kind::Number(1, number_at(task, "period"))),
         needs("cost", Kind::Number(1, MAX_TICKS)),
         needs("words", Kind::Number(0, MAX_TICKS)),
+        may_have(
+            "jitter",
+            Kind::Number(0, number_at(task, "deadline").saturating_sub(1)),
+        ),
+        may_have("lag", Kind::Number(0, MAX_TICKS)),
     ];
     let rules = task_rules(alloc, &own, ticks, has(task, "arrivals"))?;
     check_table(alloc, path, &rules, task)

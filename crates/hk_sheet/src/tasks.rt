@@ -5,13 +5,13 @@ ghost use Rattle.toml.specs.View.{table_view};
 ghost use Rattle.hk_sheet.specs.Rules.{number_at};
 ghost use Rattle.hk_sheet.specs.declared.arrivals.Arrivals.TheVariants.{Every};
 ghost use Rattle.hk_sheet.specs.Reading.{text_at, arrivals_in, timing_in, script_in, high_in, low_in};
-ghost use Rattle.hk_sheet.specs.Faults.{first_of, is_name_byte, is_name, faults_of_names, faults_of_ticks, fault_of_arrivals, fault_of_high_arrivals, fault_of_low_arrivals, fault_of_script};
+ghost use Rattle.hk_sheet.specs.Faults.{first_of, is_name_byte, is_name, counted, faults_of_names, faults_of_ticks, fault_of_arrivals, fault_of_high_arrivals, fault_of_low_arrivals, fault_of_script};
 ghost use Rattle.hk_sheet.specs.Code.{seen, texts, Checks, Gives};
 
 use crate::SheetError;
 use crate::arrivals::{Arrivals, Ticks};
 use crate::keys::{has, number_at, numbers_at, text_at};
-use crate::sheet::{High, Highs, Low, Lows, MAX_NAME, Name};
+use crate::sheet::{HeapKeys, High, Highs, Low, Lows, MAX_NAME, Name};
 use hk_rta::Timing;
 use hk_script::{Script, ScriptError, parse};
 use std::alloc::{AllocError, Global};
@@ -60,6 +60,13 @@ fn names<'a>(
     Ok(names)
 }
 
+/// A count as an error shows it.
+fn counted(number: u64) -> u32
+    ensures { result ≡ counted number }
+{
+    number.min(u32::MAX.into()) as u32
+}
+
 /// Checks that each name is one, and none that stands before.
 fn check_names(alloc: Global, names: &[&str]) -> Result<(), SheetError>
     ensures { Checks (first_of (faults_of_names [] 0 (texts names.now))) result }
@@ -67,7 +74,7 @@ fn check_names(alloc: Global, names: &[&str]) -> Result<(), SheetError>
     let mut earlier = BTreeSet::new(alloc);
     for (index, name) in names.iter().enumerate() {
         if !is_name(name.as_bytes()) || !earlier.insert(*name)? {
-            return Err(SheetError::Name(index as u64));
+            return Err(SheetError::Name(counted(index as u64)));
         }
     }
     Ok(())
@@ -118,7 +125,7 @@ fn check_ticks(alloc: Global, task: &Table, gap: u64, ticks: &[u64]) -> Result<(
         if *later < *earlier || *later - *earlier < gap {
             return Err(SheetError::Arrivals {
                 task: name_in(alloc, task)?,
-                place,
+                place: counted(place),
                 earlier: *earlier,
                 later: *later,
             });
@@ -181,9 +188,10 @@ pub(crate) fn check_low_arrivals(alloc: Global, tasks: &[&Table]) -> Result<(), 
 
 /// The script of a task.
 #[tactic(auto, unfolding(crate::specs::Reading::script_in, crate::specs::Faults::fault_of_script))]
-fn script_in(alloc: Global, task: &Table) -> Result<Script, SheetError>
-    ensures { Gives (fault_of_script (table_view task.now)) (script_in (table_view task.now)) result }
+fn script_in(alloc: Global, heap: &HeapKeys, task: &Table) -> Result<Script, SheetError>
+    ensures { Gives (fault_of_script heap.now (table_view task.now)) (script_in heap.now (table_view task.now)) result }
 {
+    let _heap = heap;
     match parse(alloc, text_at(task, "script").as_bytes()) {
         Ok(script) => Ok(script),
         Err(ScriptError::Memory) => Err(SheetError::Memory),
@@ -200,53 +208,55 @@ fn timing_in(task: &Table) -> Timing
         cost: number_at(task, "cost"),
         period: number_at(task, "period"),
         deadline: number_at(task, "deadline"),
+        jitter: number_at(task, "jitter"),
     }
 }
 
 /// A high task.
 #[tactic(auto, unfolding(crate::specs::Reading::high_in))]
-fn high_in(alloc: Global, task: &Table) -> Result<High, SheetError>
-    ensures { Gives (fault_of_script (table_view task.now)) (high_in (table_view task.now)) result }
+fn high_in(alloc: Global, heap: &HeapKeys, task: &Table) -> Result<High, SheetError>
+    ensures { Gives (fault_of_script heap.now (table_view task.now)) (high_in heap.now (table_view task.now)) result }
 {
     Ok(High {
         name: name_in(alloc, task)?,
         timing: timing_in(task),
         words: number_at(task, "words"),
+        lag: number_at(task, "lag"),
         arrivals: arrivals_in(alloc, task)?,
-        script: script_in(alloc, task)?,
+        script: script_in(alloc, heap, task)?,
     })
 }
 
 /// A low task.
 #[tactic(auto, unfolding(crate::specs::Reading::low_in))]
-fn low_in(alloc: Global, task: &Table) -> Result<Low, SheetError>
-    ensures { Gives (fault_of_script (table_view task.now)) (low_in (table_view task.now)) result }
+fn low_in(alloc: Global, heap: &HeapKeys, task: &Table) -> Result<Low, SheetError>
+    ensures { Gives (fault_of_script heap.now (table_view task.now)) (low_in heap.now (table_view task.now)) result }
 {
     Ok(Low {
         name: name_in(alloc, task)?,
         arrivals: arrivals_in(alloc, task)?,
-        script: script_in(alloc, task)?,
+        script: script_in(alloc, heap, task)?,
     })
 }
 
 /// The high tasks.
-pub(crate) fn highs_in(alloc: Global, tasks: &[&Table]) -> Result<Highs, SheetError>
-    ensures { Gives (first_of (map fault_of_script (seen tasks.now))) (map high_in (seen tasks.now)) result }
+pub(crate) fn highs_in(alloc: Global, heap: &HeapKeys, tasks: &[&Table]) -> Result<Highs, SheetError>
+    ensures { Gives (first_of (map (fault_of_script heap.now) (seen tasks.now))) (map (high_in heap.now) (seen tasks.now)) result }
 {
     let mut items = Vec::new(alloc);
     for task in tasks {
-        items.push(high_in(alloc, task)?)?;
+        items.push(high_in(alloc, heap, task)?)?;
     }
     Ok(Highs { items })
 }
 
 /// The low tasks.
-pub(crate) fn lows_in(alloc: Global, tasks: &[&Table]) -> Result<Lows, SheetError>
-    ensures { Gives (first_of (map fault_of_script (seen tasks.now))) (map low_in (seen tasks.now)) result }
+pub(crate) fn lows_in(alloc: Global, heap: &HeapKeys, tasks: &[&Table]) -> Result<Lows, SheetError>
+    ensures { Gives (first_of (map (fault_of_script heap.now) (seen tasks.now))) (map (low_in heap.now) (seen tasks.now)) result }
 {
     let mut items = Vec::new(alloc);
     for task in tasks {
-        items.push(low_in(alloc, task)?)?;
+        items.push(low_in(alloc, heap, task)?)?;
     }
     Ok(Lows { items })
 }

@@ -3,7 +3,7 @@
 ghost use Rattle.std.specs.Prelude.{◌≡◌, codes, IfOk};
 ghost use Rattle.hk_sheet.specs.Valid.{IsHigh, IsLow, IsSheet};
 
-use crate::{Arrivals, HeapKeys, High, Highs, Low, Lows, Name, Sheet, Ticks, text};
+use crate::{Arrivals, HeapKeys, High, Highs, Low, Lows, Name, Sheet, Ticks, read, text};
 use hk_rta::Timing;
 use std::alloc::{AllocError, Global};
 use std::process::Abort;
@@ -17,6 +17,20 @@ const HEAP: HeapKeys = HeapKeys {
     rate: 11,
     refs: 2,
     nums: 3,
+    registers: 8,
+    fields: 62,
+};
+
+/// The heap of a sheet of version 2.
+const WIDE: HeapKeys = HeapKeys {
+    live: 256,
+    alloc: 512,
+    reserve: 129,
+    rate: 11,
+    refs: 200,
+    nums: 54,
+    registers: 32,
+    fields: 254,
 };
 
 /// A name.
@@ -28,8 +42,8 @@ fn name(alloc: Global, text: &str) -> Result<Name, AllocError>
 }
 
 /// A periodic high task.
-fn periodic(alloc: Global) -> Result<High, Fail>
-    ensures { IfOk result (λ task. IsHigh 40 task × (task.name ≡ codes "pump")) }
+fn periodic(alloc: Global, heap: HeapKeys) -> Result<High, Fail>
+    ensures { IfOk result (λ task. IsHigh 40 heap task × (task.name ≡ codes "pump")) }
 {
     Ok(High {
         name: name(alloc, "pump")?,
@@ -37,16 +51,18 @@ fn periodic(alloc: Global) -> Result<High, Fail>
             cost: 2,
             period: 10,
             deadline: 9,
+            jitter: 8,
         },
         words: 7,
+        lag: 5,
         arrivals: Arrivals::Every { first: 3, step: 12 },
         script: hk_script::parse(alloc, b"work 1\n  out   v0 # a comment\n")?,
     })
 }
 
 /// A low task with two arrivals.
-fn listed(alloc: Global) -> Result<Low, Fail>
-    ensures { IfOk result (λ task. IsLow 40 task × (task.name ≡ codes "log_2")) }
+fn listed(alloc: Global, heap: HeapKeys) -> Result<Low, Fail>
+    ensures { IfOk result (λ task. IsLow 40 heap task × (task.name ≡ codes "log_2")) }
 {
     Ok(Low {
         name: name(alloc, "log_2")?,
@@ -62,14 +78,30 @@ fn both(alloc: Global) -> Result<Sheet, Fail>
     ensures { IfOk result IsSheet }
 {
     let mut high = Vec::new(alloc);
-    high.push(periodic(alloc)?)?;
+    high.push(periodic(alloc, HEAP)?)?;
     let mut low = Vec::new(alloc);
-    low.push(listed(alloc)?)?;
+    low.push(listed(alloc, HEAP)?)?;
     Ok(Sheet {
         ticks: 40,
         heap: HEAP,
         high: Highs { items: high },
         low: Lows { items: low },
+    })
+}
+
+/// A sheet of version 2 with a high task.
+fn wide(alloc: Global) -> Result<Sheet, Fail>
+    ensures { IfOk result IsSheet }
+{
+    let mut high = Vec::new(alloc);
+    high.push(periodic(alloc, WIDE)?)?;
+    Ok(Sheet {
+        ticks: 40,
+        heap: WIDE,
+        high: Highs { items: high },
+        low: Lows {
+            items: Vec::new(alloc),
+        },
     })
 }
 
@@ -136,12 +168,14 @@ fn prints_both_kinds(rt: HostRuntime) -> Result<(), Fail> {
     expect_number(&rt, heap, "rate", 11);
     expect_pair(&rt, heap, "board", [2, 3]);
     let high = only_table(&document, "high").ok_or("a high task")?;
-    expect_keys(&rt, high, 8);
+    expect_keys(&rt, high, 10);
     expect_text(&rt, high, "name", "pump");
     expect_number(&rt, high, "period", 10);
     expect_number(&rt, high, "deadline", 9);
     expect_number(&rt, high, "cost", 2);
     expect_number(&rt, high, "words", 7);
+    expect_number(&rt, high, "jitter", 8);
+    expect_number(&rt, high, "lag", 5);
     expect_number(&rt, high, "first", 3);
     expect_number(&rt, high, "every", 12);
     expect_text(&rt, high, "script", "work 1\nout v0\n");
@@ -187,5 +221,38 @@ fn prints_a_low_task_alone(rt: HostRuntime) -> Result<(), Fail> {
     expect_number(&rt, low, "first", 0);
     expect_number(&rt, low, "every", 1);
     expect_text(&rt, low, "script", "job v3\n");
+    Ok(())
+}
+
+#[test]
+fn prints_version_2(rt: HostRuntime) -> Result<(), Fail> {
+    let alloc = rt.alloc();
+    let bytes = text(alloc, &wide(alloc)?).map_err(|_| "memory")?;
+    let document = toml::table_from_slice(alloc, &bytes)?;
+    expect_keys(&rt, &document, 5);
+    expect_number(&rt, &document, "version", 2);
+    let heap = document
+        .get("heap")
+        .and_then(Value::as_table)
+        .ok_or("a heap")?;
+    expect_keys(&rt, heap, 6);
+    expect_pair(&rt, heap, "board", [200, 54]);
+    expect_number(&rt, heap, "registers", 32);
+    let high = only_table(&document, "high").ok_or("a high task")?;
+    expect_number(&rt, high, "jitter", 8);
+    expect_number(&rt, high, "lag", 5);
+    Ok(())
+}
+
+#[test]
+fn reads_what_it_prints(rt: HostRuntime) -> Result<(), Fail> {
+    let alloc = rt.alloc();
+    for (sheet, heap) in [(both(alloc)?, HEAP), (wide(alloc)?, WIDE)] {
+        let bytes = text(alloc, &sheet).map_err(|_| "memory")?;
+        let again = read(alloc, &bytes)?;
+        assert_eq!(rt; again.heap, heap);
+        let high = &again.high.items[0];
+        assert_eq!(rt; (high.timing.jitter, high.lag, high.words), (8, 5, 7));
+    }
     Ok(())
 }

@@ -3,3 +3,5 @@ pub mod Begun
 pub mod InStep
 pub mod Courses
 pub mod SeatsInStep
+pub mod FirstLow
+pub mod TurnFacts

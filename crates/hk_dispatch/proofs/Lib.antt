@@ -5,3 +5,5 @@ pub mod Courses
 pub mod SeatsInStep
 pub mod FirstLow
 pub mod TurnFacts
+pub mod Walking
+pub mod CourseFacts

@@ -3,7 +3,6 @@ use Rattle.std.specs.Prelude.{◌≡◌, ℕ, zero, suc, ◌+◌, ◌*◌, ◌<�
 use Rattle.hk_words.specs.declared.geometry.Geometry.{Geometry}
 use Rattle.hk_words.specs.Geometry.{tasks, space_words}
 use Rattle.hk_words.specs.Calls.{RegistersFit}
-use Rattle.hk_words.specs.declared.call.Reply.{Reply}
 use Rattle.hk_model.specs.History.{History, is_question}
 use Rattle.hk_core.specs.declared.flight.Flight.{Flight}
 use Rattle.hk_core.specs.declared.spot.Spot.{Spot}
@@ -19,7 +18,8 @@ use Rattle.hk_plan.specs.declared.Ready.{Ready}
 use Rattle.hk_script.specs.declared.statement.Statement.{Statement}
 use Rattle.hk_script.specs.declared.walk.Need.{Need}
 use Rattle.hk_script.specs.Walks.{need_of, Fits}
-use Rattle.hk_script.specs.Runs.{need_ticks, need_words, taken_by, AreReplies, taken}
+use Rattle.hk_script.specs.Runs.{need_ticks, need_words, taken_by}
+use Rattle.hk_script.specs.Left.{ticks_left, words_left}
 use Rattle.hk_sheet.specs.declared.sheet.High.{High}
 use Rattle.hk_sheet.specs.declared.sheet.Sheet.{Sheet}
 use Rattle.hk_admit.specs.Analysis.{largest_object, some_makes}
@@ -76,11 +76,9 @@ IsWorked g t events = t.cycle * space_words g + cleared g t.line ≤ events + 2 
 -- The walk of a task's job fits the script and isn't at its end; the job has had fewer ticks of the present statement than that
 -- takes; one that has had a tick has become ready; and fewer jobs ended than ticks were given.
 pub record CourseKept (task : Task) (course : Course) (t : ℕ) : Type 0 where
-  pub job_is : course.walk.job ≡ course.job
   pub fits : Fits task.script course.walk
   pub within : course.walk.place < length task.script
   pub turns : length course.walk.turns ≡ 16
-  pub variables : length course.walk.variables ≡ 8
   pub spent_few : course.spent < taken_by need_ticks (need_of task.script course.walk)
   pub spent_had : course.spent ≤ course.had
   pub began : 0 < course.had → (ready : ℕ) × (task.ready course.job ≡ Some ready) × (ready < t)
@@ -90,12 +88,11 @@ pub record CourseKept (task : Task) (course : Course) (t : ℕ) : Type 0 where
 abbrev pub taken_already : Option Need → (spent : ℕ) → ℕ
 taken_already wants spent = if nat_lt 2 spent then taken_by need_words wants else 0
 
--- Whatever the replies to come, a high job takes at most so many ticks and words in all. Without it nothing bounds a job.
+-- A high job takes at most so many ticks and words: those that it has had and those that its walk may still take, of which the
+-- present statement's may have been had already. Without it nothing bounds a job.
 pub record KeepsDeclared (script : List Statement) (course : Course) (ticks words : ℕ) : Type 0 where
-  pub ticks_few : (replies : List Reply) → AreReplies script course.walk replies
-      → course.had + taken need_ticks script course.walk replies ≤ ticks + course.spent
-  pub words_few : (replies : List Reply) → AreReplies script course.walk replies
-      → course.took + taken need_words script course.walk replies ≤ words + taken_already (need_of script course.walk) course.spent
+  pub ticks_few : course.had + ticks_left script course.walk ≤ ticks + course.spent
+  pub words_few : course.took + words_left script course.walk ≤ words + taken_already (need_of script course.walk) course.spent
 
 -- at most one low operation is in mid-course
 abbrev pub OneLow : Sheet → Moment → Type 0

@@ -1,4 +1,5 @@
 pub mod numbers
+pub mod heap
 pub mod Begun
 pub mod InStep
 pub mod Courses

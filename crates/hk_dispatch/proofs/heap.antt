@@ -1,0 +1,4 @@
+pub mod Taken
+pub mod Cycles
+pub mod RefusedPlain
+pub mod HeapPart

@@ -8,3 +8,5 @@ pub mod FirstLow
 pub mod TurnFacts
 pub mod Walking
 pub mod CourseFacts
+pub mod Sheets
+pub mod TaskTick

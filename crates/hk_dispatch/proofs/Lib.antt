@@ -10,3 +10,4 @@ pub mod Walking
 pub mod CourseFacts
 pub mod Sheets
 pub mod TaskTick
+pub mod JobsKept

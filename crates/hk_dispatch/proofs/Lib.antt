@@ -11,3 +11,4 @@ pub mod CourseFacts
 pub mod Sheets
 pub mod TaskTick
 pub mod JobsKept
+pub mod Waiting

@@ -3,7 +3,6 @@ pub mod Readable
 pub mod Found
 pub mod Owed
 pub mod Parted
-pub mod Letters
 pub mod Kept
 pub mod Excluded
 pub mod Unique

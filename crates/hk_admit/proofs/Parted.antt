@@ -1,10 +1,10 @@
 -- From the parts of a check to the refusals of the whole.
-use Rattle.std.proofs.Common.{◌≡◌, ◌∙◌, sym, ap, subst, ℕ, ◌<◌, ◌≤◌, Bool, true, false, Some, List, [], length, get_or, take, slice_index}
+use Rattle.std.proofs.Common.{◌≡◌, ◌∙◌, sym, ap, subst, ℕ, ◌+◌, ◌-◌, ◌<◌, ◌≤◌, Bool, true, false, Some, List, [], length, get_or, take, slice_index, arith}
 use Rattle.std.specs.List.{find, list_any}
 use Rattle.std.specs.Option.{option_map}
 use Rattle.std.proofs.lemmas.List.{length-map, get_or-map}
 use Rattle.hk_rta.specs.declared.Timing.{Timing}
-use Rattle.hk_rta.specs.Demand.{deadline_at}
+use Rattle.hk_rta.specs.Demand.{deadline_at, jitter_at}
 use Rattle.hk_rta.specs.Response.{Response, IsLate}
 use Rattle.hk_sheet.specs.declared.sheet.High.{High}
 use Rattle.hk_sheet.specs.declared.sheet.Sheet.{Sheet}
@@ -31,7 +31,9 @@ too_large_at tasks i task r within none is fails e =
 
 -- a task whose response is at most its deadline isn't late
 in_time_at : (tasks : List Timing) (i r : ℕ) → Response tasks i r → r ≤ deadline_at tasks i → ¬ (IsLate tasks i)
-in_time_at tasks i r response short late = late r short response.holds
+in_time_at tasks i r response short late =
+    let whole : r - jitter_at tasks i + jitter_at tasks i ≡ r = omega (arith, response.after_jitter) in
+    late (r - jitter_at tasks i) (omega (arith, whole, short)) response.least.holds
 
 -- the first late task, where those before it have their responses
 pub late_at : (tasks : List High) (responses : List ℕ) (i : ℕ) (task : High) (name : List ℕ) → i < length tasks → task ≡ get_or tasks i task → name ≡ task.name → IsLate (timings_of tasks) i → ((j : ℕ) → j < i → Response (timings_of tasks) j (slice_index responses j)) → ((j : ℕ) → j < i → slice_index responses j ≤ deadline_at (timings_of tasks) j) → IsFirstLateName tasks name

@@ -1,9 +1,9 @@
 -- The numbers of the analysis of a sheet. Events are steps of the collector, one a tick; sizes are in words, times in ticks.
-use Rattle.std.specs.Prelude.{ℕ, ◌+◌, ◌-◌, ◌*◌, ◌≤◌, max, Bool, true, false, ◌||◌, ◌==◌, if◌then◌else◌, List, length, map, fold, sum_by}
+use Rattle.std.specs.Prelude.{ℕ, ◌+◌, ◌-◌, ◌*◌, ◌^◌, ◌≤◌, max, Bool, true, false, ◌||◌, ◌==◌, if◌then◌else◌, List, length, map, fold, sum_by}
 use Rattle.std.specs.List.{list_any}
+use Rattle.hk_words.specs.Bounds.{most_places, frame_events, object_events, cycle_events}
 use Rattle.hk_rta.specs.declared.Timing.{Timing}
 use Rattle.hk_rta.specs.declared.Load.{Load}
-use Rattle.hk_rta.specs.declared.TheConstants.{MAX_TICKS}
 use Rattle.hk_rta.specs.Busy.{Busy}
 use Rattle.hk_rta.specs.Demand.{starts_in}
 use Rattle.hk_script.specs.declared.statement.Statement.{Statement}
@@ -20,10 +20,9 @@ timings_of tasks = map (λ (task : High). task.timing) tasks
 
 -- THE CYCLE
 
--- an upper bound on the events of a whole collection cycle: so many for each task, for each word that is kept for
--- live objects, and for each word for new ones
-abbrev pub cycle_events : Sheet → ℕ
-cycle_events sheet = 3 + 34 * (length sheet.high + length sheet.low) + 9 * sheet.heap.live + 7 * sheet.heap.alloc
+-- an upper bound on the events of a whole collection cycle of a sheet's heap and tasks
+abbrev pub cycle_work : Sheet → ℕ
+cycle_work sheet = cycle_events sheet.heap.registers (length sheet.high + length sheet.low) sheet.heap.live sheet.heap.alloc
 
 -- OBJECTS
 
@@ -68,7 +67,8 @@ some_makes sheet = list_any (λ (task : High). makes task.script) sheet.high || 
 -- and begins anew where a task has entered it meanwhile. Where nothing is made the collector owes nothing, so that
 -- there is no attempt.
 abbrev pub attempt_events : Sheet → ℕ
-attempt_events sheet = if some_makes sheet then max 34 (2 + 5 * (largest_object sheet - 1)) else 0
+attempt_events sheet =
+    if some_makes sheet then max (frame_events sheet.heap.registers) (object_events (largest_object sheet)) else 0
 
 -- THE BUSY PERIOD
 
@@ -77,9 +77,13 @@ attempt_events sheet = if some_makes sheet then max 34 (2 + 5 * (largest_object 
 abbrev pub job_events : (rate attempt : ℕ) → High → ℕ
 job_events rate attempt task = rate * task.words + attempt
 
--- what a high task brings at each arrival: its cost and the events of a job
+-- what a high task brings at each arrival, or up to its jitter later: its cost and the events of a job
 abbrev pub load_of : (rate attempt : ℕ) → High → Load
-load_of rate attempt task = record { period = task.timing.period; work = task.timing.cost + job_events rate attempt task }
+load_of rate attempt task = record {
+  period = task.timing.period;
+  jitter = task.timing.jitter;
+  work = task.timing.cost + job_events rate attempt task;
+}
 
 abbrev pub loads : Sheet → List Load
 loads sheet = map (load_of sheet.heap.rate (attempt_events sheet)) sheet.high
@@ -93,21 +97,22 @@ if_low sheet n = if length sheet.low == 0 then 0 else n
 abbrev pub low_events : Sheet → ℕ
 low_events sheet = if_low sheet (sheet.heap.rate * largest_low sheet + attempt_events sheet)
 
--- the ticks that can wait as a busy period begins: those of the longest operation, a load, and the low task's events
+-- the ticks that can wait as a busy period begins: those of the longest operation, and the low task's events
 abbrev pub base : Sheet → ℕ
-base sheet = if_low sheet (10 + (sheet.heap.rate * largest_low sheet + attempt_events sheet))
+base sheet = if_low sheet (most_places + (sheet.heap.rate * largest_low sheet + attempt_events sheet))
 
 -- x is the length of the busy period in ticks, and is at most 2^24: the least window that has room for what waits as it
 -- begins and for all that the high tasks bring in it
 pub record IsBusy (sheet : Sheet) (x : ℕ) : Type 0 where
   pub least : Busy (loads sheet) (base sheet) x
-  pub short : x ≤ MAX_TICKS
+  pub short : x ≤ 2 ^ 24
 
 -- THE DEBT
 
--- the events that the jobs of a high task which arrive in a window can make the collector owe
+-- the events that the jobs of a high task which become ready in a window can make the collector owe: these jobs arrived
+-- in it, or in the jitter before
 abbrev pub events_in : (rate attempt window : ℕ) → High → ℕ
-events_in rate attempt window task = starts_in window task.timing.period * job_events rate attempt task
+events_in rate attempt window task = starts_in (window + task.timing.jitter) task.timing.period * job_events rate attempt task
 
 -- the most events that the collector can owe in a busy period of this length
 abbrev pub most_owed : Sheet → ℕ → ℕ

@@ -1,12 +1,11 @@
 -- The ranges of the numbers of a sheet that can be read, as far as the sums of the analysis need them.
 use Rattle.std.specs.Prelude.{ℕ, ◌+◌, ◌*◌, ◌^◌, ◌≤◌}
-use Rattle.hk_rta.specs.declared.TheConstants.{MAX_TICKS}
 use Rattle.hk_rta.specs.Demand.{IsTimed}
 use Rattle.hk_sheet.specs.declared.sheet.High.{High}
 
 -- the most words of an object that a task makes, and the most of the board by its two counts of fields, of a byte each
 abbrev pub MOST_MADE : ℕ
-MOST_MADE = 63
+MOST_MADE = 255
 
 abbrev pub MOST_WORDS : ℕ
 MOST_WORDS = 511
@@ -22,4 +21,4 @@ MOST_EVENTS = 2 ^ 36 + MOST_ATTEMPT
 -- a task's times and its words are in range
 pub record IsInRange (task : High) : Type 0 where
   pub timing : IsTimed task.timing
-  pub words : task.words ≤ MAX_TICKS
+  pub words : task.words ≤ 2 ^ 24

@@ -1,13 +1,12 @@
 -- Why a sheet is refused: the first reason, in the stated order, which is Cost, Words, Response, Busy, Rate, Reserve.
-use Rattle.std.specs.Prelude.{◌≡◌, ℕ, ◌<◌, ◌≤◌, false, List, [], map, slice_index_or, Option, Some, option_map}
+use Rattle.std.specs.Prelude.{◌≡◌, ℕ, ◌^◌, ◌<◌, ◌≤◌, false, List, [], map, slice_index_or, Option, Some, option_map}
 use Rattle.std.specs.List.{find, list_any}
-use Rattle.hk_rta.specs.declared.TheConstants.{MAX_TICKS}
 use Rattle.hk_rta.specs.Busy.{IsOverfull}
 use Rattle.hk_sheet.specs.declared.sheet.High.{High}
 use Rattle.hk_sheet.specs.declared.sheet.Sheet.{Sheet}
 use Rattle.hk_admit.specs.declared.refused.Refused.{Refused}
 use Rattle.hk_admit.specs.declared.refused.Refused.TheVariants.{Cost, Words, Response, Busy, Rate, Reserve, Memory}
-use Rattle.hk_admit.specs.Analysis.{timings_of, cycle_events, loads, base, IsBusy, most_owed, events_outside, events_in_reserve}
+use Rattle.hk_admit.specs.Analysis.{timings_of, cycle_work, loads, base, IsBusy, most_owed, events_outside, events_in_reserve}
 use Rattle.hk_admit.specs.Conditions.{ticks_needed, words_needed, is_too_long, is_too_large, KeepsToDeclared, AreInTime, IsFirstLate}
 
 -- the refusal of the first high task, in sheet order, that takes more ticks than it declares
@@ -36,7 +35,7 @@ pub record IsRateShort (sheet : Sheet) (have need : ℕ) : Type 0 where
   pub busy : ℕ
   pub is_busy : IsBusy sheet busy
   pub has : have ≡ events_outside sheet
-  pub needs : need ≡ cycle_events sheet
+  pub needs : need ≡ cycle_work sheet
   pub short : have < need
 
 -- there is a busy period, the collector does enough for a cycle, and the words of the reserve stand for fewer events than
@@ -44,7 +43,7 @@ pub record IsRateShort (sheet : Sheet) (have need : ℕ) : Type 0 where
 pub record IsReserveShort (sheet : Sheet) (have need : ℕ) : Type 0 where
   pub busy : ℕ
   pub is_busy : IsBusy sheet busy
-  pub keeps_up : cycle_events sheet ≤ events_outside sheet
+  pub keeps_up : cycle_work sheet ≤ events_outside sheet
   pub has : have ≡ events_in_reserve sheet
   pub needs : need ≡ most_owed sheet busy
   pub short : have < need
@@ -55,7 +54,7 @@ IsHeapRefusal sheet (Cost task need declared) = first_too_long sheet.high ≡ So
 IsHeapRefusal sheet (Words task need declared) =
     (list_any is_too_long sheet.high ≡ false) × (first_too_large sheet.high ≡ Some (Words task need declared))
 IsHeapRefusal sheet (Response task) = ⊥
-IsHeapRefusal sheet Busy = KeepsToDeclared sheet.high × IsOverfull (loads sheet) (base sheet) MAX_TICKS
+IsHeapRefusal sheet Busy = KeepsToDeclared sheet.high × IsOverfull (loads sheet) (base sheet) (2 ^ 24)
 IsHeapRefusal sheet (Rate have need) = KeepsToDeclared sheet.high × IsRateShort sheet have need
 IsHeapRefusal sheet (Reserve have need) = KeepsToDeclared sheet.high × IsReserveShort sheet have need
 IsHeapRefusal sheet Memory = Unit {0}

@@ -7,6 +7,7 @@ use Rattle.hk_script.specs.declared.statement.Statement.{Statement}
 use Rattle.hk_script.specs.declared.statement.Statement.TheVariants as statement
 use Rattle.hk_script.specs.declared.statement.Test.{Test}
 use Rattle.hk_script.specs.declared.statement.Test.TheVariants as test
+use Rattle.hk_script.specs.Limits.{limits_of}
 use Rattle.hk_script.specs.Blocks.{IsScript}
 use Rattle.hk_script.specs.Spelling.{IsTest, IsStatement}
 use Rattle.hk_sheet.specs.declared.arrivals.Arrivals.{Arrivals}
@@ -30,18 +31,18 @@ AreDistinct-prop : (names : List (List ℕ)) → IsProp (AreDistinct names)
 AreDistinct-prop [] = Prim.hlevel props
 AreDistinct-prop (name ∷ rest) = ×_prop (Prim.hlevel props) (AreDistinct-prop rest)
 
-IsTest-prop : (t : Test) → IsProp (IsTest t)
-IsTest-prop (test.Less left right) = Prim.hlevel props
-IsTest-prop (test.Equal left right) = Prim.hlevel props
-IsTest-prop (test.Null reg) = Prim.hlevel props
-IsTest-prop (test.Same left right) = Prim.hlevel props
+IsTest-prop : (fields registers : ℕ) (t : Test) → IsProp (IsTest (limits_of fields registers) t)
+IsTest-prop fields registers (test.Less left right) = Prim.hlevel props
+IsTest-prop fields registers (test.Equal left right) = Prim.hlevel props
+IsTest-prop fields registers (test.Null reg) = Prim.hlevel props
+IsTest-prop fields registers (test.Same left right) = Prim.hlevel props
 
-IsStatement-prop : (s : Statement) → IsProp (IsStatement s)
-IsStatement-prop (statement.If t) = IsTest-prop t
-IsStatement-prop s = Prim.hlevel props
+IsStatement-prop : (fields registers : ℕ) (s : Statement) → IsProp (IsStatement (limits_of fields registers) s)
+IsStatement-prop fields registers (statement.If t) = IsTest-prop fields registers t
+IsStatement-prop fields registers s = Prim.hlevel props
 
-IsScript-prop : (script : List Statement) → IsProp (IsScript script)
-IsScript-prop script = Prim.hlevel (props, IsStatement-prop)
+IsScript-prop : (fields registers : ℕ) (script : List Statement) → IsProp (IsScript (limits_of fields registers) script)
+IsScript-prop fields registers script = Prim.hlevel (props, IsStatement-prop)
 
 IsSheet-prop : (sheet : Sheet) → IsProp (IsSheet sheet)
 IsSheet-prop sheet = Prim.hlevel (props, AreArrivals-prop, AreDistinct-prop, IsScript-prop)

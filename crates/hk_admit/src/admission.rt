@@ -8,7 +8,7 @@ ghost use Rattle.hk_admit.specs.Refusals.{IsHeapRefusal, IsRefusal};
 use crate::checked::{Admitted, Checked};
 use crate::declared::check_declared;
 use crate::numbers::{
-    attempt_events, busy, cycle_events, events_in_reserve, events_outside, most_owed,
+    attempt_events, busy, cycle_work, events_in_reserve, events_outside, most_owed,
 };
 use crate::refused::Refused;
 use crate::responses::responses;
@@ -26,7 +26,7 @@ fn check_room(alloc: Global, sheet: Sheet) -> Result<Checked, Refused>
         return Err(Refused::Busy);
     };
     let have = events_outside(&sheet);
-    let work = cycle_events(&sheet);
+    let work = cycle_work(&sheet);
     if have < work {
         return Err(Refused::Rate { have, need: work });
     }

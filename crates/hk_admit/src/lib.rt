@@ -16,6 +16,4 @@ pub use laws::{no_refusal, one_refusal};
 pub use refused::Refused;
 
 #[cfg(test)]
-mod fixture;
-#[cfg(test)]
 mod tests;

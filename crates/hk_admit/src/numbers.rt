@@ -1,30 +1,27 @@
 //! The numbers of the analysis. No sum in them is above 64 bits.
 
-ghost use Rattle.std.specs.Prelude.{◌≡◌, ◌+◌, ◌≤◌, All, IfOk, MatchOption, map, sum_by};
+ghost use Rattle.std.specs.Prelude.{◌≡◌, ◌+◌, ◌^◌, ◌≤◌, All, IfOk, MatchOption, map, sum_by};
 ghost use Rattle.std.specs.List.{list_any};
+ghost use Rattle.hk_words.specs.Bounds.{most_places};
 ghost use Rattle.hk_rta.specs.Busy.{IsOverfull};
 ghost use Rattle.hk_sheet.specs.Valid.{IsSheet};
-ghost use Rattle.hk_admit.specs.Analysis.{cycle_events, greatest, high_sizes, low_sizes, largest_low, largest_object, board_size, makes, some_makes, attempt_events, job_events, load_of, loads, low_events, base, IsBusy, events_in, most_owed, events_outside, events_in_reserve};
+ghost use Rattle.hk_admit.specs.Analysis.{cycle_work, greatest, high_sizes, low_sizes, largest_low, largest_object, board_size, makes, some_makes, attempt_events, job_events, load_of, loads, low_events, base, IsBusy, events_in, most_owed, events_outside, events_in_reserve};
 ghost use Rattle.hk_admit.specs.Ranges.{MOST_MADE, MOST_WORDS, MOST_ATTEMPT, MOST_EVENTS, IsInRange};
 
 use hk_rta::{Load, MAX_TICKS};
 use hk_script::{Script, largest};
-use hk_sheet::{HeapKeys, High, Low, MAX_RATE, Sheet};
+use hk_sheet::{HeapKeys, High, Low, Sheet};
+use hk_words::{MOST_PLACES, cycle_events, frame_events, object_events};
 use std::alloc::{AllocError, Global};
 
-/// The ticks of the longest operation of a task, which is a load of a reference.
-const LONGEST: u64 = 10;
-
-/// The fewest events of an attempt that is counted: those on a frame with eight registers.
-const SHORTEST_ATTEMPT: u64 = 34;
-
 /// The most events of a whole collection cycle.
-pub(crate) fn cycle_events(sheet: &Sheet) -> u64
+pub(crate) fn cycle_work(sheet: &Sheet) -> u64
     requires { IsSheet sheet.now }
-    ensures { result ≡ cycle_events sheet.now }
+    ensures { result ≡ cycle_work sheet.now }
 {
-    let tasks = sheet.high.items.len() as u64 + sheet.low.items.len() as u64;
-    3 + 34 * tasks + 9 * u64::from(sheet.heap.live) + 7 * u64::from(sheet.heap.alloc)
+    let heap = sheet.heap;
+    let tasks = sheet.high.items.len() + sheet.low.items.len();
+    cycle_events(heap.registers, tasks as u8, heap.live, heap.alloc)
 }
 
 /// The size of the largest object that a high task makes, 0 where none makes any.
@@ -103,8 +100,9 @@ pub(crate) fn attempt_events(sheet: &Sheet) -> u64
     ensures small { result ≤ MOST_ATTEMPT }
 {
     if some_makes(sheet) {
-        let copied = 2 + 5 * u64::from(largest_object(sheet) - 1);
-        copied.max(SHORTEST_ATTEMPT)
+        let blackened = frame_events(sheet.heap.registers);
+        let copied = object_events(largest_object(sheet));
+        u64::from(blackened.max(copied))
     } else {
         0
     }
@@ -112,7 +110,7 @@ pub(crate) fn attempt_events(sheet: &Sheet) -> u64
 
 /// The events that a job of a high task can make the collector owe.
 fn job_events(rate: u64, attempt: u64, task: &High) -> u64
-    requires rate { rate ≤ MAX_RATE }
+    requires rate { rate ≤ 4096 }
     requires attempt { attempt ≤ MOST_ATTEMPT }
     requires task { IsInRange task.now }
     ensures value { result ≡ job_events rate attempt task.now }
@@ -123,20 +121,21 @@ fn job_events(rate: u64, attempt: u64, task: &High) -> u64
 
 /// What a high task brings at each arrival.
 fn load_of(rate: u64, attempt: u64, task: &High) -> Load
-    requires rate { rate ≤ MAX_RATE }
+    requires rate { rate ≤ 4096 }
     requires attempt { attempt ≤ MOST_ATTEMPT }
     requires task { IsInRange task.now }
     ensures { result ≡ load_of rate attempt task.now }
 {
     Load {
         period: task.timing.period,
+        jitter: task.timing.jitter,
         work: task.timing.cost + job_events(rate, attempt, task),
     }
 }
 
 /// What each high task brings at each arrival.
 fn loads(alloc: Global, rate: u64, attempt: u64, tasks: &[High]) -> Result<Vec<Load>, AllocError>
-    requires rate { rate ≤ MAX_RATE }
+    requires rate { rate ≤ 4096 }
     requires attempt { attempt ≤ MOST_ATTEMPT }
     requires tasks { All IsInRange tasks.now }
     ensures { IfOk result (λ v. v.items ≡ map (load_of rate attempt) tasks.now) }
@@ -169,38 +168,41 @@ fn base(sheet: &Sheet, attempt: u64) -> u64
     requires attempt { attempt ≡ attempt_events sheet.now }
     requires small { attempt ≤ MOST_ATTEMPT }
     ensures value { result ≡ base sheet.now }
-    ensures small { result ≤ LONGEST + MOST_EVENTS }
+    ensures small { result ≤ most_places + MOST_EVENTS }
 {
     if sheet.low.items.is_empty() {
         0
     } else {
-        LONGEST + low_events(sheet, attempt)
+        u64::from(MOST_PLACES) + low_events(sheet, attempt)
     }
 }
 
-/// The length of the busy period in ticks, None where it is above [`MAX_TICKS`] or has no end.
+/// The length of the busy period in ticks, None where it is above 2^24 or has no end.
 pub(crate) fn busy(alloc: Global, sheet: &Sheet, attempt: u64) -> Result<Option<u64>, AllocError>
     requires readable { IsSheet sheet.now }
     requires attempt { attempt ≡ attempt_events sheet.now }
     requires small { attempt ≤ MOST_ATTEMPT }
-    ensures { IfOk result (λ b. MatchOption b (IsOverfull (loads sheet.now) (base sheet.now) MAX_TICKS) (λ x. IsBusy sheet.now x)) }
+    ensures { IfOk result (λ b. MatchOption b (IsOverfull (loads sheet.now) (base sheet.now) (2 ^ 24)) (λ x. IsBusy sheet.now x)) }
 {
     let loads = loads(alloc, sheet.heap.rate, attempt, &sheet.high.items)?;
     Ok(hk_rta::busy(&loads, base(sheet, attempt), MAX_TICKS))
 }
 
-/// The events that the jobs of high tasks which arrive in a window can make the collector owe.
+/// The events that the jobs of high tasks which become ready in a window can make the collector owe.
 fn events_in(rate: u64, attempt: u64, window: u64, tasks: &[High]) -> u64
-    requires rate { rate ≤ MAX_RATE }
+    requires rate { rate ≤ 4096 }
     requires attempt { attempt ≤ MOST_ATTEMPT }
-    requires window { window ≤ MAX_TICKS }
+    requires window { window ≤ 2 ^ 24 }
     requires tasks { All IsInRange tasks.now }
-    requires few { sum_by (events_in rate attempt window) tasks.now ≤ MAX_TICKS }
+    requires few { sum_by (events_in rate attempt window) tasks.now ≤ 2 ^ 24 }
     ensures { result ≡ sum_by (events_in rate attempt window) tasks.now }
 {
     tasks
         .iter()
-        .map(|task| window.div_ceil(task.timing.period) * job_events(rate, attempt, task))
+        .map(|task| {
+            let starts = (window + task.timing.jitter).div_ceil(task.timing.period);
+            starts * job_events(rate, attempt, task)
+        })
         .sum()
 }
 

@@ -8,7 +8,7 @@ ghost use Rattle.hk_admit.specs.Ranges.{IsInRange};
 
 use crate::declared::name_of;
 use crate::refused::Refused;
-use hk_rta::{MAX_TASKS, Timing, response};
+use hk_rta::{Timing, response};
 use hk_sheet::{High, Ticks};
 use std::alloc::{AllocError, Global};
 
@@ -21,7 +21,7 @@ fn timings(alloc: Global, tasks: &[High]) -> Result<Vec<Timing>, AllocError>
 
 /// The response time of each high task, or the first that has none within its deadline.
 pub(crate) fn responses(alloc: Global, tasks: &[High]) -> Result<Ticks, Refused>
-    requires few { length tasks.now ≤ MAX_TASKS }
+    requires few { length tasks.now ≤ 31 }
     requires tasks { All IsInRange tasks.now }
     ensures { MatchResult result (λ responses. AreResponses (timings_of tasks.now) responses) (λ refused. IsLateRefusal tasks.now refused) }
 {

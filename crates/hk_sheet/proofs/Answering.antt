@@ -4,6 +4,7 @@ use Rattle.std.specs.List.{AllByRecursion}
 use Rattle.toml.specs.Data.{Data, Members, get_member}
 use Rattle.hk_words.specs.declared.geometry.GeoError.{GeoError}
 use Rattle.hk_words.specs.Geometry.{first_error}
+use Rattle.hk_script.specs.Limits.{limits_of}
 use Rattle.hk_script.specs.declared.error.ScriptError.{ScriptError}
 use Rattle.hk_script.specs.declared.statement.Statement.{Statement}
 use Rattle.hk_script.specs.Texts.{script_of}
@@ -95,7 +96,7 @@ text_not task (Err fault) = λ is. cc
 
 script_not : (heap : HeapKeys) (entries : Members) → NotText (fault_of_script heap entries)
 unfolding fault_of_script
-script_not heap entries = text_not (text_at (codes "name") entries) (script_of (text_at (codes "script") entries))
+script_not heap entries = text_not (text_at (codes "name") entries) (script_of (limits_of heap.fields heap.registers) (text_at (codes "script") entries))
 
 sizes_not : (fault : Option GeoError) → NotText (option_map error.Geometry fault)
 sizes_not None = λ is. cc

@@ -1,22 +1,27 @@
 -- Names and the texts of scripts have only bytes below 128.
-use Rattle.std.proofs.Common.{◌≡◌, ℕ, ◌+◌, ◌<◌, Bool, true, List, [], ◌∷◌, ◌++◌, codes, arith, refl}
+use Rattle.std.proofs.Common.{◌≡◌, ℕ, ◌+◌, ◌<◌, ◌^◌, Bool, true, List, [], ◌∷◌, ◌++◌, codes, arith, refl, inl, inr, ◌==◌}
 use Rattle.std.specs.Prelude.{nat_lt}
 use Rattle.std.specs.Char.{is_ascii_lowercase}
 use Rattle.std.specs.List.{AllByRecursion, list_all}
+use Rattle.std.specs.Fmt.{decimal}
 use Rattle.std.specs.Str.{IsAscii, IsUtf8}
-use Rattle.std.proofs.lemmas.Bool.{and_parts, ltb-true, false≢true}
+use Rattle.std.proofs.lemmas.Bool.{cases_Bool, and_parts, ltb-true, false≢true}
 use Rattle.std.proofs.lemmas.Bool.Decides.{nat_tests}
 use Rattle.std.proofs.lemmas.Fmt.{IsAscii-decimal}
 use Rattle.std.proofs.lemmas.Str.{IsAscii-append, IsUtf8-from_ascii}
 use Rattle.std.proofs.lemmas.Str.Ascii.{IsAscii-nil, IsAscii-cons}
 use Rattle.hk_script.specs.Blocks.{IsScript}
+use Rattle.hk_script.specs.Limits.{AreLimits, limits_of, widest}
+use Rattle.hk_script.proofs.Wider.{within_widest, wider_each}
 use Rattle.hk_script.specs.Printing.{word_of, spaced, line_from, line_of, text_of}
 use Rattle.hk_script.specs.Spelling.{Piece, Exactly, variable, register, pieces, test_pieces, IsTest, IsStatement}
 use Rattle.hk_script.specs.declared.statement.Statement.{Statement}
 use Rattle.hk_script.specs.declared.statement.Statement.TheVariants as statement
 use Rattle.hk_script.specs.declared.statement.Test.{Test}
 use Rattle.hk_script.specs.declared.statement.Test.TheVariants as test
+use Rattle.hk_sheet.specs.declared.sheet.HeapKeys.{HeapKeys}
 use Rattle.hk_sheet.specs.Faults.{is_name_byte, is_name}
+use Rattle.hk_sheet.specs.Valid.{is_breadth}
 
 -- NAMES
 
@@ -61,22 +66,22 @@ IsPlain p = IsAscii (word_of p)
 abbrev ArePlain : List Piece → Type 0
 ArePlain ps = AllByRecursion IsPlain ps
 
-name_plain : (letter v : ℕ) → letter < 128 → v < 10 → IsPlain (Exactly (letter ∷ (48 + v) ∷ []))
-name_plain letter v small digit = IsAscii-cons letter ((48 + v) ∷ []) small (IsAscii-cons (48 + v) [] (omega arith) IsAscii-nil)
+name_plain : (letter v : ℕ) → letter < 128 → v < 2 ^ 64 → IsPlain (Exactly (letter ∷ decimal v))
+name_plain letter v small fits = IsAscii-cons letter (decimal v) small (IsAscii-decimal v fits)
 
-variable_plain : (v : ℕ) → v < 10 → IsPlain (variable v)
-variable_plain v digit = name_plain 118 v (omega arith) digit
+variable_plain : (v : ℕ) → v < 2 ^ 64 → IsPlain (variable v)
+variable_plain v fits = name_plain 118 v (omega arith) fits
 
-register_plain : (v : ℕ) → v < 10 → IsPlain (register v)
-register_plain v digit = name_plain 114 v (omega arith) digit
+register_plain : (v : ℕ) → v < 2 ^ 64 → IsPlain (register v)
+register_plain v fits = name_plain 114 v (omega arith) fits
 
-test_plain : (t : Test) → IsTest t → ArePlain (test_pieces t)
+test_plain : (t : Test) → IsTest widest t → ArePlain (test_pieces t)
 test_plain (test.Less l r) h = (variable_plain l (omega arith), (word_ascii (codes "<") refl, (variable_plain r (omega arith), tt)))
 test_plain (test.Equal l r) h = (variable_plain l (omega arith), (word_ascii (codes "=") refl, (variable_plain r (omega arith), tt)))
 test_plain (test.Null r) h = (word_ascii (codes "null") refl, (register_plain r (omega arith), tt))
 test_plain (test.Same l r) h = (word_ascii (codes "same") refl, (register_plain l (omega arith), (register_plain r (omega arith), tt)))
 
-pieces_plain : (s : Statement) → IsStatement s → ArePlain (pieces s)
+pieces_plain : (s : Statement) → IsStatement widest s → ArePlain (pieces s)
 pieces_plain (statement.Work n) h = (word_ascii (codes "work") refl, (IsAscii-decimal n (omega arith), tt))
 pieces_plain (statement.Set v n) h = (word_ascii (codes "set") refl, (variable_plain v (omega arith), (IsAscii-decimal n h.1, tt)))
 pieces_plain (statement.Copy v u) h = (word_ascii (codes "copy") refl, (variable_plain v (omega arith), (variable_plain u (omega arith), tt)))
@@ -109,11 +114,27 @@ line_ascii : (ps : List Piece) → ArePlain ps → IsAscii (line_from ps)
 line_ascii [] are = newline_ascii
 line_ascii (p ∷ ps) are = IsAscii-append (word_of p ++ spaced ps) (10 ∷ []) (IsAscii-append (word_of p) (spaced ps) are.0 (spaced_ascii ps are.1)) newline_ascii
 
-text_ascii : (script : List Statement) → AllByRecursion IsStatement script → IsAscii (text_of script)
+text_ascii : (script : List Statement) → AllByRecursion (IsStatement widest) script → IsAscii (text_of script)
 unfolding line_of
 text_ascii [] are = IsAscii-nil
 text_ascii (s ∷ script) are = IsAscii-append (line_of s) (text_of script) (line_ascii (pieces s) (pieces_plain s are.0)) (text_ascii script are.1)
 
 -- the text of a script is text
-pub script_is_text : (script : List Statement) → IsScript script → IsUtf8 (text_of script)
+pub script_is_text : (script : List Statement) → IsScript widest script → IsUtf8 (text_of script)
 script_is_text script is = IsUtf8-from_ascii (text_of script) (text_ascii script is.each)
+
+-- a breadth gives limits that scripts are read with, and a script of these keeps the widest ones
+pub limits_are : (fields registers : ℕ) → is_breadth fields registers ≡ true → AreLimits (limits_of fields registers)
+limits_are fields registers is =
+    elim (cases_Bool (fields == 254)) [
+      | inl wide ↦ inr (grind (arith, nat_tests), grind (arith, nat_tests), grind (arith, nat_tests))
+      | inr narrow ↦ inl (grind (arith, nat_tests), grind (arith, nat_tests))
+    ]
+
+pub keeps_widest : (heap : HeapKeys) (script : List Statement) → is_breadth heap.fields heap.registers ≡ true → IsScript (limits_of heap.fields heap.registers) script → IsScript widest script
+keeps_widest heap script is keeps = record {
+  each = wider_each (limits_of heap.fields heap.registers) widest (within_widest (limits_of heap.fields heap.registers) (limits_are heap.fields heap.registers is)) script keeps.each;
+  blocks = keeps.blocks;
+  some = keeps.some;
+  few = keeps.few;
+}

@@ -5,6 +5,7 @@ use Rattle.std.proofs.lemmas.Bool.Decides.{nat_tests}
 use Rattle.toml.specs.Data.{Data, table, Members, as_table}
 use Rattle.toml.specs.View.{items_of}
 use Rattle.hk_rta.specs.declared.Timing.{Timing}
+use Rattle.hk_script.specs.Limits.{limits_of}
 use Rattle.hk_script.proofs.Printed.{script_spelled}
 use Rattle.hk_script.proofs.Texts.{text_again}
 use Rattle.hk_script.specs.Blocks.{IsScript}
@@ -21,6 +22,7 @@ use Rattle.hk_sheet.specs.declared.sheet.Sheet.{Sheet}
 use Rattle.hk_sheet.specs.Rules.{elements, number_of, number_at, is_second}
 use Rattle.hk_sheet.specs.Reading.{read_script, heap_in, arrivals_in, script_in, timing_in, high_in, low_in, highs_of, lows_of, heap_of, sheet_in}
 use Rattle.hk_sheet.specs.Printing.{is_wide, heap_table, number_data, heap_entries, high_entries, low_entries, document_of}
+use Rattle.hk_sheet.proofs.Plain.{limits_are}
 use Rattle.hk_sheet.specs.Valid.{is_breadth, IsHigh, IsLow, IsSheet}
 
 -- an array has the elements that it was made of
@@ -40,8 +42,10 @@ tables_again entries [] = refl
 tables_again entries (t ∷ tasks) = ap (λ rest. entries t ∷ rest) (tables_again entries tasks)
 
 -- a script is read of its text
-pub script_again : (script : List Statement) → IsScript script → script_of (text_of script) ≡ Ok script
-script_again script is = text_again (text_of script) script (script_spelled script is)
+pub script_again : (heap : HeapKeys) (script : List Statement) → is_breadth heap.fields heap.registers ≡ true → IsScript (limits_of heap.fields heap.registers) script → script_of (limits_of heap.fields heap.registers) (text_of script) ≡ Ok script
+script_again heap script broad is =
+    let are = limits_are heap.fields heap.registers broad in
+    text_again (limits_of heap.fields heap.registers) are (text_of script) script (script_spelled (limits_of heap.fields heap.registers) are script is)
 
 -- the heap, which is one of version 2 or not
 pub version_again : (second : Bool) → (if second then 2 else 1) == 2 ≡ second
@@ -68,37 +72,37 @@ heap_again : (heap : HeapKeys) → is_breadth heap.fields heap.registers ≡ tru
 heap_again heap is = heap_by_version (is_wide heap) heap refl is
 
 -- a high task
-high_by_fields : (heap : HeapKeys) (name : List ℕ) (timing : Timing) (words lag : ℕ) (arrives : Arrivals) (script : List Statement) → IsScript script
+high_by_fields : (heap : HeapKeys) (name : List ℕ) (timing : Timing) (words lag : ℕ) (arrives : Arrivals) (script : List Statement) → is_breadth heap.fields heap.registers ≡ true → IsScript (limits_of heap.fields heap.registers) script
     → high_in heap (high_entries (record { name = name; timing = timing; words = words; lag = lag; arrivals = arrives; script = script })) ≡ record { name = name; timing = timing; words = words; lag = lag; arrivals = arrives; script = script }
 unfolding high_in timing_in arrivals_in script_in
-high_by_fields heap name timing words lag (Every first step) script is =
-    λ i. record { name = name; timing = timing; words = words; lag = lag; arrivals = Every first step; script = read_script (script_again script is i) }
-high_by_fields heap name timing words lag (arrivals.List ticks) script is =
-    λ i. record { name = name; timing = timing; words = words; lag = lag; arrivals = arrivals.List (numbers_again ticks i); script = read_script (script_again script is i) }
+high_by_fields heap name timing words lag (Every first step) script broad is =
+    λ i. record { name = name; timing = timing; words = words; lag = lag; arrivals = Every first step; script = read_script (script_again heap script broad is i) }
+high_by_fields heap name timing words lag (arrivals.List ticks) script broad is =
+    λ i. record { name = name; timing = timing; words = words; lag = lag; arrivals = arrivals.List (numbers_again ticks i); script = read_script (script_again heap script broad is i) }
 
-pub high_again : (heap : HeapKeys) (task : High) → IsScript task.script → high_in heap (high_entries task) ≡ task
-high_again heap task is = high_by_fields heap task.name task.timing task.words task.lag task.arrivals task.script is
+pub high_again : (heap : HeapKeys) (task : High) → is_breadth heap.fields heap.registers ≡ true → IsScript (limits_of heap.fields heap.registers) task.script → high_in heap (high_entries task) ≡ task
+high_again heap task broad is = high_by_fields heap task.name task.timing task.words task.lag task.arrivals task.script broad is
 
 -- a low task
-low_by_fields : (heap : HeapKeys) (name : List ℕ) (arrives : Arrivals) (script : List Statement) → IsScript script
+low_by_fields : (heap : HeapKeys) (name : List ℕ) (arrives : Arrivals) (script : List Statement) → is_breadth heap.fields heap.registers ≡ true → IsScript (limits_of heap.fields heap.registers) script
     → low_in heap (low_entries (record { name = name; arrivals = arrives; script = script })) ≡ record { name = name; arrivals = arrives; script = script }
 unfolding low_in arrivals_in script_in
-low_by_fields heap name (Every first step) script is =
-    λ i. record { name = name; arrivals = Every first step; script = read_script (script_again script is i) }
-low_by_fields heap name (arrivals.List ticks) script is =
-    λ i. record { name = name; arrivals = arrivals.List (numbers_again ticks i); script = read_script (script_again script is i) }
+low_by_fields heap name (Every first step) script broad is =
+    λ i. record { name = name; arrivals = Every first step; script = read_script (script_again heap script broad is i) }
+low_by_fields heap name (arrivals.List ticks) script broad is =
+    λ i. record { name = name; arrivals = arrivals.List (numbers_again ticks i); script = read_script (script_again heap script broad is i) }
 
-pub low_again : (heap : HeapKeys) (task : Low) → IsScript task.script → low_in heap (low_entries task) ≡ task
-low_again heap task is = low_by_fields heap task.name task.arrivals task.script is
+pub low_again : (heap : HeapKeys) (task : Low) → is_breadth heap.fields heap.registers ≡ true → IsScript (limits_of heap.fields heap.registers) task.script → low_in heap (low_entries task) ≡ task
+low_again heap task broad is = low_by_fields heap task.name task.arrivals task.script broad is
 
 -- the tasks
-highs_again : (ticks : ℕ) (heap : HeapKeys) (tasks : List High) → AllByRecursion (IsHigh ticks heap) tasks → map (high_in heap) (map high_entries tasks) ≡ tasks
-highs_again ticks heap [] are = refl
-highs_again ticks heap (t ∷ tasks) are = λ i. high_again heap t are.0.script i ∷ highs_again ticks heap tasks are.1 i
+highs_again : (ticks : ℕ) (heap : HeapKeys) (tasks : List High) → is_breadth heap.fields heap.registers ≡ true → AllByRecursion (IsHigh ticks heap) tasks → map (high_in heap) (map high_entries tasks) ≡ tasks
+highs_again ticks heap [] broad are = refl
+highs_again ticks heap (t ∷ tasks) broad are = λ i. high_again heap t broad are.0.script i ∷ highs_again ticks heap tasks broad are.1 i
 
-lows_again : (ticks : ℕ) (heap : HeapKeys) (tasks : List Low) → AllByRecursion (IsLow ticks heap) tasks → map (low_in heap) (map low_entries tasks) ≡ tasks
-lows_again ticks heap [] are = refl
-lows_again ticks heap (t ∷ tasks) are = λ i. low_again heap t are.0.script i ∷ lows_again ticks heap tasks are.1 i
+lows_again : (ticks : ℕ) (heap : HeapKeys) (tasks : List Low) → is_breadth heap.fields heap.registers ≡ true → AllByRecursion (IsLow ticks heap) tasks → map (low_in heap) (map low_entries tasks) ≡ tasks
+lows_again ticks heap [] broad are = refl
+lows_again ticks heap (t ∷ tasks) broad are = λ i. low_again heap t broad are.0.script i ∷ lows_again ticks heap tasks broad are.1 i
 
 -- the ticks
 ticks_again : (sheet : Sheet) → number_at (codes "ticks") (document_of sheet) ≡ sheet.ticks
@@ -129,7 +133,7 @@ unfolding sheet_in
 sheet_again sheet is =
     let document = document_of sheet in
     let heap = heap_of-document sheet is.heap.breadth in
-    let high : map (high_in (heap_of document)) (highs_of document) ≡ sheet.high = (λ i. map (high_in (heap i)) (highs_of-document sheet i)) ∙ highs_again sheet.ticks sheet.heap sheet.high is.high in
-    let low : map (low_in (heap_of document)) (lows_of document) ≡ sheet.low = (λ i. map (low_in (heap i)) (lows_of-document sheet i)) ∙ lows_again sheet.ticks sheet.heap sheet.low is.low in
+    let high : map (high_in (heap_of document)) (highs_of document) ≡ sheet.high = (λ i. map (high_in (heap i)) (highs_of-document sheet i)) ∙ highs_again sheet.ticks sheet.heap sheet.high is.heap.breadth is.high in
+    let low : map (low_in (heap_of document)) (lows_of document) ≡ sheet.low = (λ i. map (low_in (heap i)) (lows_of-document sheet i)) ∙ lows_again sheet.ticks sheet.heap sheet.low is.heap.breadth is.low in
     let ticks : number_at (codes "ticks") document ≡ sheet.ticks = ticks_again sheet in
     λ i. record { ticks = ticks i; heap = heap i; high = high i; low = low i }

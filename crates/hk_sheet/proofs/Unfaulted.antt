@@ -9,6 +9,7 @@ use Rattle.std.proofs.lemmas.Slice.Eq.{bytes_eq-Decides}
 use Rattle.toml.specs.Data.{Data, string, array, table, Members, get_member, as_table}
 use Rattle.toml.specs.View.{items_of}
 use Rattle.hk_rta.specs.declared.Timing.{Timing}
+use Rattle.hk_script.specs.Limits.{limits_of}
 use Rattle.hk_script.specs.Blocks.{IsScript}
 use Rattle.hk_script.specs.Printing.{text_of}
 use Rattle.hk_script.specs.declared.statement.Statement.{Statement}
@@ -25,7 +26,7 @@ use Rattle.hk_sheet.specs.Reading.{text_at, timing_in, arrivals_in, high_in, low
 use Rattle.hk_sheet.specs.Faults.{first_of, unknown_keys, unknown_fault, fault_of_key, fault_of_table, faults_of_tasks, task_path, is_name, is_among, faults_of_names, faults_of_ticks, fault_of_arrivals, fault_of_high_arrivals, fault_of_low_arrivals, fault_of_script, fault_of_geometry, tasks_of, names_of, faults_of_tables, fault_of, sheet_of}
 use Rattle.hk_sheet.specs.Printing.{is_wide, version_of, heap_table, number_data, numbers_data, heap_entries, high_entries, low_entries, high_data, low_data, document_of}
 use Rattle.hk_sheet.specs.Valid.{is_breadth, IsFrom, IsHeap, AreSpaced, AreArrivals, IsTiming, IsHigh, IsLow, AreDistinct, names_in, IsSheet}
-use Rattle.hk_sheet.proofs.Redeclared.{elements_again, script_again, high_again, low_again, second_again, highs_of-document, lows_of-document, sheet_again}
+use Rattle.hk_sheet.proofs.Redeclared.{elements_again, script_again, high_again, low_again, second_again, heap_of-document, highs_of-document, lows_of-document, sheet_again}
 
 -- FAULTS
 
@@ -240,25 +241,25 @@ tables_unfaulted sheet is =
 -- FIELDS
 
 -- the fields of a task stand in its table
-high_named : (heap : HeapKeys) (task : High) → IsScript task.script → text_at (codes "name") (high_entries task) ≡ task.name
+high_named : (heap : HeapKeys) (task : High) → is_breadth heap.fields heap.registers ≡ true → IsScript (limits_of heap.fields heap.registers) task.script → text_at (codes "name") (high_entries task) ≡ task.name
 unfolding high_in
-high_named heap task is = ap (λ (t : High). t.name) (high_again heap task is)
+high_named heap task broad is = ap (λ (t : High). t.name) (high_again heap task broad is)
 
-high_spaced : (heap : HeapKeys) (task : High) → IsScript task.script → number_at (codes "period") (high_entries task) ≡ task.timing.period
+high_spaced : (heap : HeapKeys) (task : High) → is_breadth heap.fields heap.registers ≡ true → IsScript (limits_of heap.fields heap.registers) task.script → number_at (codes "period") (high_entries task) ≡ task.timing.period
 unfolding high_in timing_in
-high_spaced heap task is = ap (λ (t : High). t.timing.period) (high_again heap task is)
+high_spaced heap task broad is = ap (λ (t : High). t.timing.period) (high_again heap task broad is)
 
-high_listed : (heap : HeapKeys) (task : High) → IsScript task.script → arrivals_in (high_entries task) ≡ task.arrivals
+high_listed : (heap : HeapKeys) (task : High) → is_breadth heap.fields heap.registers ≡ true → IsScript (limits_of heap.fields heap.registers) task.script → arrivals_in (high_entries task) ≡ task.arrivals
 unfolding high_in
-high_listed heap task is = ap (λ (t : High). t.arrivals) (high_again heap task is)
+high_listed heap task broad is = ap (λ (t : High). t.arrivals) (high_again heap task broad is)
 
-low_named : (heap : HeapKeys) (task : Low) → IsScript task.script → text_at (codes "name") (low_entries task) ≡ task.name
+low_named : (heap : HeapKeys) (task : Low) → is_breadth heap.fields heap.registers ≡ true → IsScript (limits_of heap.fields heap.registers) task.script → text_at (codes "name") (low_entries task) ≡ task.name
 unfolding low_in
-low_named heap task is = ap (λ (t : Low). t.name) (low_again heap task is)
+low_named heap task broad is = ap (λ (t : Low). t.name) (low_again heap task broad is)
 
-low_listed : (heap : HeapKeys) (task : Low) → IsScript task.script → arrivals_in (low_entries task) ≡ task.arrivals
+low_listed : (heap : HeapKeys) (task : Low) → is_breadth heap.fields heap.registers ≡ true → IsScript (limits_of heap.fields heap.registers) task.script → arrivals_in (low_entries task) ≡ task.arrivals
 unfolding low_in
-low_listed heap task is = ap (λ (t : Low). t.arrivals) (low_again heap task is)
+low_listed heap task broad is = ap (λ (t : Low). t.arrivals) (low_again heap task broad is)
 
 high_text_by : (name : List ℕ) (timing : Timing) (words lag : ℕ) (arrives : Arrivals) (script : List Statement)
     → text_at (codes "script") (high_entries (record { name = name; timing = timing; words = words; lag = lag; arrivals = arrives; script = script })) ≡ text_of script
@@ -302,17 +303,17 @@ names_unfaulted earlier index (name ∷ names) are new distinct =
     (rw (are.0, new.0), names_unfaulted (name ∷ earlier) (index + 1) names are.1 (new_to_more name earlier names apart new.1) distinct.1)
 
 -- the names of a document of a sheet are those of its tasks
-highs_named : (ticks : ℕ) (heap : HeapKeys) (tasks : List High) → AllByRecursion (IsHigh ticks heap) tasks → map (text_at (codes "name")) (map high_entries tasks) ≡ map (λ (task : High). task.name) tasks
-highs_named ticks heap [] are = refl
-highs_named ticks heap (t ∷ tasks) are = λ i. high_named heap t are.0.script i ∷ highs_named ticks heap tasks are.1 i
+highs_named : (ticks : ℕ) (heap : HeapKeys) (tasks : List High) → is_breadth heap.fields heap.registers ≡ true → AllByRecursion (IsHigh ticks heap) tasks → map (text_at (codes "name")) (map high_entries tasks) ≡ map (λ (task : High). task.name) tasks
+highs_named ticks heap [] broad are = refl
+highs_named ticks heap (t ∷ tasks) broad are = λ i. high_named heap t broad are.0.script i ∷ highs_named ticks heap tasks broad are.1 i
 
-lows_named : (ticks : ℕ) (heap : HeapKeys) (tasks : List Low) → AllByRecursion (IsLow ticks heap) tasks → map (text_at (codes "name")) (map low_entries tasks) ≡ map (λ (task : Low). task.name) tasks
-lows_named ticks heap [] are = refl
-lows_named ticks heap (t ∷ tasks) are = λ i. low_named heap t are.0.script i ∷ lows_named ticks heap tasks are.1 i
+lows_named : (ticks : ℕ) (heap : HeapKeys) (tasks : List Low) → is_breadth heap.fields heap.registers ≡ true → AllByRecursion (IsLow ticks heap) tasks → map (text_at (codes "name")) (map low_entries tasks) ≡ map (λ (task : Low). task.name) tasks
+lows_named ticks heap [] broad are = refl
+lows_named ticks heap (t ∷ tasks) broad are = λ i. low_named heap t broad are.0.script i ∷ lows_named ticks heap tasks broad are.1 i
 
 names_again : (sheet : Sheet) → IsSheet sheet → names_of (document_of sheet) ≡ names_in sheet
 names_again sheet is =
-    rw (highs_of-document sheet, lows_of-document sheet, map-append (text_at (codes "name")) (map high_entries sheet.high) (map low_entries sheet.low), highs_named sheet.ticks sheet.heap sheet.high is.high, lows_named sheet.ticks sheet.heap sheet.low is.low)
+    rw (highs_of-document sheet, lows_of-document sheet, map-append (text_at (codes "name")) (map high_entries sheet.high) (map low_entries sheet.low), highs_named sheet.ticks sheet.heap sheet.high is.heap.breadth is.high, lows_named sheet.ticks sheet.heap sheet.low is.heap.breadth is.low)
 
 highs_have_names : (ticks : ℕ) (heap : HeapKeys) (tasks : List High) → AllByRecursion (IsHigh ticks heap) tasks → AllByRecursion (λ name. is_name name ≡ true) (map (λ (task : High). task.name) tasks)
 highs_have_names ticks heap [] are = tt
@@ -343,21 +344,21 @@ unfolding fault_of_arrivals
 arrivals_unfaulted task ticks gap (Every first step) arrive = rw (le-ltb step gap arrive.2)
 arrivals_unfaulted task ticks gap (arrivals.List list) arrive = first_of_none _ (ticks_unfaulted task gap 1 list arrive.2)
 
-high_arrives : (ticks : ℕ) (heap : HeapKeys) (task : High) → IsHigh ticks heap task → fault_of_high_arrivals (high_entries task) ≡ None
-high_arrives ticks heap task is = rw (high_named heap task is.script, high_spaced heap task is.script, high_listed heap task is.script) (arrivals_unfaulted task.name ticks task.timing.period task.arrivals is.arrivals)
+high_arrives : (ticks : ℕ) (heap : HeapKeys) → is_breadth heap.fields heap.registers ≡ true → (task : High) → IsHigh ticks heap task → fault_of_high_arrivals (high_entries task) ≡ None
+high_arrives ticks heap broad task is = rw (high_named heap task broad is.script, high_spaced heap task broad is.script, high_listed heap task broad is.script) (arrivals_unfaulted task.name ticks task.timing.period task.arrivals is.arrivals)
 
-low_arrives : (ticks : ℕ) (heap : HeapKeys) (task : Low) → IsLow ticks heap task → fault_of_low_arrivals (low_entries task) ≡ None
-low_arrives ticks heap task is = rw (low_named heap task is.script, low_listed heap task is.script) (arrivals_unfaulted task.name ticks 1 task.arrivals is.arrivals)
+low_arrives : (ticks : ℕ) (heap : HeapKeys) → is_breadth heap.fields heap.registers ≡ true → (task : Low) → IsLow ticks heap task → fault_of_low_arrivals (low_entries task) ≡ None
+low_arrives ticks heap broad task is = rw (low_named heap task broad is.script, low_listed heap task broad is.script) (arrivals_unfaulted task.name ticks 1 task.arrivals is.arrivals)
 
 -- SCRIPTS
 
-high_scripted : (heap : HeapKeys) (task : High) → IsScript task.script → fault_of_script heap (high_entries task) ≡ None
+high_scripted : (heap : HeapKeys) (task : High) → is_breadth heap.fields heap.registers ≡ true → IsScript (limits_of heap.fields heap.registers) task.script → fault_of_script heap (high_entries task) ≡ None
 unfolding fault_of_script
-high_scripted heap task is = rw (high_text task, script_again task.script is)
+high_scripted heap task broad is = rw (high_text task, script_again heap task.script broad is)
 
-low_scripted : (heap : HeapKeys) (task : Low) → IsScript task.script → fault_of_script heap (low_entries task) ≡ None
+low_scripted : (heap : HeapKeys) (task : Low) → is_breadth heap.fields heap.registers ≡ true → IsScript (limits_of heap.fields heap.registers) task.script → fault_of_script heap (low_entries task) ≡ None
 unfolding fault_of_script
-low_scripted heap task is = rw (low_text task, script_again task.script is)
+low_scripted heap task broad is = rw (low_text task, script_again heap task.script broad is)
 
 -- no task has a fault of its arrivals or of its script
 none_at_highs : (ticks : ℕ) (heap : HeapKeys) (fault : Members → Option SheetError) (tasks : List High) → ((task : High) → IsHigh ticks heap task → fault (high_entries task) ≡ None) → AllByRecursion (IsHigh ticks heap) tasks
@@ -381,12 +382,12 @@ unfolding fault_of
 document_unfaulted sheet is =
     let document = document_of sheet in
     let scripts : AreNone (map (fault_of_script (heap_of document)) (tasks_of document)) =
-    rw (highs_of-document sheet, lows_of-document sheet, map-append (fault_of_script (heap_of document)) (map high_entries sheet.high) (map low_entries sheet.low))
+    rw (highs_of-document sheet, lows_of-document sheet, heap_of-document sheet is.heap.breadth, map-append (fault_of_script sheet.heap) (map high_entries sheet.high) (map low_entries sheet.low))
     (none_append _ _
-    (none_at_highs sheet.ticks sheet.heap (fault_of_script (heap_of document)) sheet.high (λ task is. high_scripted (heap_of document) task is.script) is.high)
-    (none_at_lows sheet.ticks sheet.heap (fault_of_script (heap_of document)) sheet.low (λ task is. low_scripted (heap_of document) task is.script) is.low)) in
-    let highs : AreNone (map fault_of_high_arrivals (highs_of document)) = rw (highs_of-document sheet) (none_at_highs sheet.ticks sheet.heap fault_of_high_arrivals sheet.high (high_arrives sheet.ticks sheet.heap) is.high) in
-    let lows : AreNone (map fault_of_low_arrivals (lows_of document)) = rw (lows_of-document sheet) (none_at_lows sheet.ticks sheet.heap fault_of_low_arrivals sheet.low (low_arrives sheet.ticks sheet.heap) is.low) in
+    (none_at_highs sheet.ticks sheet.heap (fault_of_script sheet.heap) sheet.high (λ task keeps. high_scripted sheet.heap task is.heap.breadth keeps.script) is.high)
+    (none_at_lows sheet.ticks sheet.heap (fault_of_script sheet.heap) sheet.low (λ task keeps. low_scripted sheet.heap task is.heap.breadth keeps.script) is.low)) in
+    let highs : AreNone (map fault_of_high_arrivals (highs_of document)) = rw (highs_of-document sheet) (none_at_highs sheet.ticks sheet.heap fault_of_high_arrivals sheet.high (high_arrives sheet.ticks sheet.heap is.heap.breadth) is.high) in
+    let lows : AreNone (map fault_of_low_arrivals (lows_of document)) = rw (lows_of-document sheet) (none_at_lows sheet.ticks sheet.heap fault_of_low_arrivals sheet.low (low_arrives sheet.ticks sheet.heap is.heap.breadth) is.low) in
     let geometry : AreNone (fault_of_geometry (sheet_in document) ∷ []) = (geometry_fits sheet is, tt) in
     first_of_none _
     (none_append _ (fault_of_geometry (sheet_in document) ∷ [])

@@ -7,6 +7,7 @@ use Rattle.std.specs.List.{AllByRecursion}
 use Rattle.toml.specs.Data.{Members}
 use Rattle.hk_words.specs.declared.geometry.GeoError.{GeoError}
 use Rattle.hk_words.specs.Geometry.{first_error}
+use Rattle.hk_script.specs.Limits.{limits_of}
 use Rattle.hk_script.specs.Blocks.{IsScript}
 use Rattle.hk_script.specs.Texts.{script_of}
 use Rattle.hk_script.specs.declared.error.ScriptError.{ScriptError}
@@ -120,13 +121,13 @@ step_enough task gap first step none =
 
 -- SCRIPTS
 
-script_right : (task source : List ℕ) (read : Result (List Statement) ScriptError) → script_of source ≡ read → fault_of_text task read ≡ None → IsScript (read_script read)
-script_right task source (Ok script) is none = (text_takes source script is).script
-script_right task source (Err fault) is none = cc
+script_right : (fields registers : ℕ) (task source : List ℕ) (read : Result (List Statement) ScriptError) → script_of (limits_of fields registers) source ≡ read → fault_of_text task read ≡ None → IsScript (limits_of fields registers) (read_script read)
+script_right fields registers task source (Ok script) is none = (text_takes (limits_of fields registers) source script is).script
+script_right fields registers task source (Err fault) is none = cc
 
-pub script_of_table : (heap : HeapKeys) (entries : Members) → fault_of_script heap entries ≡ None → IsScript (script_in heap entries)
+pub script_of_table : (heap : HeapKeys) (entries : Members) → fault_of_script heap entries ≡ None → IsScript (limits_of heap.fields heap.registers) (script_in heap entries)
 unfolding fault_of_script script_in
-script_of_table heap entries none = script_right (text_at (codes "name") entries) (text_at (codes "script") entries) (script_of (text_at (codes "script") entries)) refl none
+script_of_table heap entries none = script_right heap.fields heap.registers (text_at (codes "name") entries) (text_at (codes "script") entries) (script_of (limits_of heap.fields heap.registers) (text_at (codes "script") entries)) refl none
 
 -- THE GEOMETRY
 
@@ -169,7 +170,7 @@ high_right heap path ticks entries some keys_none name arrivals_none script_none
         deadline = number_key path (codes "deadline") 1 (number_at (codes "period") entries) entries keys.1.1.0;
         cost = number_key path (codes "cost") 1 16777216 entries keys.1.1.1.0;
         jitter = below_deadline (number_at (codes "deadline") entries) (number_at (codes "jitter") entries) (number_key path (codes "deadline") 1 (number_at (codes "period") entries) entries keys.1.1.0).at_least
-          (optional_key path (codes "jitter") (number_at (codes "deadline") entries - 1) entries keys.1.1.1.1.1.0);
+            (optional_key path (codes "jitter") (number_at (codes "deadline") entries - 1) entries keys.1.1.1.1.1.0);
       };
       words = (number_key path (codes "words") 0 16777216 entries keys.1.1.1.1.0).at_most;
       lag = optional_key path (codes "lag") 16777216 entries keys.1.1.1.1.1.1.0;

@@ -8,6 +8,7 @@ use Rattle.std.specs.Ordering.{is_lt, nat_cmp}
 use Rattle.std.specs.Cmp.Lexicographic.{slice_cmp}
 use Rattle.toml.specs.Data.{Data, Members, no_members, member, get_member}
 use Rattle.hk_words.specs.Geometry.{Sizes, first_error}
+use Rattle.hk_script.specs.Limits.{limits_of}
 use Rattle.hk_script.specs.declared.error.ScriptError.{ScriptError}
 use Rattle.hk_script.specs.declared.statement.Statement.{Statement}
 use Rattle.hk_script.specs.Texts.{script_of}
@@ -145,7 +146,7 @@ fault_of_text task (Err fault) = Some (error.Script task fault)
 
 -- of a task beside this heap
 unfoldable pub fault_of_script : HeapKeys → Members → Option SheetError
-fault_of_script heap entries = fault_of_text (text_at (codes "name") entries) (script_of (text_at (codes "script") entries))
+fault_of_script heap entries = fault_of_text (text_at (codes "name") entries) (script_of (limits_of heap.fields heap.registers) (text_at (codes "script") entries))
 
 -- THE GEOMETRY
 

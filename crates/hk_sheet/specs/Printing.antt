@@ -6,6 +6,8 @@ use Rattle.std.specs.List.{AllByRecursion}
 use Rattle.std.specs.Ordering.{nat_cmp, match_ordering}
 use Rattle.toml.specs.Data.{Data, integer, string, array, table, Members, no_members, member}
 use Rattle.toml.specs.View.{items_of}
+use Rattle.hk_script.specs.Blocks.{IsScript}
+use Rattle.hk_script.specs.Limits.{widest}
 use Rattle.hk_script.specs.Printing.{text_of}
 use Rattle.hk_sheet.specs.declared.arrivals.Arrivals.{Arrivals}
 use Rattle.hk_sheet.specs.declared.arrivals.Arrivals.TheVariants.{Every}
@@ -124,7 +126,7 @@ ArrivalsFit (Every first step) = FitsInteger first × FitsInteger step
 
 -- a task of a run of some length, beside some heap
 abbrev pub IsHighOfRun : High → Type 0
-IsHighOfRun task = (ticks : ℕ) × (heap : HeapKeys) × (ticks ≤ 16777216) × IsHigh ticks heap task
+IsHighOfRun task = (ticks : ℕ) × (heap : HeapKeys) × (ticks ≤ 16777216) × IsHigh ticks heap task × IsScript widest task.script
 
 abbrev pub IsLowOfRun : Low → Type 0
-IsLowOfRun task = (ticks : ℕ) × (heap : HeapKeys) × (ticks ≤ 16777216) × IsLow ticks heap task
+IsLowOfRun task = (ticks : ℕ) × (heap : HeapKeys) × (ticks ≤ 16777216) × IsLow ticks heap task × IsScript widest task.script

@@ -4,6 +4,7 @@ use Rattle.toml.specs.Data.{Data, array, no_items, Members, no_members, get_memb
 use Rattle.hk_rta.specs.declared.Timing.{Timing}
 use Rattle.hk_script.specs.declared.statement.Statement.{Statement}
 use Rattle.hk_script.specs.declared.error.ScriptError.{ScriptError}
+use Rattle.hk_script.specs.Limits.{limits_of}
 use Rattle.hk_script.specs.Texts.{script_of}
 use Rattle.hk_sheet.specs.declared.arrivals.Arrivals.{Arrivals}
 use Rattle.hk_sheet.specs.declared.arrivals.Arrivals.TheVariants.{Every}
@@ -79,7 +80,7 @@ read_script (Ok script) = script
 read_script (Err error) = []
 
 unfoldable pub script_in : HeapKeys → Members → List Statement
-script_in heap entries = read_script (script_of (text_at (codes "script") entries))
+script_in heap entries = read_script (script_of (limits_of heap.fields heap.registers) (text_at (codes "script") entries))
 
 -- the times of a high task
 unfoldable pub timing_in : Members → Timing

@@ -3,6 +3,7 @@ use Rattle.std.specs.Prelude.{◌≡◌, ℕ, ◌+◌, ◌<◌, ◌≤◌, Bool,
 use Rattle.std.specs.List.{AllByRecursion}
 use Rattle.hk_words.specs.Geometry.{first_error}
 use Rattle.hk_rta.specs.declared.Timing.{Timing}
+use Rattle.hk_script.specs.Limits.{limits_of}
 use Rattle.hk_script.specs.Blocks.{IsScript}
 use Rattle.hk_sheet.specs.declared.arrivals.Arrivals.{Arrivals}
 use Rattle.hk_sheet.specs.declared.arrivals.Arrivals.TheVariants.{Every}
@@ -57,12 +58,12 @@ pub record IsHigh (ticks : ℕ) (heap : HeapKeys) (task : High) : Type 0 where
   pub words : task.words ≤ 16777216
   pub lag : task.lag ≤ 16777216
   pub arrivals : AreArrivals ticks task.timing.period task.arrivals
-  pub script : IsScript task.script
+  pub script : IsScript (limits_of heap.fields heap.registers) task.script
 
 pub record IsLow (ticks : ℕ) (heap : HeapKeys) (task : Low) : Type 0 where
   pub name : is_name task.name ≡ true
   pub arrivals : AreArrivals ticks 1 task.arrivals
-  pub script : IsScript task.script
+  pub script : IsScript (limits_of heap.fields heap.registers) task.script
 
 -- no name stands twice
 abbrev pub AreDistinct : List (List ℕ) → Type 0

@@ -15,8 +15,8 @@ mod tasks;
 
 pub use arrivals::{Arrivals, Ticks};
 pub use error::{Key, SheetError};
-pub use laws::text_read_again;
 pub use hk_words::Memory;
+pub use laws::text_read_again;
 pub use printing::text;
 pub use reader::read;
 pub use sheet::{

@@ -5,6 +5,7 @@ ghost use Rattle.std.specs.List.{AllByRecursion};
 ghost use Rattle.toml.specs.Data.{string, array};
 ghost use Rattle.toml.specs.View.{view, items_of, table_view};
 ghost use Rattle.hk_script.specs.Blocks.{IsScript};
+ghost use Rattle.hk_script.specs.Limits.{widest};
 ghost use Rattle.hk_script.specs.Printing.{text_of};
 ghost use Rattle.hk_sheet.specs.Answers.{IsRead};
 ghost use Rattle.hk_sheet.specs.Faults.{is_name};
@@ -16,7 +17,6 @@ use hk_script::Script;
 use hk_words::{MAX_FIELDS, Memory};
 use std::alloc::{AllocError, Global};
 use toml::{Table, Value};
-
 
 /// A number as a value.
 fn number_value(number: u64) -> Value
@@ -111,7 +111,7 @@ fn heap_table(alloc: Global, heap: &HeapKeys) -> Result<Table, AllocError>
 
 /// Puts the text of a script into the table of its task.
 fn put_script(alloc: Global, table: &mut Table, script: &Script) -> Result<(), AllocError>
-    requires { IsScript script.now }
+    requires { IsScript widest script.now }
     ensures { OnOk result (table_view table.new ≡ with_entry (codes "script") (string (text_of script.now)) (table_view table.old)) }
 {
     let text = hk_script::print(alloc, script)?;
@@ -193,7 +193,12 @@ fn document(alloc: Global, sheet: &Sheet) -> Result<Table, AllocError>
     let high = highs_value(alloc, &sheet.high.items)?;
     let low = lows_value(alloc, &sheet.low.items)?;
     let mut table = Table::new(alloc);
-    put(alloc, &mut table, "version", number_value(version(&sheet.heap)))?;
+    put(
+        alloc,
+        &mut table,
+        "version",
+        number_value(version(&sheet.heap)),
+    )?;
     put(alloc, &mut table, "ticks", number_value(sheet.ticks))?;
     put(alloc, &mut table, "heap", Value::Table(heap))?;
     put(alloc, &mut table, "high", high)?;

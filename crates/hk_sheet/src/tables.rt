@@ -95,7 +95,10 @@ fn heap_rules(alloc: Global, second: bool) -> Result<Vec<Rule>, AllocError>
     ];
     let mut rules = Vec::from_slice(alloc, &own)?;
     if second {
-        rules.push(needs("registers", Kind::Number(MIN_REGISTERS.into(), MAX_REGISTERS.into())))?;
+        rules.push(needs(
+            "registers",
+            Kind::Number(MIN_REGISTERS.into(), MAX_REGISTERS.into()),
+        ))?;
     }
     Ok(rules)
 }

@@ -2,6 +2,7 @@
 ghost use Rattle.std.specs.Prelude.{◌≡◌, [], ◌++◌, map, codes, IfOk};
 ghost use Rattle.std.specs.List.{list_all};
 ghost use Rattle.toml.specs.View.{table_view};
+ghost use Rattle.hk_script.specs.Limits.{AreLimits, limits_of};
 ghost use Rattle.hk_sheet.specs.Rules.{number_at};
 ghost use Rattle.hk_sheet.specs.declared.arrivals.Arrivals.TheVariants.{Every};
 ghost use Rattle.hk_sheet.specs.Reading.{text_at, arrivals_in, timing_in, script_in, high_in, low_in};
@@ -13,7 +14,7 @@ use crate::arrivals::{Arrivals, Ticks};
 use crate::keys::{has, number_at, numbers_at, text_at};
 use crate::sheet::{HeapKeys, High, Highs, Low, Lows, MAX_NAME, Name};
 use hk_rta::Timing;
-use hk_script::{Script, ScriptError, parse};
+use hk_script::{Script, ScriptError, parse_in};
 use std::alloc::{AllocError, Global};
 use std::collections::BTreeSet;
 use toml::Table;
@@ -189,10 +190,11 @@ pub(crate) fn check_low_arrivals(alloc: Global, tasks: &[&Table]) -> Result<(), 
 /// The script of a task.
 #[tactic(auto, unfolding(crate::specs::Reading::script_in, crate::specs::Faults::fault_of_script))]
 fn script_in(alloc: Global, heap: &HeapKeys, task: &Table) -> Result<Script, SheetError>
+    requires { AreLimits (limits_of heap.now.fields heap.now.registers) }
     ensures { Gives (fault_of_script heap.now (table_view task.now)) (script_in heap.now (table_view task.now)) result }
 {
-    let _heap = heap;
-    match parse(alloc, text_at(task, "script").as_bytes()) {
+    let text = text_at(task, "script");
+    match parse_in(alloc, text.as_bytes(), heap.fields, heap.registers) {
         Ok(script) => Ok(script),
         Err(ScriptError::Memory) => Err(SheetError::Memory),
         Err(error) => Err(SheetError::Script(name_in(alloc, task)?, error)),
@@ -215,6 +217,7 @@ fn timing_in(task: &Table) -> Timing
 /// A high task.
 #[tactic(auto, unfolding(crate::specs::Reading::high_in))]
 fn high_in(alloc: Global, heap: &HeapKeys, task: &Table) -> Result<High, SheetError>
+    requires { AreLimits (limits_of heap.now.fields heap.now.registers) }
     ensures { Gives (fault_of_script heap.now (table_view task.now)) (high_in heap.now (table_view task.now)) result }
 {
     Ok(High {
@@ -230,6 +233,7 @@ fn high_in(alloc: Global, heap: &HeapKeys, task: &Table) -> Result<High, SheetEr
 /// A low task.
 #[tactic(auto, unfolding(crate::specs::Reading::low_in))]
 fn low_in(alloc: Global, heap: &HeapKeys, task: &Table) -> Result<Low, SheetError>
+    requires { AreLimits (limits_of heap.now.fields heap.now.registers) }
     ensures { Gives (fault_of_script heap.now (table_view task.now)) (low_in heap.now (table_view task.now)) result }
 {
     Ok(Low {
@@ -240,7 +244,12 @@ fn low_in(alloc: Global, heap: &HeapKeys, task: &Table) -> Result<Low, SheetErro
 }
 
 /// The high tasks.
-pub(crate) fn highs_in(alloc: Global, heap: &HeapKeys, tasks: &[&Table]) -> Result<Highs, SheetError>
+pub(crate) fn highs_in(
+    alloc: Global,
+    heap: &HeapKeys,
+    tasks: &[&Table],
+) -> Result<Highs, SheetError>
+    requires { AreLimits (limits_of heap.now.fields heap.now.registers) }
     ensures { Gives (first_of (map (fault_of_script heap.now) (seen tasks.now))) (map (high_in heap.now) (seen tasks.now)) result }
 {
     let mut items = Vec::new(alloc);
@@ -252,6 +261,7 @@ pub(crate) fn highs_in(alloc: Global, heap: &HeapKeys, tasks: &[&Table]) -> Resu
 
 /// The low tasks.
 pub(crate) fn lows_in(alloc: Global, heap: &HeapKeys, tasks: &[&Table]) -> Result<Lows, SheetError>
+    requires { AreLimits (limits_of heap.now.fields heap.now.registers) }
     ensures { Gives (first_of (map (fault_of_script heap.now) (seen tasks.now))) (map (low_in heap.now) (seen tasks.now)) result }
 {
     let mut items = Vec::new(alloc);

@@ -72,7 +72,10 @@ const KEYS: &[Case] = &[
         wanted: "range high[0].jitter",
     },
     Case {
-        edits: &[("words = 7", "words = 7\nlag = -1"), ("first = 6", "first = -1")],
+        edits: &[
+            ("words = 7", "words = 7\nlag = -1"),
+            ("first = 6", "first = -1"),
+        ],
         wanted: "range high[0].lag",
     },
     Case {
@@ -152,6 +155,9 @@ fn ready_at_the_ends_of_numbers(rt: HostRuntime) -> Result<(), Fail> {
     assert_eq!(rt; [past.ready(0), past.ready(1)], [Some(u64::MAX), None]);
     // The greatest jitter never goes round before the greatest number.
     let wide = task(alloc, 0, 0, u64::MAX, u64::MAX)?;
-    assert_eq!(rt; [wide.ready(1), wide.ready(2)], [Some(u64::MAX), Some(u64::MAX - 1)]);
+    assert_eq!(rt;
+        [wide.ready(1), wide.ready(2)],
+        [Some(u64::MAX), Some(u64::MAX - 1)]
+    );
     Ok(())
 }

@@ -1,6 +1,7 @@
 //! Sheets that are built, printed and looked at as TOML documents.
 
 ghost use Rattle.std.specs.Prelude.{◌≡◌, codes, IfOk};
+ghost use Rattle.hk_script.specs.Limits.{AreLimits, limits_of};
 ghost use Rattle.hk_sheet.specs.Valid.{IsHigh, IsLow, IsSheet};
 
 use crate::{Arrivals, HeapKeys, High, Highs, Low, Lows, Name, Sheet, Ticks, read, text};
@@ -43,6 +44,7 @@ fn name(alloc: Global, text: &str) -> Result<Name, AllocError>
 
 /// A periodic high task.
 fn periodic(alloc: Global, heap: HeapKeys) -> Result<High, Fail>
+    requires { AreLimits (limits_of heap.fields heap.registers) }
     ensures { IfOk result (λ task. IsHigh 40 heap task × (task.name ≡ codes "pump")) }
 {
     Ok(High {
@@ -56,12 +58,18 @@ fn periodic(alloc: Global, heap: HeapKeys) -> Result<High, Fail>
         words: 7,
         lag: 5,
         arrivals: Arrivals::Every { first: 3, step: 12 },
-        script: hk_script::parse(alloc, b"work 1\n  out   v0 # a comment\n")?,
+        script: hk_script::parse_in(
+            alloc,
+            b"work 1\n  out   v0 # a comment\n",
+            heap.fields,
+            heap.registers,
+        )?,
     })
 }
 
 /// A low task with two arrivals.
 fn listed(alloc: Global, heap: HeapKeys) -> Result<Low, Fail>
+    requires { AreLimits (limits_of heap.fields heap.registers) }
     ensures { IfOk result (λ task. IsLow 40 heap task × (task.name ≡ codes "log_2")) }
 {
     Ok(Low {
@@ -69,7 +77,7 @@ fn listed(alloc: Global, heap: HeapKeys) -> Result<Low, Fail>
         arrivals: Arrivals::List(Ticks {
             items: Vec::from_slice(alloc, &[0, 39])?,
         }),
-        script: hk_script::parse(alloc, b"set v1 5\nwork 2")?,
+        script: hk_script::parse_in(alloc, b"set v1 5\nwork 2", heap.fields, heap.registers)?,
     })
 }
 

@@ -50,10 +50,7 @@ const VERSIONS: &[Case] = &[
         wanted: "missing heap.registers",
     },
     Case {
-        edits: &[
-            ("version = 1", "version = 2"),
-            ("board = [2, 3]", "x = 1"),
-        ],
+        edits: &[("version = 1", "version = 2"), ("board = [2, 3]", "x = 1")],
         wanted: "unknown heap.x",
     },
     Case {

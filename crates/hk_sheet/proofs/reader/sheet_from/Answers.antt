@@ -6,11 +6,18 @@ use Rattle.hk_sheet.specs.Reading.{heap_of}
 use Rattle.hk_sheet.specs.Faults.{fault_of_geometry}
 use Rattle.hk_sheet.proofs.FaultOrder.{skip, stop}
 use Rattle.hk_sheet.proofs.Stages.{staged, keys_by_table, sheet_read}
+use Rattle.hk_sheet.proofs.Plain.{limits_are}
 use Rattle.hk_sheet.proofs.Validity.{heap_right}
 use Rattle.hk_sheet.proofs.reader.sheet_from.Goals as goal
 
 pub heap_in-keys-requires : goal.heap_in-keys-requires
 heap_in-keys-requires c = heap_right c.is_second-second.result (table_view c.args.heap.now) c.in_ok-check_heap.ensures
+
+pub highs_in-requires : goal.highs_in-requires
+highs_in-requires c = rw c.heap_in-keys.ensures (limits_are _ _ (heap_right c.is_second-second.result (table_view c.args.heap.now) c.in_ok-check_heap.ensures).breadth)
+
+pub lows_in-requires : goal.lows_in-requires
+lows_in-requires c = rw c.heap_in-keys.ensures (limits_are _ _ (heap_right c.is_second-second.result (table_view c.args.heap.now) c.in_ok-check_heap.ensures).breadth)
 
 pub check_geometry-requires : goal.check_geometry-requires
 check_geometry-requires c = rw c.heap_in-keys.ensures (heap_right c.is_second-second.result (table_view c.args.heap.now) c.in_ok-check_heap.ensures)

@@ -1,0 +1,5 @@
+pub mod Demands
+pub mod Fewer
+pub mod Sets
+pub mod Blocked
+pub mod Placed

@@ -1,0 +1,6 @@
+use Rattle.std.proofs.Common.{arith}
+use Rattle.std.proofs.lemmas.Slice.{put_mid-rotated}
+use Rattle.hk_assign.proofs.placing.to_the_end.Goals as goal
+
+pub returns : goal.returns
+returns c = put_mid-rotated c.args.place _ c.args.free.now c.rotate_left.new.self 0 c.requires (omega arith) c.rotate_left.ensures.after

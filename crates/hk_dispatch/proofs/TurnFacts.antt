@@ -1,14 +1,16 @@
 -- Who gets a tick, and what that says: of each rule that applies, that those before it don't.
-use Rattle.std.proofs.Common.{◌≡◌, ℕ, zero, suc, ◌+◌, ◌<◌, ◌≤◌, ◌⊎◌, Bool, true, false, List, [], ◌∷◌, length, refl, sym, ◌∙◌, ap, subst, arith, inl, inr, Option, Some, None, get_or}
+use Rattle.std.proofs.Common.{◌≡◌, ℕ, zero, suc, ◌+◌, ◌<◌, ◌≤◌, ◌⊎◌, Bool, true, false, List, [], ◌∷◌, ◌++◌, length, refl, sym, ◌∙◌, ap, subst, arith, inl, inr, Option, Some, None, get_or}
+use Rattle.std.proofs.lemmas.List.{get_or_append_left, get_or-append-add, length-append}
 use Rattle.std.proofs.lemmas.Bool.{cases_Bool, cases_lt, lt-ltb, le-ltb, ltb-true}
 use Rattle.std.specs.Prelude.{nat_lt, if◌then◌else◌}
 use Rattle.hk_plan.specs.declared.Ready.{Ready}
-use Rattle.hk_plan.specs.AloneBy.{rows_below, chosen_task, no_ready}
+use Rattle.hk_plan.specs.AloneBy.{rows_below, chosen_task, no_ready, ready_at}
 use Rattle.hk_plan.proofs.ReadyRows.{row_from, row_to, chosen_law}
 use Rattle.hk_sheet.specs.declared.sheet.Sheet.{Sheet}
 use Rattle.hk_dispatch.specs.Tasks.{task_at, high_at}
 use Rattle.hk_dispatch.specs.Moment.{Moment, course_at}
-use Rattle.hk_dispatch.specs.Turns.{Turn, to_task, to_collector, to_nobody, is_ready, row_of, ready_row, ready_rows, in_mid_course, first_low, or_else, turn, IsChoice}
+use Rattle.hk_dispatch.specs.Rows.{TasksRise, IsChoice}
+use Rattle.hk_dispatch.specs.Turns.{Turn, to_task, to_collector, to_nobody, is_ready, row_of, ready_row, ready_rows, in_mid_course, first_low, or_else, turn}
 use Rattle.hk_dispatch.proofs.FirstLow.{IsLowSeat, FirstLowIs, NoLow, first_low_law}
 
 -- the task of a seat has a ready job
@@ -57,6 +59,32 @@ pub data TurnIs (choice : List Ready → ℕ) (sheet : Sheet) (m : Moment) (tick
   by_low : (seat : ℕ) → ToLow sheet m tick seat → TurnIs choice sheet m tick (to_task seat)
   by_nobody : ToNobody sheet m tick → TurnIs choice sheet m tick to_nobody
 
+-- the tasks of the rows rise
+module _ (a : ℕ → List Ready) where
+  rows_rise : (n : ℕ) → ((i : ℕ) → i < n → length (a i) ≤ 1) → ((i k : ℕ) → i < n → k < length (a i) → (ready_at (a i) k).task ≡ i) → TasksRise (rows_below a n)
+  unfolding rows_below
+  rows_rise zero few own i j lt within = absurd (omega arith)
+  rows_rise (suc n) few own i j lt within = elim (cases_lt j (length (rows_below a n))) [
+    | inl before ↦
+        let first = ap (λ (x : Ready). x.task) (get_or_append_left (rows_below a n) (a n) no_ready i (omega (arith, lt, before))) in
+        let second = ap (λ (x : Ready). x.task) (get_or_append_left (rows_below a n) (a n) no_ready j before) in
+        let less = rows_rise n (λ k b. few k (omega (arith, b))) (λ k q b c. own k q (omega (arith, b)) c) i j lt before in
+        omega (arith, first, second, less)
+    | inr after ↦
+        let all = length-append (rows_below a n) (a n) in
+        let one = few n (omega arith) in
+        let at : j ≡ length (rows_below a n) + 0 = omega (arith, after, all, one, within) in
+        let some : 0 < length (a n) = omega (arith, after, all, within) in
+        let second : (ready_at (rows_below a n ++ a n) j).task ≡ n =
+            ap (λ k. (ready_at (rows_below a n ++ a n) k).task) at ∙ ap (λ (x : Ready). x.task) (get_or-append-add (rows_below a n) (a n) 0 no_ready) ∙ own n 0 (omega arith) some in
+        let inside : i < length (rows_below a n) = omega (arith, lt, at) in
+        let first = ap (λ (x : Ready). x.task) (get_or_append_left (rows_below a n) (a n) no_ready i inside) in
+        let r = row_from a n i inside in
+        let known = r.known in
+        let its : (ready_at (rows_below a n) i).task ≡ r.task = ap (λ (x : Ready). x.task) r.row ∙ own r.task r.at (omega (arith, known)) r.listed in
+        omega (arith, first, second, its, known)
+  ]
+
 module _ (choice : List Ready → ℕ) (sheet : Sheet) (m : Moment) (tick : ℕ) (choice_is : IsChoice choice) where
   -- a row is that of a ready task
   row_ready : (seat k : ℕ) → k < length (ready_row sheet m tick seat) → (get_or (ready_row sheet m tick seat) k no_ready ≡ row_of seat (high_at sheet seat) (course_at m seat)) × (ready_now sheet m tick seat ≡ true)
@@ -67,6 +95,12 @@ module _ (choice : List Ready → ℕ) (sheet : Sheet) (m : Moment) (tick : ℕ)
     where
       first : (k : ℕ) → k ≡ 0 → get_or (row_of seat (high_at sheet seat) (course_at m seat) ∷ []) k no_ready ≡ row_of seat (high_at sheet seat) (course_at m seat)
       first k e = rw e refl
+
+  one_row : (seat : ℕ) → length (ready_row sheet m tick seat) ≤ 1
+  one_row seat = elim (cases_Bool (ready_now sheet m tick seat)) [
+    | inl yes' ↦ let e : length (ready_row sheet m tick seat) ≡ 1 = rw yes' refl in omega (arith, e)
+    | inr no' ↦ let e : length (ready_row sheet m tick seat) ≡ 0 = rw no' refl in omega (arith, e)
+  ]
 
   -- the rows are those of the ready high tasks
   no_row : length (ready_rows sheet m tick) ≡ 0 → NoHighReady sheet m tick
@@ -84,7 +118,8 @@ module _ (choice : List Ready → ℕ) (sheet : Sheet) (m : Moment) (tick : ℕ)
       → (seat : ℕ) × ToHigh choice sheet m tick seat
   unfolding ready_rows
   to_high some is =
-      let r = row_from (ready_row sheet m tick) (length sheet.high) (choice (ready_rows sheet m tick)) (choice_is (ready_rows sheet m tick) some) in
+      let rise = rows_rise (ready_row sheet m tick) (length sheet.high) (λ i b. one_row i) (λ i k b lt. ap (λ (x : Ready). x.task) (row_ready i k lt).0) in
+      let r = row_from (ready_row sheet m tick) (length sheet.high) (choice (ready_rows sheet m tick)) (choice_is (ready_rows sheet m tick) some rise) in
       let own = row_ready r.task r.at r.listed in
       let task_is : (get_or (ready_rows sheet m tick) (choice (ready_rows sheet m tick)) no_ready).task ≡ r.task = ap (λ (x : Ready). x.task) (r.row ∙ own.0) in
       (r.task, record { high = r.known; ready = own.1; chosen = is ∙ ap (λ k. Some k) task_is })

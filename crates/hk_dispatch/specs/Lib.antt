@@ -1,3 +1,4 @@
+pub mod Rows
 pub mod Tasks
 pub mod Moment
 pub mod Turns

@@ -8,7 +8,8 @@ use Rattle.hk_sheet.specs.Faults.{sizes_of}
 use Rattle.hk_admit.specs.Facts.{IsChecked}
 use Rattle.hk_plan.specs.declared.Ready.{Ready}
 use Rattle.hk_dispatch.specs.Moment.{Moment, opening, course_at}
-use Rattle.hk_dispatch.specs.Turns.{Turn, IsChoice, turn}
+use Rattle.hk_dispatch.specs.Rows.{IsChoice}
+use Rattle.hk_dispatch.specs.Turns.{Turn, turn}
 use Rattle.hk_dispatch.specs.Ticks.{after_turn}
 
 -- a tick of a session; it stands still once the collector found more words reserved than the space has for evacuation

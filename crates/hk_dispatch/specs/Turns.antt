@@ -1,5 +1,5 @@
 -- Who gets a tick.
-use Rattle.std.specs.Prelude.{ℕ, ◌+◌, ◌<◌, Bool, true, false, ◌&&◌, nat_lt, nat_le, List, [], ◌∷◌, find, length, Option, Some, None, if◌then◌else◌}
+use Rattle.std.specs.Prelude.{ℕ, ◌+◌, Bool, true, false, ◌&&◌, nat_lt, nat_le, List, [], ◌∷◌, find, length, Option, Some, None, if◌then◌else◌}
 use Rattle.std.specs.List.{range_with_len}
 use Rattle.hk_script.specs.declared.walk.Need.{Need}
 use Rattle.hk_script.specs.declared.walk.Need.TheVariants as need
@@ -79,7 +79,3 @@ turn choice sheet m tick =
     (or_else (first_low sheet (in_mid_course sheet m))
     (if nat_lt 0 m.debt then to_collector
     else or_else (first_low sheet (λ seat. is_ready (task_at sheet seat) (course_at m seat) tick)) to_nobody))
-
--- a choice is one of the rows, where there is a row
-abbrev pub IsChoice : (List Ready → ℕ) → Type 0
-IsChoice choice = (rows : List Ready) → 0 < length rows → choice rows < length rows

@@ -8,13 +8,15 @@ use hk_plan::Ready;
 /// It is told one row for each high task that has a ready job, in the order of the sheet. It takes no memory.
 pub trait Pick: Drop {
     ghost use Rattle.hk_plan.specs.declared.Ready.{Ready};
+    ghost use Rattle.hk_dispatch.specs.Rows.{TasksRise};
 
     /// The place of the row that is chosen: a function of the choice and of the rows.
     ghost choice: { Self → List Ready → ℕ };
 
-    /// Chooses one of the rows. There is at least one.
+    /// Chooses one of the rows. There is at least one, and their tasks rise.
     fn pick(&self, ready: &[Ready]) -> usize
-        requires { 0 < length ready.now }
+        requires some { 0 < length ready.now }
+        requires rising { TasksRise ready.now }
         ensures chosen { result ≡ choice self.now ready.now }
         ensures within { result < length ready.now };
 }

@@ -213,7 +213,10 @@ impl<P: Pick> SessionBy<P> {
     pub fn idle(&self) -> u64 {
         self.idle
     }
+}
 
+#[cfg(test)]
+impl<P: Pick> SessionBy<P> {
     /// The events that the collector owes.
     pub fn debt(&self) -> u64 {
         self.debt

@@ -85,17 +85,17 @@ module _ (fields registers : ℕ) (task : Task) (script : IsScript (limits_of fi
         let g = goes_on_fitting task.script course.walk r script h.fits in
         by_test (λ (c : Course). CourseKept task c (suc t)) (is_over task walk) (next_job task course t) _ (λ e. over)
         (λ e.
-          let not_end : walk.place ≢ length task.script = eqb-false walk.place (length task.script) e in
-          let lt : walk.place < length task.script = let le = g.0.within in omega (arith, le, not_end) in
-          record {
-            fits = g.0;
-            within = lt;
-            turns = g.1 ∙ h.turns;
-            spent_few = wants_ticks fields registers task.script walk script g.0 lt;
-            spent_had = omega arith;
-            began = λ some. by_some (task.ready course.job) t ready;
-            jobs_few = let few = h.jobs_few in omega (arith, few);
-          })
+        let not_end : walk.place ≢ length task.script = eqb-false walk.place (length task.script) e in
+        let lt : walk.place < length task.script = let le = g.0.within in omega (arith, le, not_end) in
+        record {
+          fits = g.0;
+          within = lt;
+          turns = g.1 ∙ h.turns;
+          spent_few = wants_ticks fields registers task.script walk script g.0 lt;
+          spent_had = omega arith;
+          began = λ some. by_some (task.ready course.job) t ready;
+          jobs_few = let few = h.jobs_few in omega (arith, few);
+        })
 
     -- THE TICKS AND THE WORDS of a job, where those of its script are at most the declared ones
     module _ (cost most : ℕ) (costs : greatest_ticks task.script ≤ cost) (sizes : greatest_words task.script ≤ most) (d : KeepsDeclared task.script course cost most) where

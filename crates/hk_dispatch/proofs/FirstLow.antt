@@ -87,14 +87,16 @@ module _ (p : ℕ → Bool) (h l : ℕ) where
   first_of : FoundAt p (range_with_len h l) → (x : ℕ) × FirstIn x
   first_of f =
       let w = short f.place f.within in
-      let e = at f.place w in
-      (h + f.place, record {
-        is = f.is ∙ ap (λ k. Some k) e;
-        from = omega arith;
-        below = omega (arith, w);
-        passes = ap p (sym e) ∙ f.passes;
-        before = λ other from lt. test_at other from (omega (arith, lt, w)) ∙ f.before (other - h) (omega (arith, from, lt));
-      })
+      let e = at f.place w in (
+        h + f.place,
+        record {
+          is = f.is ∙ ap (λ k. Some k) e;
+          from = omega arith;
+          below = omega (arith, w);
+          passes = ap p (sym e) ∙ f.passes;
+          before = λ other from lt. test_at other from (omega (arith, lt, w)) ∙ f.before (other - h) (omega (arith, from, lt));
+        },
+      )
 
   none_of : NoneFound p (range_with_len h l) → NoneIn
   none_of n = record {

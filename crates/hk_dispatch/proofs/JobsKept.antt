@@ -98,8 +98,11 @@ module _ (sheet : Sheet) (readable : IsSheet sheet) (within : KeepsToDeclared sh
   own_below = subst (λ k. seat < k) (sym seats) below
 
   operation : (c : Call) → need_at sheet m seat ≡ Some (need.Heap c) → (x : Flight) × OpInStep x c (course_at m seat).spent (leaves_on (core_of m) seat c (course_at m seat).spent)
-  operation c is = (_, (op_keeps m.trace seat c sized own_below (may c is) (course_at m seat).spent
-      (subst (λ (o : Option Need). SeatInStep (flight_of (core_of m).flights seat) o (course_at m seat).spent) is (h.in_step seat below))).own)
+  operation c is = (
+    _,
+    (op_keeps m.trace seat c sized own_below (may c is) (course_at m seat).spent
+        (subst (λ (o : Option Need). SeatInStep (flight_of (core_of m).flights seat) o (course_at m seat).spent) is (h.in_step seat below))).own,
+  )
 
   stays : left_now sheet m t seat ≡ left.Stays → (course_at m seat).spent + 1 < taken_by need_ticks (need_at sheet m seat)
   stays e =

@@ -76,7 +76,7 @@ module _ (a : ℕ → List Ready) where
         let at : j ≡ length (rows_below a n) + 0 = omega (arith, after, all, one, within) in
         let some : 0 < length (a n) = omega (arith, after, all, within) in
         let second : (ready_at (rows_below a n ++ a n) j).task ≡ n =
-            ap (λ k. (ready_at (rows_below a n ++ a n) k).task) at ∙ ap (λ (x : Ready). x.task) (get_or-append-add (rows_below a n) (a n) 0 no_ready) ∙ own n 0 (omega arith) some in
+        ap (λ k. (ready_at (rows_below a n ++ a n) k).task) at ∙ ap (λ (x : Ready). x.task) (get_or-append-add (rows_below a n) (a n) 0 no_ready) ∙ own n 0 (omega arith) some in
         let inside : i < length (rows_below a n) = omega (arith, lt, at) in
         let first = ap (λ (x : Ready). x.task) (get_or_append_left (rows_below a n) (a n) no_ready i inside) in
         let r = row_from a n i inside in
@@ -110,7 +110,7 @@ module _ (choice : List Ready → ℕ) (sheet : Sheet) (m : Moment) (tick : ℕ)
         let one : length (ready_row sheet m tick seat) ≡ 1 = rw yes' refl in
         let r = row_to (ready_row sheet m tick) (length sheet.high) seat 0 high (omega (arith, one)) in
         let w = r.within in omega (arith, none, w)
-      )
+        )
     | inr no' ↦ no'
   ]
 

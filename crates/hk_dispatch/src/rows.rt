@@ -1,7 +1,9 @@
 //! Sessions worked out by hand: the report of each, and who got each tick. At every tick the debt, the useful events of the
 //! cycle and the words used are looked at against their bounds.
-use crate::{Chore, End, Session, Tick, Who};
-use hk_admit::admit;
+ghost use Rattle.std.specs.Prelude.{length, ◌-◌};
+
+use crate::{Chore, End, Pick, Ready, Session, SessionBy, Tick, Who};
+use hk_admit::{admit, check_heap};
 use hk_script::largest;
 use hk_sheet::{Name, Sheet, read};
 use std::alloc::{AllocError, Global};
@@ -61,9 +63,9 @@ fn plain(who: Who) -> Who {
 }
 
 impl Written {
-    fn new(alloc: Global) -> Written {
+    fn new(alloc: Global, report: String) -> Written {
         Written {
-            report: String::new(alloc),
+            report,
             ticks: String::new(alloc),
             stretch: None,
             useful: 0,
@@ -71,14 +73,23 @@ impl Written {
     }
 
     /// Ends the present stretch before a tick, where another has the tick.
-    fn end_stretch(&mut self, alloc: Global, sheet: &Sheet, who: Option<Who>, tick: u64) -> Result<(), AllocError> {
+    fn end_stretch(
+        &mut self,
+        alloc: Global,
+        sheet: &Sheet,
+        who: Option<Who>,
+        tick: u64,
+    ) -> Result<(), AllocError> {
         if let Some((last, first)) = self.stretch {
             if who == Some(last) {
                 return Ok(());
             }
             let name = name_of(sheet, last);
             let end = tick.saturating_sub(1);
-            add(&mut self.ticks, format!(in alloc; "{name} {first} to {end}"))?;
+            add(
+                &mut self.ticks,
+                format!(in alloc; "{name} {first} to {end}"),
+            )?;
         }
         self.stretch = who.map(|who| (who, tick));
         Ok(())
@@ -101,84 +112,146 @@ impl Written {
     }
 
     /// Writes a tick that was given.
-    fn ran(&mut self, alloc: Global, sheet: &Sheet, tick: u64, who: Who, out: Option<u64>, end: Option<End>) -> Result<(), AllocError> {
+    fn ran(
+        &mut self,
+        alloc: Global,
+        sheet: &Sheet,
+        tick: u64,
+        who: Who,
+        out: Option<u64>,
+        end: Option<End>,
+    ) -> Result<(), AllocError> {
         self.end_stretch(alloc, sheet, Some(plain(who)), tick)?;
         if let Who::Gc(chore) = who {
             self.chore(alloc, chore, tick)?;
         }
         let name = name_of(sheet, who);
         if let Some(value) = out {
-            add(&mut self.report, format!(in alloc; "out {tick} {name} {value}"))?;
+            add(
+                &mut self.report,
+                format!(in alloc; "out {tick} {name} {value}"),
+            )?;
         }
-        if let Some(End { job, ticks: _, fault: Some(fault) }) = end {
+        if let Some(
+            End {
+                job,
+                ticks: _,
+                fault: Some(fault),
+            },
+        ) = end
+        {
             let statement = fault.statement;
             let why = if fault.nil { "nil" } else { "field" };
-            add(&mut self.report, format!(in alloc; "fault {tick} {name} {job} {statement} {why}"))?;
+            add(
+                &mut self.report,
+                format!(in alloc; "fault {tick} {name} {job} {statement} {why}"),
+            )?;
         }
         Ok(())
     }
 }
 
 /// The lines of the analysis.
-fn analysis(alloc: Global, session: &Session, text: &mut String) -> Result<(), AllocError> {
+fn analysis(alloc: Global, session: &Session) -> Result<String, AllocError> {
+    let mut text = String::new(alloc);
     let checked = session.by.checked();
     let (work, attempt, busy, debt) = (checked.work, checked.attempt, checked.busy, checked.debt);
-    add(text, format!(in alloc; "heap work {work} attempt {attempt} busy {busy} debt {debt}"))?;
-    for (task, response) in checked.sheet.high.items.iter().zip(session.responses.items.iter()) {
+    add(
+        &mut text,
+        format!(in alloc; "heap work {work} attempt {attempt} busy {busy} debt {debt}"),
+    )?;
+    for (task, response) in checked
+        .sheet
+        .high
+        .items
+        .iter()
+        .zip(session.responses.items.iter())
+    {
         let name = name(&task.name);
         let deadline = task.timing.deadline;
-        add(text, format!(in alloc; "high {name} response {response} deadline {deadline}"))?;
+        add(
+            &mut text,
+            format!(in alloc; "high {name} response {response} deadline {deadline}"),
+        )?;
     }
     for task in &checked.sheet.low.items {
         let name = name(&task.name);
-        add(text, format!(in alloc; "low {name}"))?;
+        add(&mut text, format!(in alloc; "low {name}"))?;
     }
-    Ok(())
+    Ok(text)
 }
 
 /// The last lines.
-fn closing(alloc: Global, session: &Session, text: &mut String) -> Result<(), AllocError> {
-    let sheet = &session.by.checked().sheet;
+fn closing<P: Pick>(
+    alloc: Global,
+    session: &SessionBy<P>,
+    text: &mut String,
+) -> Result<(), AllocError> {
+    let sheet = &session.checked().sheet;
     let high = sheet.high.items.len();
     for place in 0..high + sheet.low.items.len() {
         let seat = place as u8;
-        let who = if place < high { Who::Hi(seat) } else { Who::Lo(seat - high as u8) };
+        let who = if place < high {
+            Who::Hi(seat)
+        } else {
+            Who::Lo(seat - high as u8)
+        };
         let name = name_of(sheet, who);
-        let (jobs, latest) = (session.by.ended(seat), session.by.latest(seat));
-        add(text, format!(in alloc; "done {name} jobs {jobs} latest {latest}"))?;
+        let (jobs, latest) = (session.ended(seat), session.latest(seat));
+        add(
+            text,
+            format!(in alloc; "done {name} jobs {jobs} latest {latest}"),
+        )?;
     }
-    let (flips, events, idle) = (session.by.flips(), session.by.events(), session.by.idle());
-    add(text, format!(in alloc; "cycles {flips} collector {events} idle {idle}"))?;
+    let (flips, events, idle) = (session.flips(), session.events(), session.idle());
+    add(
+        text,
+        format!(in alloc; "cycles {flips} collector {events} idle {idle}"),
+    )?;
     let ticks = sheet.ticks;
     add(text, format!(in alloc; "end {ticks}"))
 }
 
 /// The size of the largest object that a low task makes.
 fn largest_low(sheet: &Sheet) -> u32 {
-    sheet.low.items.iter().map(|task| largest(&task.script)).fold(0, |most, size| most.max(size))
+    sheet
+        .low
+        .items
+        .iter()
+        .map(|task| largest(&task.script))
+        .fold(0, |most, size| most.max(size))
 }
 
 /// Looks at the numbers of a session against their bounds.
-fn look(rt: &impl Abort, session: &Session, useful: u64, tick: u64) {
-    let by = &session.by;
+fn look<P: Pick>(rt: &impl Abort, by: &SessionBy<P>, useful: u64, tick: u64) {
     let heap = by.checked().sheet.heap;
     let used = u64::from(by.used());
     let (debt, most) = (by.debt(), by.checked().debt);
     assert!(rt; debt <= most, "tick {tick}: debt {debt} above {most}");
     assert!(rt; useful <= by.checked().work, "tick {tick}: useful {useful}");
-    assert!(rt; heap.rate * used <= useful + debt, "tick {tick}: used {used} useful {useful} debt {debt}");
+    assert!(rt;
+        heap.rate * used <= useful + debt,
+        "tick {tick}: used {used} useful {useful} debt {debt}"
+    );
     let room = heap.alloc - largest_low(&by.checked().sheet);
-    assert!(rt; used <= u64::from(room), "tick {tick}: used {used} above {room}");
+    assert!(rt;
+        used <= u64::from(room),
+        "tick {tick}: used {used} above {room}"
+    );
 }
 
-/// Runs a session to its end, and one call further.
-fn run(rt: &impl Abort, alloc: Global, mut session: Session) -> Result<Written, Fail> {
-    let mut written = Written::new(alloc);
-    analysis(alloc, &session, &mut written.report)?;
-    let horizon = session.by.checked().sheet.ticks;
+/// Runs a session to its end, and one call further. What was written before stands in front.
+fn run<P: Pick>(
+    rt: &impl Abort,
+    alloc: Global,
+    session: &mut SessionBy<P>,
+    before: String,
+) -> Result<Written, Fail> {
+    let mut written = Written::new(alloc, before);
+    let horizon = session.checked().sheet.ticks;
     for tick in 0..horizon + 1 {
         let answer = session.tick();
-        let sheet = &session.by.checked().sheet;
+        let sheet = &session.checked().sheet;
         match answer {
             Tick::Ran { who, out, end } => {
                 assert!(rt; tick < horizon);
@@ -187,7 +260,10 @@ fn run(rt: &impl Abort, alloc: Global, mut session: Session) -> Result<Written, 
             Tick::LiveOver(words) => {
                 written.end_stretch(alloc, sheet, None, tick)?;
                 let live = sheet.heap.live;
-                add(&mut written.report, format!(in alloc; "live {tick} {words} above {live}"))?;
+                add(
+                    &mut written.report,
+                    format!(in alloc; "live {tick} {words} above {live}"),
+                )?;
                 assert_eq!(rt; session.tick(), Tick::LiveOver(words));
                 return Ok(written);
             }
@@ -196,22 +272,41 @@ fn run(rt: &impl Abort, alloc: Global, mut session: Session) -> Result<Written, 
                 written.end_stretch(alloc, sheet, None, tick)?;
             }
         }
-        look(rt, &session, written.useful, tick);
+        look(rt, session, written.useful, tick);
     }
-    closing(alloc, &session, &mut written.report)?;
+    closing(alloc, session, &mut written.report)?;
     assert_eq!(rt; session.tick(), Tick::Over);
     Ok(written)
 }
 
-/// Runs the session of a sheet, and compares what was written.
+/// Compares what a session wrote with a row.
+fn compare(rt: &impl Abort, written: &Written, row: &Row) {
+    assert_eq!(rt; written.report.as_str(), row.report);
+    assert_eq!(rt; written.ticks.as_str(), row.ticks);
+}
+
+/// Runs the session of an admitted sheet, and compares what was written.
 fn check(rt: &impl Abort, alloc: Global, row: &Row) -> Result<(), Fail> {
     let sheet = read(alloc, row.sheet.as_bytes())?;
     let Ok(admitted) = admit(alloc, sheet) else {
         panic!(rt; "not admitted")
     };
-    let written = run(rt, alloc, Session::open(alloc, admitted)?)?;
-    assert_eq!(rt; written.report.as_str(), row.report);
-    assert_eq!(rt; written.ticks.as_str(), row.ticks);
+    let mut session = Session::open(alloc, admitted)?;
+    let before = analysis(alloc, &session)?;
+    let written = run(rt, alloc, &mut session.by, before)?;
+    compare(rt, &written, row);
+    Ok(())
+}
+
+/// Runs the session of a sheet by a choice of its own, and compares what was written.
+fn check_by<P: Pick>(rt: &impl Abort, alloc: Global, pick: P, row: &Row) -> Result<(), Fail> {
+    let sheet = read(alloc, row.sheet.as_bytes())?;
+    let Ok(checked) = check_heap(alloc, sheet) else {
+        panic!(rt; "the heap has no room")
+    };
+    let mut session = SessionBy::open(alloc, checked, pick)?;
+    let written = run(rt, alloc, &mut session, String::new(alloc))?;
+    compare(rt, &written, row);
     Ok(())
 }
 
@@ -620,4 +715,113 @@ idle 11 to 11
 #[test]
 fn release_jitter(rt: HostRuntime) -> Result<(), Fail> {
     check(&rt, rt.alloc(), &JITTER)
+}
+
+/// A low put goes on before an earlier low task whose job has become ready meanwhile. A low `work` is no operation: the
+/// earlier task goes between its ticks.
+const TWO_LOW: Row = Row {
+    sheet: r#"version = 1
+ticks = 12
+heap = { live = 62, alloc = 512, reserve = 129, rate = 11, board = [2, 2] }
+
+[[low]]
+name = "a"
+arrivals = [1, 5]
+script = "work 1"
+
+[[low]]
+name = "b"
+arrivals = [0]
+script = """
+put r0 0 v0
+work 3
+"""
+"#,
+    report: "heap work 4213 attempt 0 busy 10 debt 0
+low a
+low b
+done a jobs 2 latest 3
+done b jobs 1 latest 8
+cycles 0 collector 0 idle 4
+end 12
+",
+    ticks: "b 0 to 2
+a 3 to 3
+b 4 to 4
+a 5 to 5
+b 6 to 7
+idle 8 to 11
+",
+};
+
+#[test]
+fn two_low_tasks(rt: HostRuntime) -> Result<(), Fail> {
+    check(&rt, rt.alloc(), &TWO_LOW)
+}
+
+/// The choice of the last row.
+#[derive(Drop)]
+struct Last;
+
+impl Pick for Last {
+    ghost choice = { λ pick rows. length rows - 1 };
+
+    fn pick(&self, ready: &[Ready]) -> usize {
+        ready.len() - 1
+    }
+}
+
+/// Three high tasks whose first jobs arrive together. The last of them goes first; the second job of `b` takes over from `a`.
+const LAST_FIRST: Row = Row {
+    sheet: r#"version = 1
+ticks = 12
+heap = { live = 62, alloc = 512, reserve = 129, rate = 12, board = [2, 2] }
+
+[[high]]
+name = "a"
+cost = 4
+period = 20
+deadline = 20
+words = 0
+arrivals = [0]
+script = "work 4"
+
+[[high]]
+name = "b"
+cost = 2
+period = 6
+deadline = 6
+words = 0
+first = 0
+every = 6
+script = "work 2"
+
+[[high]]
+name = "c"
+cost = 3
+period = 12
+deadline = 12
+words = 0
+first = 0
+every = 12
+script = "work 3"
+"#,
+    report: "done a jobs 1 latest 11
+done b jobs 2 latest 5
+done c jobs 1 latest 3
+cycles 0 collector 0 idle 1
+end 12
+",
+    ticks: "c 0 to 2
+b 3 to 4
+a 5 to 5
+b 6 to 7
+a 8 to 10
+idle 11 to 11
+",
+};
+
+#[test]
+fn last_goes_first(rt: HostRuntime) -> Result<(), Fail> {
+    check_by(&rt, rt.alloc(), Last, &LAST_FIRST)
 }

@@ -11,4 +11,5 @@ pub mod CourseFacts
 pub mod Sheets
 pub mod TaskTick
 pub mod JobsKept
+pub mod ReadyMoments
 pub mod Waiting

@@ -5,6 +5,7 @@ use Rattle.std.proofs.lemmas.List.FromFn.{length-range_with_len, get_or-range_wi
 use Rattle.std.specs.Prelude.{if◌then◌else◌}
 use Rattle.std.specs.List.{find, range_with_len}
 use Rattle.hk_sheet.specs.declared.sheet.Sheet.{Sheet}
+use Rattle.hk_dispatch.specs.Tasks.{IsLowSeat}
 use Rattle.hk_dispatch.specs.Turns.{first_low}
 
 -- an element that is found is at some place, passes the test, and none before it does
@@ -42,11 +43,6 @@ find_law p (x ∷ xs) = elim (cases_Bool (p x)) [
     later : p x ≡ false → (n : NoneFound p xs) (k : ℕ) → k < suc (length xs) → p (get_or (x ∷ xs) k 0) ≡ false
     later no' n zero lt = no'
     later no' n (suc k) lt = n.fails k (omega arith)
-
--- a seat is that of a low task
-pub record IsLowSeat (sheet : Sheet) (seat : ℕ) : Type 0 where
-  pub from : length sheet.high ≤ seat
-  pub below : seat < length sheet.high + length sheet.low
 
 pub record FirstLowIs (sheet : Sheet) (test : ℕ → Bool) (seat : ℕ) : Type 0 where
   pub is : first_low sheet test ≡ Some seat

@@ -12,4 +12,5 @@ pub mod Sheets
 pub mod TaskTick
 pub mod JobsKept
 pub mod ReadyMoments
+pub mod LowOperations
 pub mod Waiting

@@ -7,11 +7,11 @@ use Rattle.hk_plan.specs.declared.Ready.{Ready}
 use Rattle.hk_plan.specs.AloneBy.{rows_below, chosen_task, no_ready, ready_at}
 use Rattle.hk_plan.proofs.ReadyRows.{row_from, row_to, chosen_law}
 use Rattle.hk_sheet.specs.declared.sheet.Sheet.{Sheet}
-use Rattle.hk_dispatch.specs.Tasks.{task_at, high_at}
+use Rattle.hk_dispatch.specs.Tasks.{IsLowSeat, task_at, high_at}
 use Rattle.hk_dispatch.specs.Moment.{Moment, course_at}
 use Rattle.hk_dispatch.specs.Rows.{TasksRise, IsChoice}
 use Rattle.hk_dispatch.specs.Turns.{Turn, to_task, to_collector, to_nobody, is_ready, row_of, ready_row, ready_rows, in_mid_course, first_low, or_else, turn}
-use Rattle.hk_dispatch.proofs.FirstLow.{IsLowSeat, FirstLowIs, NoLow, first_low_law}
+use Rattle.hk_dispatch.proofs.FirstLow.{FirstLowIs, NoLow, first_low_law}
 
 -- the task of a seat has a ready job
 abbrev pub ready_now : Sheet → Moment → (tick seat : ℕ) → Bool

@@ -12,13 +12,13 @@ use Rattle.hk_plan.specs.declared.Ready.{Ready}
 use Rattle.hk_script.specs.declared.walk.Need.{Need}
 use Rattle.hk_script.specs.declared.walk.Need.TheVariants as need
 use Rattle.hk_sheet.specs.declared.sheet.Sheet.{Sheet}
-use Rattle.hk_dispatch.specs.Tasks.{Task, tasks_of, task_at, is_high, is_by}
+use Rattle.hk_dispatch.specs.Tasks.{IsLowSeat, Task, tasks_of, task_at, is_high, is_by}
 use Rattle.hk_dispatch.specs.Moment.{Course, Moment, core_of, course_at, need_at}
 use Rattle.hk_dispatch.specs.Rows.{IsChoice}
 use Rattle.hk_dispatch.specs.Turns.{Turn, to_task, to_collector, to_nobody, is_operation, is_ready, in_mid_course, turn}
 use Rattle.hk_dispatch.specs.InStep.{SeatInStep, aside, under_way}
 use Rattle.hk_dispatch.specs.Kept.{CourseKept}
-use Rattle.hk_dispatch.proofs.FirstLow.{IsLowSeat, FirstLowIs, NoLow}
+use Rattle.hk_dispatch.proofs.FirstLow.{FirstLowIs, NoLow}
 use Rattle.hk_dispatch.proofs.TurnFacts.{ready_now, NoHighReady, ToHigh, ToOperation, ToCollector, ToLow, ToNobody, TurnIs, by_high, by_operation, by_collector, by_low, by_nobody, turn_is}
 use Rattle.hk_dispatch.proofs.Sheets.{count_tasks}
 use Rattle.hk_dispatch.proofs.JobsKept.{JobsKept}

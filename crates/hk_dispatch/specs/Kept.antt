@@ -23,7 +23,7 @@ use Rattle.hk_script.specs.Left.{ticks_left, words_left}
 use Rattle.hk_sheet.specs.declared.sheet.High.{High}
 use Rattle.hk_sheet.specs.declared.sheet.Sheet.{Sheet}
 use Rattle.hk_admit.specs.Analysis.{largest_object, some_makes}
-use Rattle.hk_dispatch.specs.Tasks.{Task, tasks_of, task_at, high_at, is_high}
+use Rattle.hk_dispatch.specs.Tasks.{Task, IsLowSeat, tasks_of, task_at, high_at}
 use Rattle.hk_dispatch.specs.Moment.{Course, Moment, core_of, history_of, used_at, course_at, need_at}
 use Rattle.hk_dispatch.specs.Turns.{Turn, to_task, to_collector, to_nobody, is_operation, in_mid_course, first_low, turn}
 use Rattle.hk_dispatch.specs.Session.{state}
@@ -94,10 +94,9 @@ pub record KeepsDeclared (script : List Statement) (course : Course) (ticks word
   pub ticks_few : course.had + ticks_left script course.walk ≤ ticks + course.spent
   pub words_few : course.took + words_left script course.walk ≤ words + taken_already (need_of script course.walk) course.spent
 
--- at most one low operation is in mid-course
+-- At most one low operation is in mid-course. Without it two could wait in a busy interval.
 abbrev pub OneLow : Sheet → Moment → Type 0
-OneLow sheet m = (a b : ℕ) → is_high sheet a ≡ false → is_high sheet b ≡ false
-    → in_mid_course sheet m a ≡ true → in_mid_course sheet m b ≡ true → a ≡ b
+OneLow sheet m = (a b : ℕ) → IsLowSeat sheet a → IsLowSeat sheet b → in_mid_course sheet m a ≡ true → in_mid_course sheet m b ≡ true → a ≡ b
 
 -- An open attempt that wasn't met began where no high job waited and no low operation was in mid-course, and it is so still.
 -- Without it an attempt could be charged twice in a busy interval.

@@ -36,6 +36,11 @@ task_at sheet seat = slice_index_or (tasks_of sheet) seat no_task
 abbrev pub is_high : Sheet → (seat : ℕ) → Bool
 is_high sheet seat = nat_lt seat (length sheet.high)
 
+-- the seat is that of a low task
+pub record IsLowSeat (sheet : Sheet) (seat : ℕ) : Type 0 where
+  pub from : length sheet.high ≤ seat
+  pub below : seat < length sheet.high + length sheet.low
+
 abbrev pub no_high : High
 no_high = record { name = []; timing = no_timing; lag = 0; words = 0; arrivals = arrivals.List []; script = [] }
 

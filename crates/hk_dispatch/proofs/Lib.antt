@@ -13,4 +13,5 @@ pub mod TaskTick
 pub mod JobsKept
 pub mod ReadyMoments
 pub mod LowOperations
+pub mod CollectorTick
 pub mod Waiting

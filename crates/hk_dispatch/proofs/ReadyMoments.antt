@@ -99,10 +99,10 @@ none_waits sheet h m t no_high seat job ready high e lt =
       | inr after ↦ absurd (
           let first = first_ready after in
           let by : is_by ((task_at sheet seat).ready (course_at m seat).job) t ≡ true =
-              rw (ap (λ (a : Task). a.ready (course_at m seat).job) (high_is sheet seat high), first.1) (le-leb first.0 t (let few = first.2 in omega (arith, few, lt))) in
+          rw (ap (λ (a : Task). a.ready (course_at m seat).job) (high_is sheet seat high), first.1) (le-leb first.0 t (let few = first.2 in omega (arith, few, lt))) in
           let no : true ≡ false = sym by ∙ no_high seat high in
           cc
-        )
+          )
     ]
   where
     first_ready : (course_at m seat).job ≤ job → (r : ℕ) × (ready_of (high_at sheet seat) (course_at m seat).job ≡ Some r) × (r ≤ ready)

@@ -24,8 +24,12 @@ struct Written {
     ticks: String,
     /// Who has the present stretch of ticks, and since when.
     stretch: Option<(Who, u64)>,
-    /// The useful events of the cycle.
+    /// The useful events of the cycle, and the events of the lost attempts so far.
     useful: u64,
+    lost: u64,
+    /// The words used, and all words taken so far.
+    used: u32,
+    taken: u64,
 }
 
 /// Adds a line to a text.
@@ -69,6 +73,9 @@ impl Written {
             ticks: String::new(alloc),
             stretch: None,
             useful: 0,
+            lost: 0,
+            used: 0,
+            taken: 0,
         }
     }
 
@@ -106,6 +113,7 @@ impl Written {
             }
             Chore::Lost(events) => {
                 self.useful = self.useful.saturating_sub(u64::from(events));
+                self.lost += u64::from(events);
                 add(&mut self.ticks, format!(in alloc; "lost {tick} {events}"))
             }
         }
@@ -222,22 +230,24 @@ fn largest_low(sheet: &Sheet) -> u32 {
         .fold(0, |most, size| most.max(size))
 }
 
-/// Looks at the numbers of a session against their bounds.
-fn look<P: Pick>(rt: &impl Abort, by: &SessionBy<P>, useful: u64, tick: u64) {
+/// Looks at the numbers of a session after a tick: the account of the debt, and each number against its bound.
+fn look<P: Pick>(rt: &impl Abort, by: &SessionBy<P>, written: &mut Written, tick: u64) {
     let heap = by.checked().sheet.heap;
-    let used = u64::from(by.used());
+    let used = by.used();
+    written.taken += u64::from(used.saturating_sub(written.used));
+    written.used = used;
     let (debt, most) = (by.debt(), by.checked().debt);
+    let owed = heap.rate * written.taken + written.lost;
+    assert_eq!(rt; by.events() + debt, owed, "tick {tick}: events and debt");
     assert!(rt; debt <= most, "tick {tick}: debt {debt} above {most}");
+    let useful = written.useful;
     assert!(rt; useful <= by.checked().work, "tick {tick}: useful {useful}");
     assert!(rt;
-        heap.rate * used <= useful + debt,
+        heap.rate * u64::from(used) <= useful + debt,
         "tick {tick}: used {used} useful {useful} debt {debt}"
     );
     let room = heap.alloc - largest_low(&by.checked().sheet);
-    assert!(rt;
-        used <= u64::from(room),
-        "tick {tick}: used {used} above {room}"
-    );
+    assert!(rt; used <= room, "tick {tick}: used {used} above {room}");
 }
 
 /// Runs a session to its end, and one call further. What was written before stands in front.
@@ -272,7 +282,7 @@ fn run<P: Pick>(
                 written.end_stretch(alloc, sheet, None, tick)?;
             }
         }
-        look(rt, session, written.useful, tick);
+        look(rt, session, &mut written, tick);
     }
     closing(alloc, session, &mut written.report)?;
     assert_eq!(rt; session.tick(), Tick::Over);

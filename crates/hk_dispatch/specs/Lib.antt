@@ -10,5 +10,6 @@ pub mod Quiet
 pub mod Live
 pub mod HighJobs
 pub mod InStep
+pub mod Opened
 pub mod Kept
 pub mod Laws

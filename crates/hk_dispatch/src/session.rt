@@ -1,4 +1,11 @@
 //! Sessions: who gets each tick, and what it does.
+ghost use Rattle.std.specs.Prelude.{◌≡◌, ◌+◌, ◌<◌, length, IfOk, is_none, nat_lt, if◌then◌else◌, ◌&&◌};
+ghost use Rattle.hk_dispatch.specs.Tasks.{tasks_of};
+ghost use Rattle.hk_dispatch.specs.Moment.{course_at};
+ghost use Rattle.hk_dispatch.specs.Session.{state};
+ghost use Rattle.hk_dispatch.specs.Told.{told};
+ghost use Rattle.hk_plan.specs.AloneBy.{least_task};
+
 use crate::pick::{First, Pick};
 use crate::roster::Roster;
 use crate::run::{Done, Task, TaskRun};
@@ -8,13 +15,14 @@ use hk_collect::{OwnedHeap, Work};
 use hk_sheet::{Sheet, Ticks};
 use hk_words::Memory;
 use std::alloc::Global;
+use std::marker::Model;
 
 /// The session of a sheet whose heap was checked, by a choice among the ready high jobs.
 ///
 /// Each tick goes, by the first rule that applies, to the ready high job that the choice names; to the low operation in
 /// mid-course; to the collector, where it owes an event; to the first low task with a ready job; to nobody.
 #[derive(Drop)]
-pub struct SessionBy<P> {
+pub struct SessionBy<P: Pick> {
     checked: Checked,
     pick: P,
     heap: OwnedHeap,
@@ -32,6 +40,18 @@ pub struct SessionBy<P> {
     given: u64,
     /// The words that the collector found reserved, once these were more than the space has.
     over: Option<u64>,
+}
+
+impl<P: Pick> Model for SessionBy<P> {
+    ghost use Rattle.hk_dispatch.specs.Opened.{Opened};
+
+    ghost Value = { Opened P };
+
+    ghost use Rattle.hk_dispatch.specs.Opened.{Stands};
+
+    ghost view = { λ s. record { sheet = s.checked.sheet; work = s.checked.work; attempt = s.checked.attempt; busy = s.checked.busy; debt = s.checked.debt; geometry = s.heap.geometry; pick = s.pick; given = s.given } };
+
+    ghost invariant = { λ s. Stands (P.choice s.pick) s.checked.sheet s.heap.geometry s.given s.heap s.tasks.items s.roster s.in_mid_course s.debt s.flips s.events s.idle s.over };
 }
 
 /// The task of a seat.
@@ -69,7 +89,12 @@ fn start_all(alloc: Global, sheet: &Sheet) -> Result<Vec<TaskRun>, Memory> {
 
 impl<P: Pick> SessionBy<P> {
     /// The session of a sheet before its first tick. Only this call takes memory.
-    pub fn open(alloc: Global, checked: Checked, pick: P) -> Result<SessionBy<P>, Memory> {
+    pub fn open(alloc: Global, checked: Checked, pick: P) -> Result<SessionBy<P>, Memory>
+        ensures sheet { IfOk result (λ s. s.sheet ≡ checked.sheet) }
+        ensures numbers { IfOk result (λ s. (s.work ≡ checked.work) × (s.attempt ≡ checked.attempt) × (s.busy ≡ checked.busy) × (s.debt ≡ checked.debt)) }
+        ensures pick { IfOk result (λ s. s.pick ≡ pick) }
+        ensures given { IfOk result (λ s. s.given ≡ 0) }
+    {
         let heap = OwnedHeap::open(alloc, checked.sheet.geometry())?;
         let tasks = start_all(alloc, &checked.sheet)?;
         Ok(SessionBy {
@@ -89,13 +114,20 @@ impl<P: Pick> SessionBy<P> {
     }
 
     /// What the session was opened with.
-    pub fn checked(&self) -> &Checked {
+    pub fn checked(&self) -> &Checked
+        ensures sheet { result.now.sheet ≡ self.now.sheet }
+        ensures numbers { (result.now.work ≡ self.now.work) × (result.now.attempt ≡ self.now.attempt) × (result.now.busy ≡ self.now.busy) × (result.now.debt ≡ self.now.debt) }
+    {
         &self.checked
     }
 
     /// Gives the next tick, and answers who got it and what it did. From the horizon on nothing is changed, nor once the
     /// collector found more words reserved than the space has for evacuation.
-    pub fn tick(&mut self) -> Tick {
+    pub fn tick(&mut self) -> Tick
+        ensures answer { result ≡ told self.old.geometry (P.choice self.old.pick) self.old.sheet self.old.given }
+        ensures opened { self.new ≡ record self.old { given = self.new.given } }
+        ensures given { self.new.given ≡ self.old.given + (if is_none (state self.old.geometry (P.choice self.old.pick) self.old.sheet self.old.given).over && nat_lt self.old.given self.old.sheet.ticks then 1 else 0) }
+    {
         if let Some(words) = self.over {
             return Tick::LiveOver(words);
         }
@@ -190,27 +222,39 @@ impl<P: Pick> SessionBy<P> {
     }
 
     /// The jobs of the task of a seat that have ended.
-    pub fn ended(&self, seat: u8) -> u64 {
+    pub fn ended(&self, seat: u8) -> u64
+        requires { seat < length (tasks_of self.now.sheet) }
+        ensures { result ≡ (course_at (state self.now.geometry (P.choice self.now.pick) self.now.sheet self.now.given) seat).job }
+    {
         self.tasks[seat as usize].job
     }
 
     /// The most ticks from the arrival of a job of the task of a seat to its end, 0 where none has ended.
-    pub fn latest(&self, seat: u8) -> u64 {
+    pub fn latest(&self, seat: u8) -> u64
+        requires { seat < length (tasks_of self.now.sheet) }
+        ensures { result ≡ (course_at (state self.now.geometry (P.choice self.now.pick) self.now.sheet self.now.given) seat).latest }
+    {
         self.tasks[seat as usize].latest
     }
 
     /// The collection cycles that have begun.
-    pub fn flips(&self) -> u64 {
+    pub fn flips(&self) -> u64
+        ensures { result ≡ (state self.now.geometry (P.choice self.now.pick) self.now.sheet self.now.given).flips }
+    {
         self.flips
     }
 
     /// The ticks that the collector has had.
-    pub fn events(&self) -> u64 {
+    pub fn events(&self) -> u64
+        ensures { result ≡ (state self.now.geometry (P.choice self.now.pick) self.now.sheet self.now.given).events }
+    {
         self.events
     }
 
     /// The ticks that nobody has had.
-    pub fn idle(&self) -> u64 {
+    pub fn idle(&self) -> u64
+        ensures { result ≡ (state self.now.geometry (P.choice self.now.pick) self.now.sheet self.now.given).idle }
+    {
         self.idle
     }
 }

@@ -175,7 +175,8 @@ impl<P: Pick> SessionBy<P> {
 
     /// Gives a tick to the job of a seat. The words that it takes are owed for.
     fn give(&mut self, seat: u8, tick: u64) -> Done {
-        let sheet = &self.checked.sheet;
+        let checked = &self.checked;
+        let sheet = &checked.sheet;
         let run = &mut self.tasks[seat as usize];
         let done = run.tick(&mut self.heap, task_at(sheet, seat), seat, tick);
         self.debt += sheet.heap.rate * u64::from(done.words);

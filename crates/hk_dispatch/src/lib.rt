@@ -17,3 +17,5 @@ pub use tick::{Chore, End, JobFault, Tick, Who};
 
 #[cfg(test)]
 mod rows;
+#[cfg(test)]
+mod watch;

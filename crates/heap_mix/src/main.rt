@@ -3,13 +3,12 @@
 //! rounds.
 #![tactic(auto)]
 
+mod calls;
 mod draws;
-mod machine;
 mod mixture;
 mod tally;
 
 use anyhow::{Context, Result, anyhow};
-use machine::Machine;
 use mixture::Mixture;
 use std::env;
 use std::rt::Env;
@@ -24,10 +23,10 @@ fn rounds(rt: &(impl Env + AllocGlobal)) -> Result<u64> {
 
 fn main(rt: HostRuntime) -> Result<()> {
     let rounds = rounds(&rt)?;
-    let Some(machine) = Machine::open(rt.alloc()) else {
+    let Some(heap) = calls::open(rt.alloc()) else {
         return Err(anyhow!("no memory for the heap"));
     };
-    let mut mixture = Mixture::new(machine);
+    let mut mixture = Mixture::new(heap);
     mixture.build();
     mixture.run(rounds);
     let tally = mixture.tally();

@@ -1,9 +1,11 @@
 //! The mixture. Each field of the board holds a chain of links; a link has the next one in its first reference field and a
 //! leaf in its second. The registers have parts of their own: the cursor is at a link of a chain, the mark at one that the
 //! cursor was at.
+use crate::calls;
+use crate::calls::End;
 use crate::draws::Draws;
-use crate::machine::{End, Machine};
 use crate::tally::Tally;
+use hk_collect::OwnedHeap;
 use hk_words::{Call, Reply, Shape};
 
 /// A link of a chain: the next one and a leaf, and two numbers.
@@ -51,18 +53,18 @@ const NEXT_FIELD: u8 = 0;
 /// The reference field of a link for its leaf.
 const LEAF_FIELD: u8 = 1;
 
-/// The machine, the draws and the tally of a run.
+/// The heap, the draws and the tally of a run.
 #[derive(Drop)]
 pub struct Mixture {
-    machine: Machine,
+    heap: OwnedHeap,
     draws: Draws,
     tally: Tally,
 }
 
 impl Mixture {
-    pub fn new(machine: Machine) -> Mixture {
+    pub fn new(heap: OwnedHeap) -> Mixture {
         Mixture {
-            machine,
+            heap,
             draws: Draws::new(),
             tally: Tally::default(),
         }
@@ -131,7 +133,7 @@ impl Mixture {
     /// The cursor goes on to the next link, and after the last one to the first of some chain.
     fn walk(&mut self) {
         self.load(CURSOR, CURSOR, NEXT_FIELD);
-        if self.machine.is_null(CURSOR) {
+        if calls::is_null(&self.heap, CURSOR) {
             let chain = self.draws.below(u64::from(CHAINS)) as u8;
             self.load(CURSOR, BOARD, chain);
         }
@@ -146,7 +148,7 @@ impl Mixture {
 
     /// The cursor goes back to the mark, which is then gone.
     fn go_back(&mut self) {
-        if !self.machine.is_null(MARK) {
+        if !calls::is_null(&self.heap, MARK) {
             self.copy(CURSOR, MARK);
             self.clear(MARK);
         }
@@ -169,7 +171,7 @@ impl Mixture {
     /// The link after the one at the cursor, if there is one, is replaced by a copy with the same leaf.
     fn copy_link(&mut self) {
         self.load(NEXT, CURSOR, NEXT_FIELD);
-        if self.machine.is_null(NEXT) {
+        if calls::is_null(&self.heap, NEXT) {
             return;
         }
         self.make(FRESH, LINK);
@@ -226,7 +228,7 @@ impl Mixture {
         self.tally.news = self.tally.news.wrapping_add(1);
         if self.call(Call::New { dest, shape }).is_some() {
             for _event in 0..RATE * shape.words() {
-                let work = self.machine.collect();
+                let work = self.heap.collect();
                 self.tally.collected(work);
             }
         }
@@ -234,7 +236,7 @@ impl Mixture {
 
     /// A call, run to its end: its reply, and None where it was refused or found no room.
     fn call(&mut self, call: Call) -> Option<Reply> {
-        match self.machine.call(call) {
+        match calls::run(&mut self.heap, call) {
             End::Done(reply) => Some(reply),
             End::Full => {
                 self.tally.full = self.tally.full.wrapping_add(1);

@@ -3,3 +3,5 @@ pub mod Fewer
 pub mod Sets
 pub mod Blocked
 pub mod Placed
+pub mod Filled
+pub mod Rows

@@ -38,8 +38,9 @@ pub fn assign(tasks: &[Timing]) -> Result<Order, Stuck>
 {
     let count = tasks.len();
     let mut order = indices(count);
-    match place_all(tasks, &mut order[..count]) {
-        0 => Ok(Order::of(order, count)),
-        left => Err(Stuck::of(order, left)),
+    let left = place_all(tasks, &mut order[..count]);
+    if left > 0 {
+        return Err(Stuck::of(order, left));
     }
+    Ok(Order::of(order, count))
 }

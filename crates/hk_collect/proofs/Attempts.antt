@@ -15,14 +15,12 @@ use Rattle.hk_core.specs.Lines as l
 use Rattle.hk_core.specs.Step.{reference_size, reserved_fits}
 use Rattle.hk_collect.proofs.spots.SpotLoads.{took_at}
 use Rattle.hk_collect.specs.Runs.{in_attempt}
+use Rattle.hk_core.proofs.Shared.{refuted}
 
 -- a choice has what both have
 pick : {A : Type 0} (P : A → Type 0) (test : Bool) (a b : A) → P a → P b → P (if test then a else b)
 pick P true a b x y = x
 pick P false a b x y = y
-
-no_attempt : {A : Type 0} (b : Bool) → b ≡ false → b ≡ true → A
-no_attempt b off on = absurd (cc)
 
 -- AN ATTEMPT BEGINS
 
@@ -33,37 +31,37 @@ module _ (g : Geometry) (t : Spot) (old : ℕ) where
   begins_at : (ln : Line) → t.line ≡ ln → in_attempt ln ≡ false → First (took_at_line g t old ln)
   unfolding in_attempt took_at_line table.rest_took table.frame_took table.scan_took table.link_took table.look_took table.pass_took table.pass_head_took table.sweep_took table.clear_took
   begins_at line.Rest at out =
-      pick First (nat_eq t.cycle last_cycle) t _ (λ on. no_attempt (in_attempt t.line) (ap in_attempt at) on) (λ on. no_attempt false refl on)
+      pick First (nat_eq t.cycle last_cycle) t _ (λ on. refuted (in_attempt t.line) (ap in_attempt at) on) (λ on. refuted false refl on)
   begins_at (line.Frame seat) at out =
-      pick First (nat_lt 0 (frame_accessors old)) t _ (λ on. no_attempt (in_attempt t.line) (ap in_attempt at) on) (λ on. refl)
-  begins_at (line.Register seat reg stage) at out = no_attempt true out refl
-  begins_at (line.FrameTrade seat) at out = no_attempt true out refl
+      pick First (nat_lt 0 (frame_accessors old)) t _ (λ on. refuted (in_attempt t.line) (ap in_attempt at) on) (λ on. refl)
+  begins_at (line.Register seat reg stage) at out = refuted true out refl
+  begins_at (line.FrameTrade seat) at out = refuted true out refl
   begins_at line.Scan at out =
-      pick First (nat_lt g.live old) t _ (λ on. no_attempt (in_attempt t.line) (ap in_attempt at) on)
-      (pick (λ (ln : Line). in_attempt ln ≡ true → t.spent ≡ 1) (nat_lt t.scan old) line.Link (line.Pass 0) (λ on. no_attempt false refl on) (λ on. no_attempt false refl on))
-  begins_at line.Link at out = pick First (nat_eq old 0) _ _ (λ on. no_attempt false refl on) (λ on. no_attempt false refl on)
+      pick First (nat_lt g.live old) t _ (λ on. refuted (in_attempt t.line) (ap in_attempt at) on)
+      (pick (λ (ln : Line). in_attempt ln ≡ true → t.spent ≡ 1) (nat_lt t.scan old) line.Link (line.Pass 0) (λ on. refuted false refl on) (λ on. refuted false refl on))
+  begins_at line.Link at out = pick First (nat_eq old 0) _ _ (λ on. refuted false refl on) (λ on. refuted false refl on)
   begins_at line.Look at out =
-      pick First (nat_lt 0 (header_accessors old)) t _ (λ on. no_attempt (in_attempt t.line) (ap in_attempt at) on) (λ on. refl)
-  begins_at (line.Cell index stage) at out = no_attempt true out refl
-  begins_at line.ObjectTrade at out = no_attempt true out refl
+      pick First (nat_lt 0 (header_accessors old)) t _ (λ on. refuted (in_attempt t.line) (ap in_attempt at) on) (λ on. refl)
+  begins_at (line.Cell index stage) at out = refuted true out refl
+  begins_at line.ObjectTrade at out = refuted true out refl
   begins_at (line.Pass number) at out =
-      pick (λ (ln : Line). in_attempt ln ≡ true → t.spent ≡ 1) (nat_eq old t.cycle) (line.PassHead number) _ (λ on. no_attempt false refl on)
-      (pick (λ (ln : Line). in_attempt ln ≡ true → t.spent ≡ 1) (nat_lt (number + 1) (numbers g)) (line.Pass (number + 1)) (line.Sweep 0 stage.Read) (λ on. no_attempt false refl on) (λ on. no_attempt false refl on))
+      pick (λ (ln : Line). in_attempt ln ≡ true → t.spent ≡ 1) (nat_eq old t.cycle) (line.PassHead number) _ (λ on. refuted false refl on)
+      (pick (λ (ln : Line). in_attempt ln ≡ true → t.spent ≡ 1) (nat_lt (number + 1) (numbers g)) (line.Pass (number + 1)) (line.Sweep 0 stage.Read) (λ on. refuted false refl on) (λ on. refuted false refl on))
   begins_at (line.PassHead number) at out =
-      pick (λ (ln : Line). in_attempt ln ≡ true → t.spent ≡ 1) (is_old g t old) line.Scan _ (λ on. no_attempt false refl on)
-      (pick (λ (ln : Line). in_attempt ln ≡ true → t.spent ≡ 1) (nat_lt (number + 1) (numbers g)) (line.Pass (number + 1)) (line.Sweep 0 stage.Read) (λ on. no_attempt false refl on) (λ on. no_attempt false refl on))
+      pick (λ (ln : Line). in_attempt ln ≡ true → t.spent ≡ 1) (is_old g t old) line.Scan _ (λ on. refuted false refl on)
+      (pick (λ (ln : Line). in_attempt ln ≡ true → t.spent ≡ 1) (nat_lt (number + 1) (numbers g)) (line.Pass (number + 1)) (line.Sweep 0 stage.Read) (λ on. refuted false refl on) (λ on. refuted false refl on))
   begins_at (line.Sweep number stage.Read) at out =
-      pick (λ (ln : Line). in_attempt ln ≡ true → t.spent ≡ 1) (nat_lt old t.cycle) (line.Sweep number stage.Write) (line.Sweep (number + 1) stage.Read) (λ on. no_attempt false refl on) (λ on. no_attempt false refl on)
-  begins_at (line.Sweep number stage.Claim) at out = λ on. no_attempt (in_attempt t.line) (ap in_attempt at) on
-  begins_at (line.Sweep number stage.Reserve) at out = λ on. no_attempt (in_attempt t.line) (ap in_attempt at) on
-  begins_at (line.Sweep number stage.Tie) at out = λ on. no_attempt (in_attempt t.line) (ap in_attempt at) on
-  begins_at (line.Sweep number stage.Write) at out = λ on. no_attempt false refl on
-  begins_at (line.Sweep number stage.Mark) at out = λ on. no_attempt false refl on
+      pick (λ (ln : Line). in_attempt ln ≡ true → t.spent ≡ 1) (nat_lt old t.cycle) (line.Sweep number stage.Write) (line.Sweep (number + 1) stage.Read) (λ on. refuted false refl on) (λ on. refuted false refl on)
+  begins_at (line.Sweep number stage.Claim) at out = λ on. refuted (in_attempt t.line) (ap in_attempt at) on
+  begins_at (line.Sweep number stage.Reserve) at out = λ on. refuted (in_attempt t.line) (ap in_attempt at) on
+  begins_at (line.Sweep number stage.Tie) at out = λ on. refuted (in_attempt t.line) (ap in_attempt at) on
+  begins_at (line.Sweep number stage.Write) at out = λ on. refuted false refl on
+  begins_at (line.Sweep number stage.Mark) at out = λ on. refuted false refl on
   begins_at (line.Sweep number stage.Empty) at out =
-      pick (λ (ln : Line). in_attempt ln ≡ true → t.spent ≡ 1) (nat_lt t.entries (list_length g)) (line.Sweep (number + 1) stage.Read) (line.Clear 0) (λ on. no_attempt false refl on) (λ on. no_attempt false refl on)
+      pick (λ (ln : Line). in_attempt ln ≡ true → t.spent ≡ 1) (nat_lt t.entries (list_length g)) (line.Sweep (number + 1) stage.Read) (line.Clear 0) (λ on. refuted false refl on) (λ on. refuted false refl on)
   begins_at (line.Clear word) at out =
-      pick (λ (ln : Line). in_attempt ln ≡ true → t.spent ≡ 1) (nat_lt (word + 1) (space_words g)) (line.Clear (word + 1)) line.Reset (λ on. no_attempt false refl on) (λ on. no_attempt false refl on)
-  begins_at line.Reset at out = λ on. no_attempt false refl on
+      pick (λ (ln : Line). in_attempt ln ≡ true → t.spent ≡ 1) (nat_lt (word + 1) (space_words g)) (line.Clear (word + 1)) line.Reset (λ on. refuted false refl on) (λ on. refuted false refl on)
+  begins_at line.Reset at out = λ on. refuted false refl on
 
   pub attempt_begins : in_attempt t.line ≡ false → in_attempt (spot_took g t old).line ≡ true → (spot_took g t old).spent ≡ 1
   unfolding spot_took
@@ -73,8 +71,8 @@ module _ (g : Geometry) (t : Spot) (old : ℕ) where
 
   goes_at : (ln : Line) → t.line ≡ ln → l.LineFits g t ln → in_attempt ln ≡ true → in_attempt (took_at_line g t old ln).line ≡ true → (took_at_line g t old ln).spent ≡ t.spent + 1
   unfolding in_attempt took_at_line table.register_took table.frame_trade_took table.cell_took table.object_trade_took
-  goes_at line.Rest at fits out on = no_attempt false refl out
-  goes_at (line.Frame seat) at fits out on = no_attempt false refl out
+  goes_at line.Rest at fits out on = refuted false refl out
+  goes_at (line.Frame seat) at fits out on = refuted false refl out
   goes_at (line.Register seat reg stage.Read) at fits out on = refl
   goes_at (line.Register seat reg stage.Claim) at fits out on = refl
   goes_at (line.Register seat reg stage.Reserve) at fits out on = refl
@@ -86,11 +84,11 @@ module _ (g : Geometry) (t : Spot) (old : ℕ) where
     where
       over : in_attempt (if nat_eq old t.first then (if nat_lt (seat + 1) (tasks g) then line.Frame (seat + 1) else line.Scan) else line.Frame seat) ≡ true → t.spent ≡ t.spent + 1
       over = pick (λ (ln : Line). in_attempt ln ≡ true → t.spent ≡ t.spent + 1) (nat_eq old t.first) _ (line.Frame seat)
-          (pick (λ (ln : Line). in_attempt ln ≡ true → t.spent ≡ t.spent + 1) (nat_lt (seat + 1) (tasks g)) (line.Frame (seat + 1)) line.Scan (λ on. no_attempt false refl on) (λ on. no_attempt false refl on))
-          (λ on. no_attempt false refl on)
-  goes_at line.Scan at fits out on = no_attempt false refl out
-  goes_at line.Link at fits out on = no_attempt false refl out
-  goes_at line.Look at fits out on = no_attempt false refl out
+          (pick (λ (ln : Line). in_attempt ln ≡ true → t.spent ≡ t.spent + 1) (nat_lt (seat + 1) (tasks g)) (line.Frame (seat + 1)) line.Scan (λ on. refuted false refl on) (λ on. refuted false refl on))
+          (λ on. refuted false refl on)
+  goes_at line.Scan at fits out on = refuted false refl out
+  goes_at line.Link at fits out on = refuted false refl out
+  goes_at line.Look at fits out on = refuted false refl out
   goes_at (line.Cell index stage.Read) at fits out on = refl
   goes_at (line.Cell index stage.Claim) at fits out on = refl
   goes_at (line.Cell index stage.Reserve) at fits out on = refl
@@ -100,12 +98,12 @@ module _ (g : Geometry) (t : Spot) (old : ℕ) where
   goes_at (line.Cell index stage.Empty) at fits out on = absurd fits.1
   goes_at line.ObjectTrade at fits out on =
       pick (λ (x : Spot). in_attempt x.line ≡ true → x.spent ≡ t.spent + 1) (nat_eq old t.first) (record t { line = line.Scan; scan = t.scan + reference_size t.item }) (record t { line = line.Look })
-      (λ on. no_attempt false refl on) (λ on. no_attempt false refl on) on
-  goes_at (line.Pass number) at fits out on = no_attempt false refl out
-  goes_at (line.PassHead number) at fits out on = no_attempt false refl out
-  goes_at (line.Sweep number stage) at fits out on = no_attempt false refl out
-  goes_at (line.Clear word) at fits out on = no_attempt false refl out
-  goes_at line.Reset at fits out on = no_attempt false refl out
+      (λ on. refuted false refl on) (λ on. refuted false refl on) on
+  goes_at (line.Pass number) at fits out on = refuted false refl out
+  goes_at (line.PassHead number) at fits out on = refuted false refl out
+  goes_at (line.Sweep number stage) at fits out on = refuted false refl out
+  goes_at (line.Clear word) at fits out on = refuted false refl out
+  goes_at line.Reset at fits out on = refuted false refl out
 
   pub attempt_goes_on : l.LineFits g t t.line → in_attempt t.line ≡ true → in_attempt (spot_took g t old).line ≡ true → (spot_took g t old).spent ≡ t.spent + 1
   unfolding spot_took

@@ -49,8 +49,9 @@ use Rattle.hk_collect.proofs.spots.SpotToSweep.{pass_to_sweep, pass_head_to_swee
 use Rattle.hk_collect.proofs.spots.SpotSweepLines.{kept_marked, kept_current}
 use Rattle.hk_collect.proofs.spots.SpotSweepRow.{sweep_reads_row, sweep_writes_row, sweep_marks_row, sweep_empties_row, clear_row, reset_row, words-flip, words-reset, words-write_entry, words-write_mark, words-empty_header}
 use Rattle.hk_collect.proofs.spots.SpotReset.{no_ranges}
-use Rattle.hk_collect.proofs.Fitting.{in_space, own_hand, register_hand, cell_hand, cell_names, item_names, item_range, marks_at, formed, in_step, link_there, here_cell, here_object_trade}
+use Rattle.hk_collect.proofs.Fitting.{in_space, register_hand, cell_hand, cell_names, item_names, item_range, marks_at, formed, in_step, link_there, here_cell, here_object_trade}
 use Rattle.hk_collect.proofs.Collected.{Collected, collected_row, collected_at, inside_kept, spares_all, spares_beside, spares_outside}
+use Rattle.hk_collect.proofs.spots.SpotClaim.{own_hand}
 
 -- a write finds nothing
 found-write : (row : List ℕ) (word v : ℕ) → learnt row (Some (event.Write word v)) ≡ 0

@@ -8,9 +8,7 @@ use Rattle.hk_words.specs.Row.{w0_at, place_at}
 use Rattle.hk_model.specs.Heap as heap
 use Rattle.hk_model.specs.Heap.{Heap, Object, of_object}
 use Rattle.hk_model.specs.History.{History, after}
-use Rattle.hk_model.proofs.Updates.{upd_same}
 use Rattle.hk_core.specs.declared.event.Event.TheVariants as event
-use Rattle.hk_core.specs.declared.flight.Flight.{Flight}
 use Rattle.hk_core.specs.declared.spot.Spot.{Spot}
 use Rattle.hk_core.specs.declared.spot.Line.{Line}
 use Rattle.hk_core.specs.declared.spot.Line.TheVariants as line
@@ -32,13 +30,14 @@ use Rattle.hk_core.proofs.Inside.{shapes_fit, good_sound, LiesInSpaces}
 use Rattle.hk_core.proofs.Reserved.{reserved_small}
 use Rattle.hk_core.proofs.kinds.WriteCell.{shades_mean}
 use Rattle.hk_core.proofs.kinds.LoadRead.{some_words}
-use Rattle.hk_collect.proofs.spots.Spots.{WorkFacts, work_facts, hands_changed}
+use Rattle.hk_collect.proofs.spots.Spots.{WorkFacts, work_facts}
 use Rattle.hk_collect.proofs.spots.SpotLines.{AtRegister, AtFrameTrade, AtRange, AtItem, AtCell, AtObjectTrade, at_register, at_frame_trade, at_link, at_look, at_cell, at_object_trade}
 use Rattle.hk_collect.proofs.spots.SpotLoadsCells.{IsItem, item_known}
 use Rattle.hk_collect.proofs.spots.SpotLoadsRow.{space_ends}
 use Rattle.hk_collect.proofs.spots.SpotCopy.{moving, item_shows}
 use Rattle.hk_collect.proofs.spots.SpotWords.{can_swap_w0, can_load_w1, can_write_w1, can_load_header, can_trade_header, can_load_mark, can_write_mark, can_load_frame, can_trade_frame, can_load_register, can_write_entry}
 use Rattle.hk_collect.specs.SpotFits.{SpotFits, LineFits, RegisterFits, CellFits, SweepFits, FewSpent}
+use Rattle.hk_collect.proofs.spots.SpotClaim.{own_hand}
 
 -- SHAPES
 
@@ -68,10 +67,6 @@ in_space g (suc zero) offset two below = record { some = omega arith; within = o
 in_space g (suc (suc n)) offset two below = absurd (omega arith)
 
 -- THE SPOT
-
--- the collector's claim in hand comes last
-pub own_hand : (g : Geometry) (flight : ℕ → Flight) (t : Spot) → hands_of g flight t (tasks g) ≡ l.hand_of_spot t
-own_hand g flight t = hands_changed g flight t t (tasks g) (omega arith) ∙ upd_same (hands_of g flight t) (tasks g) (l.hand_of_spot t)
 
 -- the claim in hand of a stage at which a link word is to be written
 pub register_hand : (t : Spot) (s r : ℕ) → t.line ≡ line.Register s r stage.Tie → l.hand_of_spot t ≡ to_link t.cell t.cycle t.offset

@@ -1,3 +1,4 @@
+mod Small
 pub mod spots
 pub mod Fitting
 pub mod Collected
@@ -20,6 +21,13 @@ pub mod UsedMarks
 pub mod UsedSpot
 pub mod UsedTables
 pub mod UsedTrace
+pub mod UsedLate
+pub mod UsedRuns
 pub mod UsedReserves
 pub mod UsedLaws
 pub mod Worn
+pub mod Taken
+pub mod Cycles
+pub mod Reserved
+pub mod Pays
+pub mod LiveCause

@@ -34,10 +34,9 @@ use Rattle.hk_collect.proofs.spots.SpotLines.{AtRegister, AtCell, at_register, a
 use Rattle.hk_collect.proofs.spots.SpotLoads.{work_at, took_at}
 use Rattle.hk_collect.proofs.spots.SpotLoadsCells.{IsItem, item_known}
 use Rattle.hk_words.specs.Bounds.{frame_events, object_events}
-use Rattle.hk_collect.specs.Measure.{in_attempt, FrameUntouched, ObjectUntouched, UntouchedAt, IsUntouched, ClosesAttempt, useful_after, least_useful, CountsAttempt}
-
-never : {A : Type 0} → true ≡ false → A
-never e = absurd (cc)
+use Rattle.hk_collect.specs.Runs.{in_attempt}
+use Rattle.hk_collect.specs.Measure.{FrameUntouched, ObjectUntouched, UntouchedAt, IsUntouched, ClosesAttempt, useful_after, least_useful, CountsAttempt}
+use Rattle.hk_core.proofs.Shared.{never_false}
 
 -- THE EVENT AND THE SPOT AT A LINE
 
@@ -73,13 +72,13 @@ pub outside_at : (c : State) (ln : Line) → in_attempt ln ≡ false → Untouch
 unfolding in_attempt UntouchedAt
 outside_at c line.Rest e = tt
 outside_at c (line.Frame s) e = tt
-outside_at c (line.Register s r stage) e = never e
-outside_at c (line.FrameTrade s) e = never e
+outside_at c (line.Register s r stage) e = never_false e
+outside_at c (line.FrameTrade s) e = never_false e
 outside_at c line.Scan e = tt
 outside_at c line.Link e = tt
 outside_at c line.Look e = tt
-outside_at c (line.Cell i stage) e = never e
-outside_at c line.ObjectTrade e = never e
+outside_at c (line.Cell i stage) e = never_false e
+outside_at c line.ObjectTrade e = never_false e
 outside_at c (line.Pass n) e = tt
 outside_at c (line.PassHead n) e = tt
 outside_at c (line.Sweep n stage) e = tt

@@ -1,7 +1,6 @@
 -- In a lawful state the bound of the spot is at most that of a whole cycle.
-use Rattle.std.proofs.Common.{◌≡◌, ℕ, ◌+◌, ◌-◌, ◌*◌, ◌/◌, ◌<◌, ◌≤◌, true, false, inl, inr, refl, sym, ◌∙◌, ap, arith, Option, None, Some}
+use Rattle.std.proofs.Common.{◌≡◌, ℕ, ◌+◌, ◌-◌, ◌*◌, ◌/◌, ◌<◌, ◌≤◌, true, false, inl, inr, refl, sym, ◌∙◌, ap, arith, Some}
 use Rattle.std.proofs.lemmas.Nat.{mul-le}
-use Rattle.std.specs.Prelude.{is_some}
 use Rattle.hk_words.specs.Geometry.{tasks, list_length, space_words}
 use Rattle.hk_model.specs.History.{History}
 use Rattle.hk_core.specs.declared.spot.Line.{Line}
@@ -11,7 +10,7 @@ use Rattle.hk_core.specs.declared.spot.Stage.TheVariants as stage
 use Rattle.hk_core.specs.State.{State}
 use Rattle.hk_core.specs.Step.{reference_size}
 use Rattle.hk_core.specs.Collect.{next_list}
-use Rattle.hk_core.specs.View.{words_of, names_of, contents_of, flight_at, begun_at, Names, size_at, refs_at, nums_at, reference_at}
+use Rattle.hk_core.specs.View.{words_of, names_of, contents_of, flight_at, begun_at, size_at, reference_at}
 use Rattle.hk_core.specs.Lines as l
 use Rattle.hk_core.specs.Colours.{spaces_of, shades_of}
 use Rattle.hk_core.specs.Lawful.{Lawful}
@@ -23,6 +22,8 @@ use Rattle.hk_collect.proofs.spots.SpotLoads.{work_at}
 use Rattle.hk_words.specs.Bounds.{frame_events}
 use Rattle.hk_collect.specs.Measure.{most_for_sweep, most_in_sweep, most_useful_at, most_useful, cycle_bound, MovesBirth}
 use Rattle.hk_collect.proofs.MeasureAttempts.{register_knows, cell_knows}
+use Rattle.hk_core.proofs.Shared.{size_borne}
+use Rattle.hk_collect.proofs.Small.{a_birth}
 
 -- NUMBERS
 
@@ -215,14 +216,6 @@ module _ (c : State) (history : History) (h : Lawful c history) where
 
 -- THE OBJECT THAT IS MOVED IS A BIRTH
 
-a_birth : (o : Option ℕ) → is_some o ≡ true → (b : ℕ) × (o ≡ Some b)
-a_birth None some = absurd (cc)
-a_birth (Some b) some = (b, refl)
-
-words_borne : (names : Names) (n b : ℕ) → names.bearer n ≡ Some b → size_at names n ≡ 1 + names.refs b + names.nums b
-unfolding size_at refs_at nums_at
-words_borne names n b e = rw e refl
-
 -- what is said of a line on which there is such an object
 item_line : (ln : Line) → l.has_item ln ≡ true → l.is_at_range ln ≡ true
 unfolding l.has_item l.is_at_range
@@ -261,6 +254,6 @@ objects_are_births c history h item =
       born.0,
       record {
         bears = ap names.bearer parts.0 ∙ born.1;
-        words = size_of_reference names k c.spot.item parts.1 parts.2 ∙ words_borne names k born.0 born.1;
+        words = size_of_reference names k c.spot.item parts.1 parts.2 ∙ size_borne names k born.0 born.1;
       },
     )

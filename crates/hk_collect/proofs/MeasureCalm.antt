@@ -20,7 +20,8 @@ use Rattle.hk_core.specs.Facts as fact
 use Rattle.hk_core.specs.Lawful.{Lawful, hands_of}
 use Rattle.hk_core.proofs.kinds.LoadRead.{some_words}
 use Rattle.hk_core.proofs.kinds.WriteCell.{IsGreyIn, shades_mean}
-use Rattle.hk_collect.specs.Measure.{NoneInFlight, is_grey}
+use Rattle.hk_collect.specs.Runs.{is_grey}
+use Rattle.hk_collect.specs.Measure.{NoneInFlight}
 
 -- AN IDLE SEAT
 

@@ -31,7 +31,8 @@ use Rattle.hk_collect.proofs.spots.SpotLines.{AtRange, AtItem, at_link, at_look}
 use Rattle.hk_collect.proofs.spots.SpotLoads.{work_at}
 use Rattle.hk_collect.proofs.spots.SpotLoadsCells.{IsItem, item_known}
 use Rattle.hk_collect.proofs.spots.SpotLoadsRow.{found-reserved, found-frame, found-header, found-mark, space_ends}
-use Rattle.hk_collect.specs.Measure.{most_useful_at, most_useful, NoneInFlight, IsCalm, KeepsMeasure, is_grey}
+use Rattle.hk_collect.specs.Measure.{most_useful_at, most_useful, NoneInFlight, IsCalm, KeepsMeasure}
+use Rattle.hk_collect.specs.Runs.{is_grey}
 use Rattle.hk_collect.proofs.MeasureAttempts.{after_at, work_after, load_kept, register_knows, cell_knows}
 use Rattle.hk_collect.proofs.MeasureBounds.{scan_fits, fits_at, spent_at, entries_few}
 use Rattle.hk_collect.proofs.MeasureLines.{Counts, rest_counts, frame_counts, register_counts, frame_trade_counts, scan_counts, link_counts, look_counts, cell_counts, object_trade_counts, pass_counts, pass_head_counts, sweep_counts, clear_counts, reset_counts}
@@ -330,9 +331,6 @@ module _ (c : State) (history : History) (useful : ℕ) (h : Lawful c history) (
   object_spent : c.spot.line ≡ line.ObjectTrade → c.spot.spent ≤ 1 + 5 * (reference_size c.spot.item - 1)
   unfolding l.most_spent
   object_spent at = spent_at c history h line.ObjectTrade (1 + 5 * (reference_size c.spot.item - 1)) at refl
-
-  busy_at_scan : (ln : Line) → c.spot.line ≡ ln → l.is_resting ln ≡ false → l.is_resting c.spot.line ≡ false
-  busy_at_scan ln at busy = ap l.is_resting at ∙ busy
 
   -- the scan: the pass begins where all that is reserved was scanned
   scan_keeps : c.spot.line ≡ line.Scan → KeepsMeasure c useful

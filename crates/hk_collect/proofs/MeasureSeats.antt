@@ -44,7 +44,8 @@ use Rattle.hk_core.proofs.kinds.Reserve.{reserve_words}
 use Rattle.hk_core.proofs.kinds.NewRaise.{raised_words}
 use Rattle.hk_core.proofs.kinds.NewWords.{headed_words, words-raise, words-new_header, used_fits, objects_fit, new_place_fits}
 use Rattle.hk_core.proofs.kinds.WriteCell.{shades_mean}
-use Rattle.hk_collect.specs.Measure.{is_grey_by, IsCalm, KeepsCalm, SeatsKeepCalm}
+use Rattle.hk_collect.specs.Runs.{is_grey_by}
+use Rattle.hk_collect.specs.Measure.{IsCalm, KeepsCalm, SeatsKeepCalm}
 use Rattle.hk_collect.proofs.MeasureAttempts.{word_kept}
 use Rattle.hk_collect.proofs.MeasureBounds.{fits_at}
 
@@ -74,10 +75,6 @@ calm_each g w w' cycle marks places = record {
 
 calm_same : (g : Geometry) (w w' : Words) → w'.cycle ≡ w.cycle → w'.mark ≡ w.mark → w'.place ≡ w.place → Calmly g w w'
 calm_same g w w' cycle marks places = calm_each g w w' cycle (λ n within. ap (λ (column : ℕ → ℕ). column n) marks) (λ n within. ap (λ (column : ℕ → ℕ). column n) places)
-
--- a number whose mark isn't the cycle, or whose place isn't in the old space, isn't grey
-unmarked_light : (g : Geometry) (w : Words) (n : ℕ) → w.mark n ≢ w.cycle → is_grey_by g w n ≡ false
-unmarked_light g w n other = rw (ne_eqb (w.mark n) w.cycle other) refl
 
 below_light : (g : Geometry) (w : Words) (n : ℕ) → w.place n < (spaces_of g w.cycle).old → is_grey_by g w n ≡ false
 below_light g w n below = elim (cases_Bool (is_grey_by g w n)) [

@@ -2,7 +2,6 @@
 -- a New is given a fresh number.
 use Rattle.std.proofs.Common.{◌≡◌, ℕ, ◌+◌, ◌<◌, ◌≤◌, Bool, true, false, List, [], ◌∷◌, ◌++◌, length, refl, sym, ◌∙◌, ap, subst, arith, Option, Some, None}
 use Rattle.std.proofs.lemmas.Bool.{and_parts, ltb-true, eqb-true}
-use Rattle.std.proofs.lemmas.Bool.Decides.{nat_tests}
 use Rattle.std.proofs.lemmas.List.Sums.{fold-append}
 use Rattle.std.specs.Prelude.{nat_lt, nat_eq, not, ◌&&◌, if◌then◌else◌}
 use Rattle.hk_words.specs.declared.call.Call.{Call}
@@ -36,6 +35,7 @@ use Rattle.hk_core.proofs.Unused.{number_is_fresh}
 use Rattle.hk_core.proofs.kinds.Enter.{object_of}
 use Rattle.hk_collect.specs.Runs.{StandsAt, entered_number, written_by, IsStepInside}
 use Rattle.hk_collect.proofs.EachLine.{collects, lawful_collected}
+use Rattle.hk_collect.proofs.Small.{in_flight}
 
 -- LAWFUL RUNS
 
@@ -196,9 +196,6 @@ if_row false a b row x y = y
 not_true : (b : Bool) → not b ≡ true → b ≡ false
 not_true true e = absurd (cc)
 not_true false e = refl
-
-in_flight : (place : ℕ) → nat_eq place 0 ≡ false → 1 ≤ place
-in_flight place e = grind (arith, nat_tests)
 
 -- what a test of a step says
 busy_seat : (c : State) (seat : ℕ) → is_busy c seat ≡ true → (seat < tasks c.geometry) × (1 ≤ (flight_of c.flights seat).place)

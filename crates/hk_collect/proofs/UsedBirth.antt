@@ -24,7 +24,7 @@ use Rattle.hk_core.specs.Step.{event_by, history_after, new_place, new_reference
 use Rattle.hk_core.specs.View.{Words, words_of, names_of, flight_at}
 use Rattle.hk_core.specs.Flights as f
 use Rattle.hk_core.specs.Lines as l
-use Rattle.hk_core.specs.Colours.{spaces_of, shades_of, held_by, is_within, IsGood}
+use Rattle.hk_core.specs.Colours.{spaces_of, shades_of, held_by, IsGood}
 use Rattle.hk_core.specs.Lawful.{Lawful}
 use Rattle.hk_core.proofs.Next.{history_at_place}
 use Rattle.hk_core.proofs.kinds.LoadRead.{names_number}
@@ -33,9 +33,9 @@ use Rattle.hk_core.proofs.kinds.NewHistory.{made, is_next, names-born}
 use Rattle.hk_core.proofs.kinds.NewSteps.{new_does_6}
 use Rattle.hk_core.proofs.kinds.Seats.{kept_means}
 use Rattle.hk_core.proofs.kinds.WriteRegister.{writing_words}
-use Rattle.hk_collect.specs.Used.{YoungBorn, next_birth, gives_young}
-use Rattle.hk_collect.proofs.UsedCalls.{not_old}
-use Rattle.hk_collect.proofs.UsedFacts.{grey_of, MarksUsed, SpotUsed, marks_same, marks_born, marks_born_young, spot_born, spot_register, word_new}
+use Rattle.hk_collect.specs.Used.{YoungBorn, next_birth, gives_young, stands_claimed}
+use Rattle.hk_collect.proofs.UsedCalls.{not_claimed}
+use Rattle.hk_collect.proofs.UsedFacts.{claimed_of, MarksUsed, SpotUsed, marks_same, marks_born, marks_born_young, spot_born, spot_register, word_new}
 
 -- a New that has written its header, and found room
 pub record IsAboutToBear (x : Flight) : Type 0 where
@@ -114,7 +114,7 @@ module _ (c : State) (history : History) (h : Lawful c history) (s : ℕ) (below
       let raised : y.raised ≡ true = step.raised_by_then (let at = x.at in omega arith) x.room in
       rw x.is_new at ((h.facts.news_found_room s below (rw (x.is_new, x.at, raised, x.room) refl)).words)
 
-  dark : grey_of c.geometry now n ≡ false
+  dark : claimed_of c.geometry now n ≡ false
   dark =
       let g = c.geometry in
       let y = flight_at c s in
@@ -123,8 +123,8 @@ module _ (c : State) (history : History) (h : Lawful c history) (s : ℕ) (below
         | inl same ↦
             let cycle : f.cycle_of y ≡ now.cycle = sym marked ∙ same in
             let words = room_there in
-            let away = not_old g now.cycle (g.live + f.words_before y) (omega arith) in
-            rw placed (and_right _ _ (ap (λ k. is_within (spaces_of g now.cycle) (spaces_of g now.cycle).old (place_at g (k % 2) (g.live + f.words_before y))) cycle ∙ away))
+            let away = not_claimed g now.cycle (g.live + f.words_before y) (omega arith) (omega arith) in
+            rw placed (and_right _ _ (ap (λ k. stands_claimed (spaces_of g now.cycle) (place_at g (k % 2) (g.live + f.words_before y))) cycle ∙ away))
       ]
 
   -- nothing names it yet

@@ -2,7 +2,7 @@
 use Rattle.std.proofs.Common.{◌≡◌, ◌≢◌, ℕ, ◌+◌, ◌*◌, ◌%◌, ◌<◌, ◌≤◌, Bool, true, false, inl, inr, refl, sym, ◌∙◌, ap, arith, List, Option, Some, None}
 use Rattle.std.proofs.lemmas.Bool.{cases_eq, eqb-true, eq-eqb, ne_eqb, and_right}
 use Rattle.std.proofs.lemmas.Bool.Decides.{nat_tests}
-use Rattle.std.specs.Prelude.{nat_eq, nat_le, nat_lt, not, ◌&&◌, if◌then◌else◌}
+use Rattle.std.specs.Prelude.{◌||◌, nat_eq, nat_le, nat_lt, not, ◌&&◌, if◌then◌else◌}
 use Rattle.hk_words.specs.declared.geometry.Geometry.{Geometry}
 use Rattle.hk_words.specs.declared.call.Call.{Call}
 use Rattle.hk_words.specs.declared.call.Call.TheVariants as call
@@ -26,7 +26,7 @@ use Rattle.hk_core.specs.Step.{number_cell, reference_cell, reference_size, rese
 use Rattle.hk_core.specs.View.{Words, words_of, names_of, contents_of, flight_at, shown}
 use Rattle.hk_core.specs.Flights as f
 use Rattle.hk_core.specs.Facts.{IsRecent}
-use Rattle.hk_core.specs.Colours.{spaces_of, shades_of, held_by, grey_by, is_within, IsKeptBirth, IsNullOrKept}
+use Rattle.hk_core.specs.Colours.{spaces_of, shades_of, held_by, is_within, IsKeptBirth, IsNullOrKept}
 use Rattle.hk_core.specs.Lawful.{Lawful}
 use Rattle.hk_core.proofs.Columns.{words_some}
 use Rattle.hk_core.proofs.kinds.ClaimWords.{words-claim}
@@ -37,7 +37,7 @@ use Rattle.hk_core.proofs.kinds.LoadRead.{kept_number, shown_none, shown_birth}
 use Rattle.hk_core.proofs.kinds.NewSteps.{new_does_5}
 use Rattle.hk_core.proofs.kinds.Seats.{kept_means}
 use Rattle.hk_core.proofs.kinds.Words.{words-enter_object, words-leave_object, words-write_register, room_in_object, some_in_object}
-use Rattle.hk_collect.specs.Used.{Closed, IsUsedWord}
+use Rattle.hk_collect.specs.Used.{Closed, IsUsedWord, stands_claimed, claimed_by}
 use Rattle.hk_collect.proofs.UsedFacts.{MarksUsed, SpotUsed, marks_same, marks_agree, marks_claim, marks_place, spot_agree, spot_same, spot_register}
 use Rattle.hk_collect.proofs.UsedRows.{Agrees, agrees_fired, agrees_load, agrees_rest, beside_w0, beside_w1, beside_frame, beside_space}
 
@@ -58,6 +58,19 @@ not_old g cycle x few = elim (cases_eq (cycle % 2) 0) [
 
     past : (from p to : ℕ) → to ≤ p → (nat_le from p && nat_lt p to) ≡ false
     past from p to high = grind (arith, nat_tests)
+
+never : {A : Type 0} → false ≡ true → A
+never e = absurd (cc)
+
+-- a place among the words for allocation of the current space is neither in the old one nor where moved objects stand
+pub not_claimed : (g : Geometry) (cycle x : ℕ) → g.live ≤ x → x < g.live + g.alloc → stands_claimed (spaces_of g cycle) (place_at g (cycle % 2) x) ≡ false
+not_claimed g cycle x above few = neither (is_within (spaces_of g cycle) (spaces_of g cycle).old (place_at g (cycle % 2) x)) _ (not_old g cycle x few) (beyond (spaces_of g cycle).current (place_at g (cycle % 2) x) g.live (omega arith))
+  where
+    neither : (a b : Bool) → a ≡ false → b ≡ false → (a || b) ≡ false
+    neither a b e d = rw (e, d) refl
+
+    beyond : (from p live : ℕ) → from + live ≤ p → (nat_le from p && nat_lt p (from + live)) ≡ false
+    beyond from p live high = grind (arith, nat_tests)
 
 not_null : (word : ℕ) → nat_eq word 0 ≡ false → word ≢ 0
 not_null word e = grind (arith, nat_tests)
@@ -345,7 +358,7 @@ module _ (c : State) (history : History) (h : Lawful c history) (used : ℕ → 
 
     -- the header of a New's number gets a place of the space of the New's cycle: the number isn't grey
     new_dark : (dest : ℕ) (shape : Shape) → (flight_at c s).call ≡ call.New dest shape → (flight_at c s).place ≡ 5 → (flight_at c s).full ≡ false
-        → grey_by (spaces_of c.geometry now.cycle) now.cycle (upd now.place (flight_at c s).number (new_place c.geometry (flight_at c s))) now.mark (flight_at c s).number ≡ false
+        → claimed_by (spaces_of c.geometry now.cycle) now.cycle (upd now.place (flight_at c s).number (new_place c.geometry (flight_at c s))) now.mark (flight_at c s).number ≡ false
     unfolding f.is_making f.has_number f.has_room f.has_raised f.is_new_at f.new_size f.new_size_of
     new_dark dest shape is_new at room =
         let g = c.geometry in
@@ -361,8 +374,8 @@ module _ (c : State) (history : History) (h : Lawful c history) (used : ℕ → 
           | inr other ↦ rw (ne_eqb (now.mark x.number) now.cycle other) refl
           | inl same ↦
               let cycle : f.cycle_of x ≡ now.cycle = sym marked ∙ same in
-              let away = not_old g now.cycle (g.live + f.words_before x) (omega arith) in
-              rw (upd_same now.place x.number (new_place g x)) (and_right _ _ (ap (λ k. is_within (spaces_of g now.cycle) (spaces_of g now.cycle).old (place_at g (k % 2) (g.live + f.words_before x))) cycle ∙ away))
+              let away = not_claimed g now.cycle (g.live + f.words_before x) (omega arith) (omega arith) in
+              rw (upd_same now.place x.number (new_place g x)) (and_right _ _ (ap (λ k. stands_claimed (spaces_of g now.cycle) (place_at g (k % 2) (g.live + f.words_before x))) cycle ∙ away))
         ]
 
     new_heads : (dest : ℕ) (shape : Shape) → (flight_at c s).call ≡ call.New dest shape → (flight_at c s).place ≡ 5 → (flight_at c s).full ≡ false
@@ -376,7 +389,7 @@ module _ (c : State) (history : History) (h : Lawful c history) (used : ℕ → 
         let places : (then_words (Some e)).place ≡ upd now.place x.number (new_place g x) = ap (λ (u : Words). u.place) after' in
         let marked : (then_words (Some e)).mark ≡ now.mark = ap (λ (u : Words). u.mark) after' in (
           marks_place g now (then_words (Some e)) borne used young x.number (new_place g x) cycle marked places
-              (λ within. rw (cycle, places, marked) (new_dark dest shape is_new at room)) marks,
+              (λ within claimed. never (sym (rw (cycle, places, marked) (new_dark dest shape is_new at room)) ∙ claimed)) marks,
           spot_same g now (then_words (Some e)) borne used young c.spot.line c.spot.cell (ap (λ (u : Words). u.register) after') spot,
         )
 

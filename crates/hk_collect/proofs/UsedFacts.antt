@@ -1,8 +1,8 @@
 -- The facts of a traced run after each kind of change of the columns.
-use Rattle.std.proofs.Common.{◌≡◌, ◌≢◌, ℕ, ◌<◌, ◌≤◌, Bool, true, false, inl, inr, sym, ◌∙◌, ap, arith, List, [], ◌∷◌, ◌++◌, Option, Some}
-use Rattle.std.proofs.lemmas.Bool.{cases_eq, and_parts, and_from, eq-eqb}
+use Rattle.std.proofs.Common.{◌≡◌, ◌≢◌, ℕ, ◌+◌, ◌<◌, ◌≤◌, Bool, true, false, inl, inr, sym, ◌∙◌, ap, arith, List, [], ◌∷◌, ◌++◌, Option, Some}
+use Rattle.std.proofs.lemmas.Bool.{cases_eq, and_parts, and_from, or_left, eq-eqb}
 use Rattle.std.proofs.lemmas.List.Elements.{Contains-push_cases}
-use Rattle.std.specs.Prelude.{nat_eq, ◌&&◌, max, Contains}
+use Rattle.std.specs.Prelude.{nat_eq, nat_le, nat_lt, ◌&&◌, max, Contains}
 use Rattle.hk_words.specs.declared.geometry.Geometry.{Geometry}
 use Rattle.hk_words.specs.Geometry.{tasks, numbers}
 use Rattle.hk_words.specs.Layout as layout
@@ -11,18 +11,27 @@ use Rattle.hk_model.proofs.Updates.{upd_same, upd_other}
 use Rattle.hk_core.specs.declared.spot.Line.{Line}
 use Rattle.hk_core.specs.View.{Words}
 use Rattle.hk_core.specs.Lines as l
-use Rattle.hk_core.specs.Colours.{Spaces, spaces_of, grey_by, is_within}
+use Rattle.hk_core.specs.Colours.{Spaces, spaces_of, is_within}
 use Rattle.hk_core.proofs.Update.{upd_cases, upd2_cases}
-use Rattle.hk_collect.specs.Used.{IsUsedWord, AttemptUsed, CellUsed, GreyUsed, YoungMarked}
+use Rattle.hk_collect.specs.Used.{IsUsedWord, AttemptUsed, CellUsed, GreyUsed, YoungMarked, stands_claimed, claimed_by}
+use Rattle.hk_collect.specs.Runs.{is_grey_by}
 use Rattle.hk_collect.proofs.UsedRows.{Agrees}
 
--- what is grey, of the words
-abbrev pub grey_of : Geometry → Words → ℕ → Bool
-grey_of g w = grey_by (spaces_of g w.cycle) w.cycle w.place w.mark
+-- and what was claimed
+abbrev pub claimed_of : Geometry → Words → ℕ → Bool
+claimed_of g w = claimed_by (spaces_of g w.cycle) w.cycle w.place w.mark
+
+-- what is grey was claimed
+pub grey_claimed : (g : Geometry) (w : Words) (n : ℕ) → is_grey_by g w n ≡ true → claimed_of g w n ≡ true
+grey_claimed g w n grey =
+    let z = spaces_of g w.cycle in
+    let p = and_parts (nat_eq (w.mark n) w.cycle) (is_within z z.old (w.place n)) grey in
+    and_from (nat_eq (w.mark n) w.cycle) (stands_claimed z (w.place n)) p.0
+    (or_left (is_within z z.old (w.place n)) (nat_le z.current (w.place n) && nat_lt (w.place n) (z.current + z.live)) p.1)
 
 -- the facts that read marks and places, and those that read the spot
 pub record MarksUsed (g : Geometry) (w : Words) (bearer : ℕ → Option ℕ) (used : ℕ → Type 0) (young : List ℕ) : Type 0 where
-  pub grey : GreyUsed g bearer used young (grey_of g w)
+  pub grey : GreyUsed g bearer used young (claimed_of g w)
   pub young_marked : YoungMarked bearer young w.cycle w.mark
 
 pub record SpotUsed (g : Geometry) (w : Words) (line : Line) (cell : ℕ) (bearer : ℕ → Option ℕ) (used : ℕ → Type 0) : Type 0 where
@@ -46,7 +55,7 @@ module _ (g : Geometry) (w v : Words) (bearer : ℕ → Option ℕ) (used : ℕ 
 
   -- FEWER GREY NUMBERS
 
-  pub marks_fewer : v.cycle ≡ w.cycle → ((n : ℕ) → n < numbers g → grey_of g v n ≡ true → grey_of g w n ≡ true) → ((n : ℕ) → w.mark n ≡ w.cycle → v.mark n ≡ v.cycle)
+  pub marks_fewer : v.cycle ≡ w.cycle → ((n : ℕ) → n < numbers g → claimed_of g v n ≡ true → claimed_of g w n ≡ true) → ((n : ℕ) → w.mark n ≡ w.cycle → v.mark n ≡ v.cycle)
       → MarksUsed g w bearer used young → MarksUsed g v bearer used young
   marks_fewer cycle fewer still h = record {
     grey = λ n within e. h.grey n within (fewer n within e);
@@ -60,7 +69,7 @@ module _ (g : Geometry) (w v : Words) (bearer : ℕ → Option ℕ) (used : ℕ 
       → MarksUsed g w bearer used young → MarksUsed g v bearer used young
   marks_claim n k b cycle places marks few bears is h = rw (cycle, places, marks) (record {
     grey = λ m within grey. elim (cases_eq m n) [
-      | inr d ↦ h.grey m within (ap (λ j. nat_eq j w.cycle && is_within z z.old (w.place m)) (sym (upd_other w.mark n _ m d)) ∙ grey)
+      | inr d ↦ h.grey m within (ap (λ j. nat_eq j w.cycle && stands_claimed z (w.place m)) (sym (upd_other w.mark n _ m d)) ∙ grey)
       | inl e ↦ elim (cases_eq (w.mark n) w.cycle) [
         | inl was ↦
             let p = and_parts _ _ grey in
@@ -81,20 +90,17 @@ module _ (g : Geometry) (w v : Words) (bearer : ℕ → Option ℕ) (used : ℕ 
   -- A PLACE
 
   -- a number gets another place, where it isn't grey
-  pub marks_place : (n p : ℕ) → v.cycle ≡ w.cycle → v.mark ≡ w.mark → v.place ≡ upd w.place n p → (n < numbers g → grey_of g v n ≡ false)
+  pub marks_place : (n p : ℕ) → v.cycle ≡ w.cycle → v.mark ≡ w.mark → v.place ≡ upd w.place n p → (n < numbers g → claimed_of g v n ≡ true → claimed_of g w n ≡ true)
       → MarksUsed g w bearer used young → MarksUsed g v bearer used young
-  marks_place n p cycle marks places dark h =
+  marks_place n p cycle marks places before h =
       marks_fewer cycle
       (λ m within grey. elim (cases_eq m n) [
-        | inl e ↦ never (sym (dark (rw (← e) within)) ∙ ap (grey_of g v) (sym e) ∙ grey)
+        | inl e ↦ ap (claimed_of g w) e ∙ before (rw (← e) within) (ap (claimed_of g v) (sym e) ∙ grey)
         | inr d ↦
             let same : v.place m ≡ w.place m = ap (λ f. f m) places ∙ upd_other w.place n p m d in
             rw (cycle, marks, same) at grey
       ])
       (λ m e. ap (λ f. f m) marks ∙ e ∙ sym cycle) h
-    where
-      never : {A : Type 0} → false ≡ true → A
-      never e = absurd (cc)
 
   -- A REGISTER
 
@@ -128,11 +134,11 @@ module _ (g : Geometry) (bearer : ℕ → Option ℕ) (used : ℕ → Type 0) (n
   }
 
   -- a number that isn't grey gets a new birth: one that isn't young, and one that is
-  pub marks_born : (w : Words) (young : List ℕ) → grey_of g w n ≡ false → ((m : ℕ) → bearer m ≢ Some b) → ¬ Contains young b
+  pub marks_born : (w : Words) (young : List ℕ) → claimed_of g w n ≡ false → ((m : ℕ) → bearer m ≢ Some b) → ¬ Contains young b
       → MarksUsed g w bearer used young → MarksUsed g w (upd bearer n (Some b)) used young
   marks_born w young dark unborn old h = record {
     grey = λ m within grey. let found = h.grey m within grey in elim (cases_eq m n) [
-      | inl e ↦ never (sym dark ∙ ap (grey_of g w) (sym e) ∙ grey)
+      | inl e ↦ never (sym dark ∙ ap (claimed_of g w) (sym e) ∙ grey)
       | inr d ↦ (found.0, upd_other bearer n (Some b) m d ∙ found.1, found.2, found.3)
     ];
     young_marked = λ m c bears young'. elim (upd_cases bearer n (Some b) m) [
@@ -144,11 +150,11 @@ module _ (g : Geometry) (bearer : ℕ → Option ℕ) (used : ℕ → Type 0) (n
       never : {A : Type 0} → false ≡ true → A
       never e = absurd (cc)
 
-  pub marks_born_young : (w : Words) (young : List ℕ) → grey_of g w n ≡ false → ((m : ℕ) → bearer m ≢ Some b) → w.mark n ≡ w.cycle
+  pub marks_born_young : (w : Words) (young : List ℕ) → claimed_of g w n ≡ false → ((m : ℕ) → bearer m ≢ Some b) → w.mark n ≡ w.cycle
       → MarksUsed g w bearer used young → MarksUsed g w (upd bearer n (Some b)) used (young ++ b ∷ [])
   marks_born_young w young dark unborn marked h = record {
     grey = λ m within grey. let found = h.grey m within grey in elim (cases_eq m n) [
-      | inl e ↦ never (sym dark ∙ ap (grey_of g w) (sym e) ∙ grey)
+      | inl e ↦ never (sym dark ∙ ap (claimed_of g w) (sym e) ∙ grey)
       | inr d ↦ (
         found.0,
         upd_other bearer n (Some b) m d ∙ found.1,

@@ -1,37 +1,39 @@
 -- The laws of traced runs, from the facts that hold of them.
-use Rattle.std.proofs.Common.{◌≡◌, ◌⊎◌, ℕ, ◌+◌, ◌<◌, ◌≤◌, Bool, true, false, inl, inr, refl, sym, ◌∙◌, ap, arith, List, [], ◌∷◌, Option, Some, None}
-use Rattle.std.proofs.lemmas.Bool.{cases_Bool, and_from, and_parts, lt-ltb, ltb-true, eq-eqb}
-use Rattle.std.proofs.lemmas.List.Elements.{Contains-push}
-use Rattle.std.specs.Prelude.{nat_eq, nat_lt, fold, Contains, if◌then◌else◌}
+use Rattle.std.proofs.Common.{◌≡◌, ℕ, ◌<◌, ◌≤◌, Bool, true, false, inl, inr, refl, sym, subst, ◌∙◌, ap, arith, List, [], ◌∷◌}
+use Rattle.std.proofs.lemmas.Bool.{cases_Bool, and_left, and_right, and_parts, lt-ltb, ltb-true}
+use Rattle.std.specs.Prelude.{nat_eq, nat_lt, fold, Some, if◌then◌else◌}
 use Rattle.hk_words.specs.declared.geometry.Geometry.{Geometry}
-use Rattle.hk_words.specs.declared.call.Call.{Call}
 use Rattle.hk_words.specs.Geometry.{tasks, numbers}
 use Rattle.hk_words.specs.Layout as layout
 use Rattle.hk_words.specs.Row.{word_of}
 use Rattle.hk_words.specs.Row.Slot.{Header}
-use Rattle.hk_core.specs.declared.flight.Flight.{Flight}
-use Rattle.hk_core.specs.declared.outcome.Fault.{Fault}
-use Rattle.hk_core.specs.Begin.{refusal, accepted, after_begin, begun_or}
+use Rattle.hk_model.specs.Heap.{opening_of}
+use Rattle.hk_model.specs.History.{History, bearer}
+use Rattle.hk_model.proofs.Histories.{bearer_is_last, length-numbers_born}
 use Rattle.hk_core.specs.Collect as collects
 use Rattle.hk_core.specs.Collect.{next_collected, work_by_collector}
 use Rattle.hk_core.specs.Flights as f
 use Rattle.hk_core.specs.Flights.{Hand, to_reserve, hand_of_flight}
-use Rattle.hk_core.specs.Run.{Action, Running, begin, step, collect, act, is_busy, may_begin, run, run_from_opening}
+use Rattle.hk_core.specs.Run.{Action, Running, begin, step, collect, act, run, run_from_opening}
 use Rattle.hk_core.specs.State.{State, opening, flight_of}
 use Rattle.hk_core.specs.Step as table
 use Rattle.hk_core.specs.Step.{reference_size, next, history_after}
 use Rattle.hk_core.specs.View.{words_of, decoded, raw, word_if, names_of, flight_at}
 use Rattle.hk_core.specs.Colours.{spaces_of, shades_of, is_within}
-use Rattle.hk_core.specs.Lawful.{hands_of}
+use Rattle.hk_core.specs.Lawful.{Lawful, hands_of}
+use Rattle.hk_core.proofs.Update.{upd_cases}
 use Rattle.hk_collect.proofs.spots.SpotClaim.{own_hand}
-use Rattle.hk_collect.specs.Used.{Trace, BearsUsed, CollectKeepsLawful, TracedIsRun, TracedKeepsGeometry, OthersAreLate, ReservedWasUsed, HeldWasUsed, CallsReserveUsed, CollectorReservesUsed, gives_young, is_flip, is_grey, next_birth, trace_act, trace_opening, traced}
-use Rattle.hk_collect.proofs.UsedBirth.{about_to_bear}
+use Rattle.hk_collect.specs.Measure.{NoneInFlight}
+use Rattle.hk_collect.specs.Used.{Trace, BearsUsed, TracedIsRun, TracedKeepsGeometry, LateIsLater, NoneLate, KeepsNoneLate, ClaimedWasUsed, is_claimed, ReservedWasUsed, HeldWasUsed, CallsReserveUsed, CollectorReservesUsed, bears_next, is_raising, is_flip, next_birth, trace_act, trace_opening, traced}
+use Rattle.hk_collect.specs.Runs.{is_grey}
+use Rattle.hk_collect.proofs.Running.{geometry_from_opening}
+use Rattle.hk_collect.proofs.Small.{by_test, not_making_yet}
+use Rattle.hk_collect.proofs.UsedFacts.{grey_claimed}
 use Rattle.hk_collect.proofs.UsedMarks.{zero_not_old}
 use Rattle.hk_collect.proofs.UsedReserves.{call_reserves, line_reserves}
-use Rattle.hk_collect.proofs.UsedTrace.{InUse, in_use_traced}
-
-never : {A : Type 0} → false ≡ true → A
-never e = absurd (cc)
+use Rattle.hk_collect.proofs.UsedRuns.{InUse, in_use_traced}
+use Rattle.hk_collect.proofs.UsedTrace.{one_at_start}
+use Rattle.hk_core.proofs.Shared.{never}
 
 -- TRACED RUNS ARE RUNS
 
@@ -42,7 +44,7 @@ either false a b k one other = other
 trace_runs : (r : Trace) (a : Action) → (trace_act r a).running ≡ act r.running a
 unfolding trace_act
 trace_runs r (begin seat call) = refl
-trace_runs r (step seat) = refl
+trace_runs r (step seat) = either (bears_next r.running.core seat) _ _ (act r.running (step seat)) refl refl
 trace_runs r collect = either (is_flip (work_by_collector r.running.core)) _ _ (act r.running collect) refl refl
 
 fold_runs : (r : Trace) (k : Running) (actions : List Action) → r.running ≡ k → (fold trace_act r actions).running ≡ fold act k actions
@@ -54,50 +56,46 @@ unfolding traced trace_opening run_from_opening run
 traced_is_run g actions = fold_runs (trace_opening g) (record { core = opening g; history = [] }) actions refl
 
 -- their geometry stays
-begin_keeps : (c : State) (seat : ℕ) (call : Call) → (after_begin c seat call).geometry ≡ c.geometry
-unfolding after_begin accepted
-begin_keeps c seat call = by_fault (refusal c seat call)
-  where
-    by_fault : (fault : Option Fault) → (begun_or fault (accepted c seat call) c).geometry ≡ c.geometry
-    by_fault None = refl
-    by_fault (Some fault) = refl
-
-act_keeps : (r : Running) (a : Action) → (act r a).core.geometry ≡ r.core.geometry
-unfolding act next next_collected
-act_keeps r (begin seat call) = by_test (may_begin r.core seat call)
-  where
-    by_test : (test : Bool) → (if test then record r { core = after_begin r.core seat call } else r).core.geometry ≡ r.core.geometry
-    by_test true = begin_keeps r.core seat call
-    by_test false = refl
-act_keeps r (step seat) = by_test (is_busy r.core seat)
-  where
-    by_test : (test : Bool) → (if test then record { core = next r.core seat; history = history_after r.core seat r.history } else r).core.geometry ≡ r.core.geometry
-    by_test true = refl
-    by_test false = refl
-act_keeps r collect = refl
-
-fold_keeps : (r : Trace) (g : Geometry) (actions : List Action) → r.running.core.geometry ≡ g → (fold trace_act r actions).running.core.geometry ≡ g
-fold_keeps r g [] e = e
-fold_keeps r g (a ∷ later) e = fold_keeps (trace_act r a) g later (ap (λ (k : Running). k.core.geometry) (trace_runs r a) ∙ act_keeps r.running a ∙ e)
-
 pub traced_keeps_geometry : TracedKeepsGeometry
-unfolding traced trace_opening opening
-traced_keeps_geometry g actions = fold_keeps (trace_opening g) g actions refl
+traced_keeps_geometry g actions = ap (λ (k : Running). k.core.geometry) (traced_is_run g actions) ∙ geometry_from_opening g actions
 
 -- WHAT IS GREY WAS IN USE
 
-grey_was_used : (r : Trace) → InUse r → (n : ℕ) → n < numbers r.running.core.geometry → is_grey r.running.core n ≡ true → BearsUsed r n
-unfolding is_grey names_of
-grey_was_used r o n within grey =
-    let found = o.uses.marks.grey n within grey in
-    (found.0, found.1, record { used = found.2; not_young = found.3 })
+-- a number is borne by one of the births that there are
+pub borne_there : (c : State) (history : History) (n b : ℕ) → Lawful c history → bearer history n ≡ Some b → b < next_birth c.geometry history
+borne_there c history n b h bears =
+    let last = ((bearer_is_last history n b).0 bears).0 in
+    omega (arith, last, length-numbers_born (opening_of c.geometry) history (one_at_start c.geometry) h.legal)
 
-pub grey_numbers_were_used : CollectKeepsLawful → ReservedWasUsed
-grey_numbers_were_used keeps g actions n within grey = grey_was_used (traced g actions) (in_use_traced keeps g actions) n within grey
+pub claimed_was_used : (r : Trace) → InUse r → (n : ℕ) → n < numbers r.running.core.geometry → is_claimed r.running.core n ≡ true → BearsUsed r n
+unfolding is_claimed names_of
+claimed_was_used r o n within claimed =
+    let found = o.uses.marks.grey n within claimed in (
+      found.0,
+      found.1,
+      elim found.2 [
+        | inl reached ↦ inl reached
+        | inr later ↦ elim (o.since.each found.0 later (borne_there r.running.core r.running.history n found.0 o.lawful found.1)) [
+          | inl young ↦ absurd (found.3 young)
+          | inr late ↦ inr late
+        ]
+      ],
+    )
+
+pub claimed_numbers_were_used : ClaimedWasUsed
+claimed_numbers_were_used g actions n within claimed = claimed_was_used (traced g actions) (in_use_traced g actions) n within claimed
+
+grey_was_used : (r : Trace) → InUse r → (n : ℕ) → n < numbers r.running.core.geometry → is_grey r.running.core n ≡ true → BearsUsed r n
+unfolding is_claimed
+grey_was_used r o n within grey =
+    claimed_was_used r o n within (grey_claimed r.running.core.geometry (words_of r.running.core.geometry r.running.core.row) n grey)
+
+pub grey_numbers_were_used : ReservedWasUsed
+grey_numbers_were_used g actions n within grey = grey_was_used (traced g actions) (in_use_traced g actions) n within grey
 
 -- a grey number is one of the geometry
 grey_within : (c : State) (n : ℕ) → is_grey c n ≡ true → n < numbers c.geometry
-unfolding is_grey words_of decoded raw word_if
+unfolding words_of decoded raw word_if
 grey_within c n grey = elim (cases_Bool (nat_lt n (numbers c.geometry))) [
   | inl within ↦ ltb-true n (numbers c.geometry) within
   | inr out ↦
@@ -111,7 +109,7 @@ grey_within c n grey = elim (cases_Bool (nat_lt n (numbers c.geometry))) [
 
 held_used : (r : Trace) → InUse r → (k item cycle : ℕ) → k ≤ tasks r.running.core.geometry
     → hands_of r.running.core.geometry (flight_at r.running.core) r.running.core.spot k ≡ to_reserve item cycle → BearsUsed r (layout.reference_number item)
-unfolding is_grey shades_of
+unfolding shades_of
 held_used r o k item cycle few holds =
     let grey = holder_grey in
     grey_was_used r o (layout.reference_number item) (grey_within r.running.core (layout.reference_number item) grey) grey
@@ -119,61 +117,66 @@ held_used r o k item cycle few holds =
     holder_grey : is_grey r.running.core (layout.reference_number item) ≡ true
     holder_grey = (o.lawful.facts.claims_unreserved k item cycle few holds).is_grey
 
-pub held_was_used : CollectKeepsLawful → HeldWasUsed
-held_was_used keeps g actions k item cycle few holds = held_used (traced g actions) (in_use_traced keeps g actions) k item cycle few holds
+pub held_was_used : HeldWasUsed
+held_was_used g actions k item cycle few holds = held_used (traced g actions) (in_use_traced g actions) k item cycle few holds
 
 -- THE LAWS
 
-pub calls_reserve_used : CollectKeepsLawful → CallsReserveUsed
+pub calls_reserve_used : CallsReserveUsed
 unfolding table.event_by flight_at hands_of
-calls_reserve_used keeps g actions seat words below e =
+calls_reserve_used g actions seat words below e =
     let r = traced g actions in
     let c = r.running.core in
     let x = flight_of c.flights seat in
     let found = call_reserves c.geometry x words e in
     let holds : hands_of c.geometry (flight_at c) c.spot seat ≡ to_reserve x.item (layout.w0_cycle x.word) = rw (lt-ltb seat (tasks c.geometry) below) found.1 in
-    (found.0, held_used r (in_use_traced keeps g actions) seat x.item (layout.w0_cycle x.word) (omega arith) holds)
+    (found.0, held_used r (in_use_traced g actions) seat x.item (layout.w0_cycle x.word) (omega arith) holds)
 
-pub collector_reserves_used : CollectKeepsLawful → CollectorReservesUsed
+pub collector_reserves_used : CollectorReservesUsed
 unfolding collects.event_by_collector collects.spot_event
-collector_reserves_used keeps g actions words e =
+collector_reserves_used g actions words e =
     let r = traced g actions in
     let c = r.running.core in
     let t = c.spot in
     let found = line_reserves c.geometry t t.line refl words e in
-    (found.0, held_used r (in_use_traced keeps g actions) (tasks c.geometry) t.cell t.cycle (omega arith) (own_hand c.geometry (flight_at c) t ∙ found.1))
+    (found.0, held_used r (in_use_traced g actions) (tasks c.geometry) t.cell t.cycle (omega arith) (own_hand c.geometry (flight_at c) t ∙ found.1))
 
--- a New that has its header has raised W0
-header_raised : (x : Flight) → f.IsInStep x → f.has_header x ≡ true → f.has_raised x ≡ true
-unfolding f.has_raised f.is_new_at
-header_raised x news has =
-    let about = about_to_bear x has in
-    let in_step : f.IsNewInStep x.place x.full x.raised = rw about.is_new at news in
-    let raised : x.raised ≡ true = in_step.raised_by_then (let at = about.at in omega arith) about.room in
-    rw (about.is_new, about.at, raised) refl
+-- LATE BIRTHS
 
-pub others_are_late : CollectKeepsLawful → OthersAreLate
-unfolding trace_act flight_at
-others_are_late keeps g actions seat below has = by_young (gives_young (traced g actions).running.core seat) refl
+pub late_is_later : LateIsLater
+late_is_later g actions birth there =
+    let r = traced g actions in
+    subst (λ (k : Geometry). (next_birth k r.at_flip ≤ birth) × (birth < next_birth k r.running.history)) (traced_keeps_geometry g actions) ((in_use_traced g actions).since.late_born birth there)
+
+none_late_step : (r : Trace) (seat : ℕ) → NoneLate r → NoneLate (trace_act r (step seat))
+unfolding trace_act
+none_late_step r seat o = by_test NoneLate (bears_next r.running.core seat) _ _
+    (λ _. record {
+      none_raised = λ other. elim (upd_cases r.raised seat false other) [ inl (e, q) ↦ q | inr (d, q) ↦ q ∙ o.none_raised other ];
+      none_late = rw (o.none_raised seat) o.none_late;
+    })
+    (λ _. record { none_raised = o.none_raised; none_late = o.none_late })
+
+none_late_collect : (r : Trace) → (is_flip (work_by_collector r.running.core) ≡ true → NoneInFlight r.running.core) → NoneLate r → NoneLate (trace_act r collect)
+unfolding trace_act
+none_late_collect r idle o = by_test NoneLate (is_flip (work_by_collector r.running.core)) _ _
+    (λ flips. record { none_raised = λ seat. none_raising seat (idle flips); none_late = refl })
+    (λ _. record { none_raised = o.none_raised; none_late = o.none_late })
   where
-    by_young : (young : Bool) → gives_young (traced g actions).running.core seat ≡ young
-        → Contains (trace_act (traced g actions) (step seat)).young (next_birth (traced g actions).running.core.geometry (traced g actions).running.history)
-        ⊎ (f.cycle_of (flight_of (traced g actions).running.core.flights seat) + 1 ≡ (words_of (traced g actions).running.core.geometry (traced g actions).running.core.row).cycle)
-    by_young true e =
-        let r = traced g actions in
-        let c = r.running.core in
-        let b = next_birth c.geometry r.running.history in
-        let about = about_to_bear (flight_of c.flights seat) has in
-        let busy : is_busy c seat ≡ true = rw (lt-ltb seat (tasks c.geometry) below, about.at) refl in
-        inl (rw (busy, e) (Contains-push r.young b))
-    by_young false e =
-        let r = traced g actions in
-        let c = r.running.core in
-        let o = in_use_traced keeps g actions in
-        let x = flight_of c.flights seat in
-        let raised = header_raised x (o.lawful.facts.news_in_step seat below) has in
-        let w = words_of c.geometry c.row in
-        elim (o.lawful.facts.news_recent seat below raised) [
-          | inl same ↦ never (sym e ∙ and_from _ _ has (eq-eqb (f.cycle_of x) w.cycle same))
-          | inr before ↦ inr before
-        ]
+    none_raising : (seat : ℕ) → NoneInFlight r.running.core → is_raising r.running.core seat ≡ false
+    none_raising seat aside = elim (cases_Bool (nat_lt seat (tasks r.running.core.geometry))) [
+      | inl within ↦
+          let x = flight_of r.running.core.flights seat in
+          let at = aside seat (ltb-true seat (tasks r.running.core.geometry) within) in
+          and_right (nat_lt seat (tasks r.running.core.geometry)) (f.is_making x) (not_making_yet x (omega (arith, at)))
+      | inr out ↦ and_left (nat_lt seat (tasks r.running.core.geometry)) (f.is_making (flight_of r.running.core.flights seat)) out
+    ]
+
+pub keeps_none_late : KeepsNoneLate
+unfolding trace_act trace_opening
+keeps_none_late = record {
+  opening = λ g. record { none_raised = λ seat. refl; none_late = refl };
+  begin = λ r seat call o. record { none_raised = o.none_raised; none_late = o.none_late };
+  step = none_late_step;
+  collect = none_late_collect;
+}

@@ -1,8 +1,8 @@
 -- What is in use after an event of the collector: marks and places, but for the flip, and no register changes.
-use Rattle.std.proofs.Common.{◌≡◌, ℕ, ◌+◌, ◌%◌, ◌<◌, ◌≤◌, Bool, true, false, inl, inr, refl, sym, ◌∙◌, ap, arith, subst, List, Option, Some, None}
+use Rattle.std.proofs.Common.{◌≡◌, ℕ, ◌+◌, ◌<◌, ◌≤◌, Bool, true, false, inl, inr, refl, sym, ◌∙◌, ap, arith, subst, List, Option, Some, None}
 use Rattle.std.proofs.lemmas.Bool.{cases_eq, eqb-true, and_parts, and_right}
 use Rattle.std.proofs.lemmas.Bool.Decides.{nat_tests}
-use Rattle.std.specs.Prelude.{nat_eq, nat_le, nat_lt, ◌&&◌, if◌then◌else◌}
+use Rattle.std.specs.Prelude.{nat_eq, nat_le, nat_lt, ◌&&◌, ◌||◌, if◌then◌else◌}
 use Rattle.hk_words.specs.Geometry.{tasks, numbers, list_length}
 use Rattle.hk_words.specs.Layout as layout
 use Rattle.hk_words.specs.Row.{place_at, w0_at, w1_at, header_at, mark_at, frame_at, register_at, entry_at, space_at, word_of}
@@ -21,19 +21,21 @@ use Rattle.hk_core.specs.Collect.{last_cycle, current_space, old_space, next_lis
 use Rattle.hk_core.specs.Event.{fired_if, word_after, old_of}
 use Rattle.hk_core.specs.State.{State}
 use Rattle.hk_core.specs.Step.{reference_size}
-use Rattle.hk_core.specs.View.{Words, words_of, names_of, contents_of, flight_at, begun_at}
+use Rattle.hk_core.specs.View.{Words, words_of, names_of, contents_of, flight_at, begun_at, reference_at}
 use Rattle.hk_core.specs.Lines as l
-use Rattle.hk_core.specs.Colours.{Spaces, spaces_of, is_within}
+use Rattle.hk_core.specs.Colours.{Spaces, spaces_of, shades_of, is_within}
 use Rattle.hk_core.specs.Lawful.{Lawful}
 use Rattle.hk_core.proofs.Columns.{fired_kept, old_at, words_some}
 use Rattle.hk_core.proofs.Inside.{shapes_fit}
 use Rattle.hk_core.proofs.kinds.ClaimWords.{words-claim}
 use Rattle.hk_core.proofs.kinds.Seats.{kept_means}
+use Rattle.hk_core.proofs.kinds.WriteCell.{reference_parts}
 use Rattle.hk_collect.proofs.spots.SpotMove.{item_there}
-use Rattle.hk_collect.proofs.spots.SpotMoveRows.{words-move}
+use Rattle.hk_collect.proofs.spots.SpotWords.{words-move}
 use Rattle.hk_collect.proofs.spots.SpotSweepRow.{words-write_mark, words-empty_header}
-use Rattle.hk_collect.proofs.UsedCalls.{not_old, used_some}
-use Rattle.hk_collect.proofs.UsedFacts.{MarksUsed, SpotUsed, marks_agree, marks_claim, marks_fewer, marks_place}
+use Rattle.hk_collect.proofs.UsedCalls.{used_some}
+use Rattle.hk_collect.specs.Used.{stands_claimed}
+use Rattle.hk_collect.proofs.UsedFacts.{claimed_of, grey_claimed, MarksUsed, SpotUsed, marks_agree, marks_claim, marks_fewer, marks_place}
 use Rattle.hk_collect.proofs.UsedRows.{Agrees, agrees_fired, agrees_load, agrees_rest, agrees_same, beside_w0, beside_w1, beside_frame, beside_entry, beside_space}
 
 -- no word of the old space stands at place 0
@@ -42,6 +44,19 @@ zero_not_old z some = outside z.old (z.old + (z.live + z.alloc)) some
   where
     outside : (from to : ℕ) → 1 ≤ from → (nat_le from 0 && nat_lt 0 to) ≡ false
     outside from to some = grind (arith, nat_tests)
+
+-- nor among those where moved objects stand
+pub zero_not_claimed : (z : Spaces) → 1 ≤ z.old → 1 ≤ z.current → stands_claimed z 0 ≡ false
+zero_not_claimed z some more = neither _ _ (zero_not_old z some) (outside z.current (z.current + z.live) more)
+  where
+    neither : (a b : Bool) → a ≡ false → b ≡ false → (a || b) ≡ false
+    neither a b e d = rw (e, d) refl
+
+    outside : (from to : ℕ) → 1 ≤ from → (nat_le from 0 && nat_lt 0 to) ≡ false
+    outside from to some = grind (arith, nat_tests)
+
+never : {A : Type 0} → false ≡ true → A
+never e = absurd (cc)
 
 module _ (c : State) (history : History) (h : Lawful c history) (used : ℕ → Type 0) (young : List ℕ) where
   abbrev pub now : Words
@@ -104,12 +119,23 @@ module _ (c : State) (history : History) (h : Lawful c history) (used : ℕ → 
 
     -- THE EXCHANGE OF A HEADER
 
-    place_few : c.spot.line ≡ line.ObjectTrade → c.spot.scan < c.geometry.live + c.geometry.alloc
-    unfolding l.is_resting
-    place_few at =
-        let bounded = h.facts.scan_bounded (ap l.is_resting at) in
-        let low : c.spot.scan ≤ c.geometry.live = bounded.1 in
-        omega (arith, c.geometry.alloc_enough)
+    -- the object that is moved was claimed
+    item_claimed : c.spot.line ≡ line.ObjectTrade → claimed_of c.geometry now (moved_number c.spot) ≡ true
+    unfolding shades_of l.has_item l.is_at_range
+    item_claimed at =
+        let g = c.geometry in
+        let names = names_of g history in
+        let found = h.facts.scan_at_range (ap l.is_at_range at) in
+        let link = h.facts.item_is_linked (ap l.has_item at) in
+        let k = found.0 in
+        let both = h.facts.ranges_above_grey c.spot.scan k found.1 (omega arith) in
+        let shows : c.spot.item ≡ reference_at names k = elim (h.facts.ranges_linked c.spot.scan k found.1 found.2) [
+          | inl unlinked ↦ absurd (link.0 (sym link.1 ∙ unlinked))
+          | inr linked ↦ sym link.1 ∙ linked
+        ] in
+        let within = (kept_means g now (flight_at c) c.spot.line names k both.0).within in
+        let number : moved_number c.spot ≡ k = (reference_parts g names k c.spot.item within (shapes_fit g history) shows).0 in
+        ap (claimed_of g now) number ∙ grey_claimed g now k both.1
 
     moves : c.spot.line ≡ line.ObjectTrade → KeepsMarks (table.object_trade_event c.geometry c.spot)
     unfolding table.object_trade_event
@@ -128,12 +154,9 @@ module _ (c : State) (history : History) (h : Lawful c history) (used : ℕ → 
             let e' = event.Trade (header_at g n) t.first (layout.header_moved t.first p) in
             let there = item_there g now (flight_at c) (begun_at c) t (names_of g history) (contents_of g history) h.range at h.facts (shapes_fit g history) in
             let after' = words_some g c.row e' _ (words-move g c.row h.sized.row n t.first p there.within there.few (eqb-true _ _ e)) in
-            let places : (then_words (Some e')).place ≡ upd now.place n p = ap (λ (u : Words). u.place) after' in
-            let away = not_old g now.cycle t.scan (place_few at) in
-            let out : is_within (spaces_of g now.cycle) (spaces_of g now.cycle).old p ≡ false =
-            ap (λ k. is_within (spaces_of g now.cycle) (spaces_of g now.cycle).old (place_at g (k % 2) t.scan)) knows ∙ away in (
+            let places : (then_words (Some e')).place ≡ upd now.place n p = ap (λ (u : Words). u.place) after' in (
               (λ cycle. marks_place g now (then_words (Some e')) borne used young n p cycle (ap (λ (u : Words). u.mark) after') places
-                  (λ within. rw (cycle, places, upd_same now.place n p) (and_right _ _ out)) marks),
+                  (λ within claimed. item_claimed at) marks),
               ap (λ (u : Words). u.register) after',
             )
         by_word false e =
@@ -185,7 +208,7 @@ module _ (c : State) (history : History) (h : Lawful c history) (used : ℕ → 
         let after' = words_some g c.row e _ (words-empty_header g c.row h.sized.row n fits.0) in
         let places : (then_words (Some e)).place ≡ upd now.place n 0 = ap (λ (u : Words). u.place) after' in (
           (λ cycle. marks_place g now (then_words (Some e)) borne used young n 0 cycle (ap (λ (u : Words). u.mark) after') places
-              (λ within. rw (cycle, places, upd_same now.place n 0) (and_right _ _ (zero_not_old (spaces_of g now.cycle) (omega arith)))) marks),
+              (λ within claimed. never (sym (rw (cycle, places, upd_same now.place n 0) (and_right _ _ (zero_not_claimed (spaces_of g now.cycle) (omega arith) (omega arith)))) ∙ claimed)) marks),
           ap (λ (u : Words). u.register) after',
         )
 

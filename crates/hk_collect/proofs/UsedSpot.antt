@@ -40,7 +40,9 @@ use Rattle.hk_collect.proofs.spots.SpotLoadsRow.{found-frame, found-register, sp
 use Rattle.hk_core.proofs.kinds.WriteCell.{shades_mean}
 use Rattle.hk_collect.specs.Used.{Closed, IsUsedWord}
 use Rattle.hk_collect.proofs.UsedCalls.{word_used}
-use Rattle.hk_collect.proofs.UsedFacts.{grey_of, MarksUsed, SpotUsed}
+use Rattle.hk_collect.specs.Runs.{is_grey_by}
+use Rattle.hk_collect.proofs.UsedFacts.{grey_claimed, MarksUsed, SpotUsed}
+use Rattle.hk_core.proofs.Shared.{never, never_some}
 
 -- a call that holds a register back is inside its frame, unless it rests
 back_in_frame : (x : Flight) (r : ℕ) → f.is_resting x ≡ false → f.holds_back x r ≡ true → f.in_frame x ≡ true
@@ -77,12 +79,6 @@ back_is_busy x r step back = each x.call step back
     each (call.Same a b) o e = absurd (cc)
     each (call.IsNull reg) o e = absurd (cc)
 
-none : {A B : Type 0} (x : B) → None ≡ Some x → A
-none x e = absurd (cc)
-
-never : {A : Type 0} → false ≡ true → A
-never e = absurd (cc)
-
 no_accessors : (b : Bool) → ◌≡◌ {A = ℕ} (if b then 1 else 0) 0 → b ≡ false
 no_accessors true e = absurd (omega arith)
 no_accessors false e = refl
@@ -104,7 +100,7 @@ module _ (c : State) (history : History) (h : Lawful c history) (used : ℕ → 
   -- no attempt and no reference
   idle : (u : Spot) → l.frame_attempt c.geometry u.line ≡ None → l.has_reference u.line ≡ false → Stands u
   idle u no_attempt no_reference = record {
-    attempt = λ s passed r at seat reg. none (s, passed) (sym no_attempt ∙ at);
+    attempt = λ s passed r at seat reg. never_some (sym no_attempt ∙ at);
     in_work = λ deals. never (sym no_reference ∙ deals);
   }
 
@@ -120,7 +116,7 @@ module _ (c : State) (history : History) (h : Lawful c history) (used : ℕ → 
 
   at_cell_of : (u : Spot) → l.frame_attempt c.geometry u.line ≡ None → (l.has_reference u.line ≡ true → IsUsedWord borne used u.cell) → Stands u
   at_cell_of u no_attempt deals = record {
-    attempt = λ s passed r at seat reg. none (s, passed) (sym no_attempt ∙ at);
+    attempt = λ s passed r at seat reg. never_some (sym no_attempt ∙ at);
     in_work = deals;
   }
 
@@ -176,8 +172,8 @@ module _ (c : State) (history : History) (h : Lawful c history) (used : ℕ → 
         ] in
         let within : k < numbers g = (kept_means g now (flight_at c) t.line names k both.0).within in
         let number : moved_number t ≡ k = number_of_reference g names k t.item within shows in
-        let grey : grey_of g now k ≡ true = both.1 in
-        let is = marks.grey k within grey in
+        let grey : is_grey_by g now k ≡ true = both.1 in
+        let is = marks.grey k within (grey_claimed g now k grey) in
         let same : Some is.0 ≡ Some b = sym is.1 ∙ ap borne (sym number) ∙ bears in
         let one : is.0 ≡ b = cc in
         rw (← one) is.2

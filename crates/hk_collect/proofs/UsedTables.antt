@@ -1,6 +1,6 @@
 -- The tables of seats and collector, as far as what is in use needs them: which entries make no birth, which lines keep the
 -- cycle, and which event is the flip.
-use Rattle.std.proofs.Common.{◌≡◌, ◌≢◌, ◌⊎◌, ℕ, ◌+◌, ◌≤◌, Bool, true, false, inl, inr, refl, sym, ◌∙◌, ap, arith, List, [], ◌∷◌, ◌++◌, Option, None}
+use Rattle.std.proofs.Common.{◌≡◌, ◌≢◌, ◌⊎◌, ℕ, ◌+◌, ◌≤◌, Bool, true, false, inl, inr, refl, sym, ◌∙◌, ap, arith, List, ◌++◌, Option, None}
 use Rattle.std.proofs.lemmas.Bool.{and_left, and_right, eqb-true}
 use Rattle.std.specs.Prelude.{nat_eq, nat_lt, not, ◌&&◌, option_to_list, if◌then◌else◌}
 use Rattle.hk_words.specs.declared.geometry.Geometry.{Geometry}
@@ -11,9 +11,9 @@ use Rattle.hk_words.specs.declared.call.Call.TheVariants as call
 use Rattle.hk_words.specs.declared.call.Reply.{Reply}
 use Rattle.hk_words.specs.declared.call.Reply.TheVariants as reply
 use Rattle.hk_model.specs.Heap.{Heap, born}
-use Rattle.hk_model.specs.History.{Entry, History, is_new, is_done, is_refused, after_entry, bearer}
+use Rattle.hk_model.specs.History.{Entry, History, is_new, is_done, is_refused, after_entry, numbers, bearer, last_place}
 use Rattle.hk_model.specs.Replies.{heap_after}
-use Rattle.hk_model.proofs.Histories.{bearer-push_other, born-heap_after_other, born-heap_after_new}
+use Rattle.hk_model.proofs.Histories.{numbers-push_other, born-heap_after_other, born-heap_after_new}
 use Rattle.hk_core.specs.declared.flight.Flight.{Flight}
 use Rattle.hk_core.specs.declared.spot.Spot.{Spot}
 use Rattle.hk_core.specs.declared.spot.Line.{Line}
@@ -27,25 +27,20 @@ use Rattle.hk_core.specs.Collect.{last_cycle}
 use Rattle.hk_core.specs.Step as seat
 use Rattle.hk_core.specs.Flights as f
 use Rattle.hk_collect.specs.Used.{is_flip}
-
-never : {A : Type 0} → false ≡ true → A
-never e = absurd (cc)
+use Rattle.hk_core.proofs.Shared.{never}
+use Rattle.std.proofs.lemmas.List.{append-nil}
 
 -- BIRTHS
 
-append_nil : {A : Type 0} (xs : List A) → xs ++ [] ≡ xs
-append_nil [] = refl
-append_nil (x ∷ xs) = ap (λ ys. x ∷ ys) (append_nil xs)
-
--- an entry that makes no birth leaves who bears what
+-- an entry that makes no birth leaves the numbers of the births
 abbrev Bears : History → Option Entry → Type 0
-Bears history o = bearer (history ++ option_to_list o) ≡ bearer history
+Bears history o = numbers (history ++ option_to_list o) ≡ numbers history
 
 bears_none : (history : History) → Bears history None
-bears_none history = ap bearer (append_nil history)
+bears_none history = ap numbers (append-nil history)
 
 bears_entry : (history : History) (x : Flight) (r : Reply) (n : ℕ) → (is_new x.call && is_done r) ≡ false → Bears history (seat.entry x r n)
-bears_entry history x r n other = bearer-push_other history (record { seat = x.seat; call = x.call; reply = r; number = n }) other
+bears_entry history x r n other = numbers-push_other history (record { seat = x.seat; call = x.call; reply = r; number = n }) other
 
 by_test : (history : History) (test : Bool) (a b : Option Entry) → (test ≡ true → Bears history a) → (test ≡ false → Bears history b) → Bears history (if test then a else b)
 by_test history true a b yes' no' = yes' refl
@@ -60,9 +55,9 @@ full_at_6 x dest shape is_new none at = by_full x.full (rw (is_new, at) at none)
     by_full true e = refl
     by_full false e = absurd (cc)
 
-pub bears_effect : (g : Geometry) (history : History) (x : Flight) (old : ℕ) → f.has_header x ≡ false → bearer (history ++ option_to_list (seat.effect_of g x old)) ≡ bearer history
+pub numbers_effect : (g : Geometry) (history : History) (x : Flight) (old : ℕ) → f.has_header x ≡ false → numbers (history ++ option_to_list (seat.effect_of g x old)) ≡ numbers history
 unfolding seat.effect_of seat.effect_at seat.get_entry seat.put_entry seat.move_entry seat.clear_entry seat.load_entry_of seat.store_entry seat.new_entry
-bears_effect g history x old none = each x.call refl
+numbers_effect g history x old none = each x.call refl
   where
     other : (call' : Call) (r : Reply) → x.call ≡ call' → is_new call' ≡ false → (is_new x.call && is_done r) ≡ false
     other call' r e old' = and_left (is_new x.call) (is_done r) (ap (λ k. is_new k) e ∙ old')
@@ -82,6 +77,10 @@ bears_effect g history x old none = each x.call refl
         (λ _. bears_none history)))
     each (call.Same a b) e = bears_none history
     each (call.IsNull reg) e = bears_none history
+
+pub bears_effect : (g : Geometry) (history : History) (x : Flight) (old : ℕ) → f.has_header x ≡ false → bearer (history ++ option_to_list (seat.effect_of g x old)) ≡ bearer history
+unfolding bearer
+bears_effect g history x old none = ap (λ (ns : List ℕ). λ n. last_place n ns) (numbers_effect g history x old none)
 
 -- no entry makes births fewer
 pub born_rises : (h : Heap) (e : Entry) → born h ≤ born (after_entry h e)

@@ -1,19 +1,18 @@
--- The facts of a traced run hold from the opening state on, whatever the actions.
-use Rattle.std.proofs.Common.{◌≡◌, ℕ, ◌+◌, ◌<◌, ◌≤◌, Bool, true, false, inl, inr, refl, sym, ◌∙◌, ap, arith, List, [], ◌∷◌, ◌++◌, Option, Some, None}
-use Rattle.std.proofs.lemmas.Bool.{cases_Bool, cases_eq, and_parts, and_left, and_right, ltb-true, ne_eqb, not-true}
-use Rattle.std.proofs.lemmas.Bool.Decides.{nat_tests}
+-- The facts of a traced run hold in the opening state, and after a step of a seat and an event of the collector.
+use Rattle.std.proofs.Common.{◌≡◌, ℕ, ◌+◌, ◌<◌, ◌≤◌, Bool, true, false, inl, inr, refl, sym, ◌∙◌, ap, arith, List, [], ◌∷◌, ◌++◌, length, Option, Some, None}
+use Rattle.std.proofs.lemmas.Bool.{cases_Bool, cases_eq, and_left, and_right, ne_eqb}
 use Rattle.std.proofs.lemmas.List.Elements.{Contains-push_cases}
-use Rattle.std.specs.Prelude.{nat_eq, nat_lt, not, ◌&&◌, fold, Contains, option_to_list, if◌then◌else◌}
+use Rattle.std.specs.Prelude.{nat_eq, not, Contains, option_to_list, if◌then◌else◌}
 use Rattle.hk_words.specs.declared.geometry.Geometry.{Geometry}
-use Rattle.hk_words.specs.declared.call.Call.{Call}
 use Rattle.hk_words.specs.Geometry.{tasks, numbers, list_length}
 use Rattle.hk_words.specs.Layout as layout
 use Rattle.hk_words.specs.Row.{w0_at}
-use Rattle.hk_model.specs.Heap.{opening_of}
+use Rattle.hk_model.specs.Heap.{born, opening_of}
 use Rattle.hk_model.specs.History.{Entry, History, after}
-use Rattle.hk_model.proofs.Histories.{after-push}
+use Rattle.hk_model.specs.History as histories
+use Rattle.hk_model.proofs.Heaps.{born-opening}
+use Rattle.hk_model.proofs.Histories.{after-push, length-numbers_born}
 use Rattle.hk_core.specs.declared.event.Event.TheVariants as event
-use Rattle.hk_core.specs.declared.outcome.Fault.{Fault}
 use Rattle.hk_core.specs.declared.spot.Spot.{Spot}
 use Rattle.hk_core.specs.declared.spot.Line.TheVariants as line
 use Rattle.hk_core.specs.Collect as table
@@ -21,30 +20,29 @@ use Rattle.hk_core.specs.Collect.{last_cycle, next_list, next_collected, work_by
 use Rattle.hk_core.specs.Event.{fired_if}
 use Rattle.hk_core.specs.State.{State, opening, opening_spot, flight_of}
 use Rattle.hk_core.specs.Step.{event_by, effect_of, found_by, next, history_after}
-use Rattle.hk_core.specs.Begin.{refusal, accepted, after_begin, begun_or}
-use Rattle.hk_core.specs.Run.{Action, Running, begin, step, collect, act, is_busy, may_begin}
-use Rattle.hk_core.specs.View.{Words, words_of, names_of, flight_at}
+use Rattle.hk_core.specs.View.{contents_of, Words, words_of, names_of, flight_at}
 use Rattle.hk_core.specs.Flights as f
 use Rattle.hk_core.specs.Lines as l
 use Rattle.hk_core.specs.Colours.{spaces_of, shades_of}
 use Rattle.hk_core.specs.Lawful.{Lawful}
-use Rattle.hk_core.proofs.Actions.{lawful_act_begin}
-use Rattle.hk_core.proofs.OpeningLawful.{opening_lawful}
 use Rattle.hk_core.proofs.Seven.{seat_steps}
 use Rattle.hk_core.proofs.kinds.Effects.{is_heap}
 use Rattle.hk_collect.proofs.spots.SpotFlip.{flipped_spot}
-use Rattle.hk_collect.specs.Used.{Closed, Trace, UsedSince, YoungBorn, CollectKeepsLawful, next_birth, gives_young, is_flip, trace_act, trace_opening, traced}
+use Rattle.hk_core.proofs.OpeningRow.{opened}
+use Rattle.hk_core.proofs.OpeningHeap.{board_alone}
+use Rattle.hk_core.specs.Reach.{in_register}
+use Rattle.hk_core.specs.State.{opening_row}
+use Rattle.hk_collect.specs.Used.{Closed, UsedSince, YoungBorn, next_birth, gives_young, is_flip}
 use Rattle.hk_collect.proofs.UsedBirth.{about_to_bear, birth_keeps, next_after}
 use Rattle.hk_collect.proofs.UsedCalls.{step_keeps}
-use Rattle.hk_collect.proofs.UsedFacts.{grey_of, MarksUsed, SpotUsed, spot_same}
+use Rattle.hk_collect.proofs.UsedFacts.{claimed_of, MarksUsed, SpotUsed, spot_same}
 use Rattle.hk_collect.proofs.UsedHeap.{closed_here, closed_entry}
-use Rattle.hk_collect.proofs.UsedMarks.{collector_keeps, zero_not_old}
+use Rattle.hk_collect.proofs.UsedMarks.{collector_keeps, zero_not_claimed}
 use Rattle.hk_collect.proofs.UsedRows.{Agrees, agrees_fired, beside_w0}
 use Rattle.hk_collect.proofs.UsedSpot.{spot_stands}
-use Rattle.hk_collect.proofs.UsedTables.{bears_effect, born_rises, line_cycle, no_flip, rest_flips, rests_or_not}
-
-never : {A : Type 0} → false ≡ true → A
-never e = absurd (cc)
+use Rattle.hk_collect.proofs.UsedTables.{bears_effect, numbers_effect, born_rises, line_cycle, no_flip, rest_flips, rests_or_not}
+use Rattle.hk_core.proofs.Shared.{never}
+use Rattle.std.proofs.lemmas.List.{append-nil}
 
 -- the facts of a traced run, of what the row and the spot say
 pub record Uses (g : Geometry) (w : Words) (t : Spot) (history at_flip : History) (young : List ℕ) : Type 0 where
@@ -59,18 +57,14 @@ UsesOf c history at_flip young = Uses c.geometry (words_of c.geometry c.row) c.s
 
 -- HISTORIES
 
-append_nil : {A : Type 0} (xs : List A) → xs ++ [] ≡ xs
-append_nil [] = refl
-append_nil (x ∷ xs) = ap (λ ys. x ∷ ys) (append_nil xs)
-
 -- the plain heap after one entry more, or none
 closed_longer : (g : Geometry) (history : History) (used : ℕ → Type 0) (o : Option Entry) → used (next_birth g history) → Closed (after (opening_of g) history) used
     → Closed (after (opening_of g) (history ++ option_to_list o)) used
-closed_longer g history used None is h = rw (append_nil history) h
+closed_longer g history used None is h = rw (append-nil history) h
 closed_longer g history used (Some e) is h = rw (after-push (opening_of g) history e) (closed_entry (after (opening_of g) history) used e is h)
 
 next_rises : (g : Geometry) (history : History) (o : Option Entry) → next_birth g history ≤ next_birth g (history ++ option_to_list o)
-next_rises g history None = rw (append_nil history) (omega arith)
+next_rises g history None = rw (append-nil history) (omega arith)
 next_rises g history (Some e) = rw (after-push (opening_of g) history e) (born_rises (after (opening_of g) history) e)
 
 -- THE OPENING STATE
@@ -79,12 +73,12 @@ nothing_there : (b : ℕ) → Contains [] b → ⊥
 nothing_there b there = absurd (omega (arith, there.1))
 
 -- where the collector rests nothing is grey and nothing is in work, so all facts hold from now on
-uses_at_rest : (g : Geometry) (w : Words) (t : Spot) (history : History) → ((n : ℕ) → n < numbers g → grey_of g w n ≡ false)
+uses_at_rest : (g : Geometry) (w : Words) (t : Spot) (history : History) → ((n : ℕ) → n < numbers g → claimed_of g w n ≡ true → (b : ℕ) × ((names_of g history).bearer n ≡ Some b) × UsedSince g history b)
     → l.frame_attempt g t.line ≡ None → l.has_reference t.line ≡ false → Uses g w t history history []
-uses_at_rest g w t history dark no_attempt no_reference = record {
+uses_at_rest g w t history claimed no_attempt no_reference = record {
   closed = closed_here g (after (opening_of g) history) (is_heap g history);
   marks = record {
-    grey = λ n within grey. never (sym (dark n within) ∙ grey);
+    grey = λ n within is. let found = claimed n within is in (found.0, found.1, found.2, λ there. absurd (nothing_there found.0 there));
     young_marked = λ n b bears there. absurd (nothing_there b there);
   };
   spot = record {
@@ -95,13 +89,27 @@ uses_at_rest g w t history dark no_attempt no_reference = record {
   later = omega arith;
 }
 
-uses_opening : (g : Geometry) → UsesOf (opening g) [] [] []
+-- at the start the board alone has a place, and it can be reached
+opening_claimed : (g : Geometry) (n : ℕ) → claimed_of g (words_of g (opening_row g)) n ≡ true → (b : ℕ) × ((names_of g []).bearer n ≡ Some b) × UsedSince g [] b
+unfolding contents_of
+opening_claimed g n claimed = elim (cases_eq n 0) [
+  | inl board ↦ (0, ap (names_of g []).bearer board ∙ (board_alone g).bearer, inl (in_register 0 0 (omega (arith, g.tasks_some)) (omega (arith, g.registers_some)) ((board_alone g).board 0 (omega (arith, g.tasks_some)))))
+  | inr other ↦
+      let w = words_of g (opening_row g) in
+      let unplaced : w.place n ≡ 0 = (opened g).no_place n other in
+      never (sym (rw unplaced (and_right (nat_eq (w.mark n) w.cycle) _ (zero_not_claimed (spaces_of g w.cycle) (omega arith) (omega arith)))) ∙ claimed)
+]
+
+pub uses_opening : (g : Geometry) → UsesOf (opening g) [] [] []
 unfolding opening opening_spot l.frame_attempt l.has_reference l.is_marking shades_of
 uses_opening g =
-    let h = opening_lawful g in
-    uses_at_rest g (words_of g (opening g).row) (opening g).spot [] (λ n within. (h.facts.settled_from_sweep refl).none_grey n within) refl refl
+    uses_at_rest g (words_of g (opening g).row) (opening g).spot [] (λ n within. opening_claimed g n) refl refl
 
 -- A STEP OF A SEAT
+
+pub one_at_start : (g : Geometry) → born (opening_of g) ≡ 1
+unfolding opening_of
+one_at_start g = born-opening (tasks g) g.registers g.board
 
 module _ (c : State) (history at_flip : History) (young : List ℕ) (h : Lawful c history) (o : UsesOf c history at_flip young)
     (s : ℕ) (below : s < tasks c.geometry) (some : 1 ≤ (flight_at c s).place) where
@@ -111,10 +119,10 @@ module _ (c : State) (history at_flip : History) (young : List ℕ) (h : Lawful 
   next_used : used (next_birth c.geometry history)
   next_used = inr o.later
 
-  after_it : Lawful (next c s) (history_after c s history)
+  pub after_it : Lawful (next c s) (history_after c s history)
   after_it = (seat_steps c history s below h some).lawful
 
-  same_cycle : (words_of c.geometry (fired_if c.row (event_by c s))).cycle ≡ (words_of c.geometry c.row).cycle
+  pub same_cycle : (words_of c.geometry (fired_if c.row (event_by c s))).cycle ≡ (words_of c.geometry c.row).cycle
   unfolding next
   same_cycle = sym (after_it.facts.spot_knows_cycle) ∙ h.facts.spot_knows_cycle
 
@@ -122,7 +130,7 @@ module _ (c : State) (history at_flip : History) (young : List ℕ) (h : Lawful 
   unfolding history_after
   closed_after = closed_longer c.geometry history used (effect_of c.geometry (flight_of c.flights s) (found_by c s)) next_used o.closed
 
-  next_later : next_birth c.geometry history ≤ next_birth c.geometry (history_after c s history)
+  pub next_later : next_birth c.geometry history ≤ next_birth c.geometry (history_after c s history)
   unfolding history_after
   next_later = next_rises c.geometry history (effect_of c.geometry (flight_of c.flights s) (found_by c s))
 
@@ -130,11 +138,21 @@ module _ (c : State) (history at_flip : History) (young : List ℕ) (h : Lawful 
   unfolding names_of history_after flight_at
   bears_same none = bears_effect c.geometry history (flight_of c.flights s) (found_by c s) none
 
+  -- a step that makes no object makes no birth
+  pub next_same : f.has_header (flight_at c s) ≡ false → next_birth c.geometry (history_after c s history) ≡ next_birth c.geometry history
+  unfolding next history_after flight_at
+  next_same none =
+      let same : length (histories.numbers (history_after c s history)) ≡ length (histories.numbers history) =
+      ap length (numbers_effect c.geometry history (flight_of c.flights s) (found_by c s) none) in
+      let now = length-numbers_born (opening_of c.geometry) (history_after c s history) (one_at_start c.geometry) after_it.legal in
+      let before = length-numbers_born (opening_of c.geometry) history (one_at_start c.geometry) h.legal in
+      omega (arith, same, now, before)
+
   -- the young births after the step
   abbrev pub young_then : List ℕ
   young_then = if gives_young c s then young ++ next_birth c.geometry history ∷ [] else young
 
-  no_young : f.has_header (flight_at c s) ≡ false → young_then ≡ young
+  pub no_young : f.has_header (flight_at c s) ≡ false → young_then ≡ young
   unfolding flight_at
   no_young none =
       let off : gives_young c s ≡ false = and_left (f.has_header (flight_of c.flights s)) _ none in
@@ -201,7 +219,7 @@ module _ (c : State) (history at_flip : History) (young : List ℕ) (h : Lawful 
   unfolding next_collected table.spot_took
   spot_cycle none = line_cycle c.geometry c.spot c.spot.line (found_by_collector c) (not_rest none)
 
-  same_cycle_then : is_flip (work_by_collector c) ≡ false → (words_of c.geometry (fired_if c.row (event_by_collector c))).cycle ≡ (words_of c.geometry c.row).cycle
+  pub same_cycle_then : is_flip (work_by_collector c) ≡ false → (words_of c.geometry (fired_if c.row (event_by_collector c))).cycle ≡ (words_of c.geometry c.row).cycle
   unfolding next_collected
   same_cycle_then none = sym (after_it.facts.spot_knows_cycle) ∙ spot_cycle none ∙ h.facts.spot_knows_cycle
 
@@ -256,7 +274,7 @@ module _ (c : State) (history at_flip : History) (young : List ℕ) (h : Lawful 
     cycle_then = sym (after_it.facts.spot_knows_cycle) ∙ ap (λ (u : Spot). u.cycle) spot_flipped ∙ ap (λ k. k + 1) h.facts.spot_knows_cycle
 
     -- a number that is marked for the next cycle has no place yet
-    dark : (n : ℕ) → n < numbers c.geometry → grey_of c.geometry (words_of c.geometry (fired_if c.row (event_by_collector c))) n ≡ false
+    dark : (n : ℕ) → n < numbers c.geometry → claimed_of c.geometry (words_of c.geometry (fired_if c.row (event_by_collector c))) n ≡ false
     unfolding l.marked l.emptied
     dark n within =
         let g = c.geometry in
@@ -274,88 +292,12 @@ module _ (c : State) (history at_flip : History) (young : List ℕ) (h : Lawful 
               let empty = h.facts.written_empty found.0 (omega arith) in
               let unplaced : w.place n ≡ 0 = ap w.place (sym found.2) ∙ empty.no_place in
               let there : w'.place n ≡ 0 = ap (λ f. f n) agrees.place ∙ unplaced in
-              rw there (and_right _ _ (zero_not_old (spaces_of g w'.cycle) (omega arith)))
+              rw there (and_right _ _ (zero_not_claimed (spaces_of g w'.cycle) (omega arith) (omega arith)))
         ]
 
     pub uses_flip : UsesOf (next_collected c) history history []
     unfolding next_collected l.frame_attempt l.has_reference
     uses_flip =
         let g = c.geometry in
-        uses_at_rest g (words_of g (fired_if c.row (event_by_collector c))) (next_collected c).spot history dark
+        uses_at_rest g (words_of g (fired_if c.row (event_by_collector c))) (next_collected c).spot history (λ n within claimed. never (sym (dark n within) ∙ claimed))
         (ap (λ (u : Spot). l.frame_attempt g u.line) spot_flipped) (ap (λ (u : Spot). l.has_reference u.line) spot_flipped)
-
--- ANY ACTION
-
--- what holds of a traced run
-pub record InUse (r : Trace) : Type 0 where
-  pub lawful : Lawful r.running.core r.running.history
-  pub uses : UsesOf r.running.core r.running.history r.at_flip r.young
-
--- a begin changes no word and not the spot
-begun_uses : (c : State) (seat : ℕ) (call : Call) (history at_flip : History) (young : List ℕ) → UsesOf c history at_flip young → UsesOf (after_begin c seat call) history at_flip young
-unfolding after_begin accepted
-begun_uses c seat call history at_flip young o = by_fault (refusal c seat call)
-  where
-    by_fault : (fault : Option Fault) → UsesOf (begun_or fault (accepted c seat call) c) history at_flip young
-    by_fault None = o
-    by_fault (Some fault) = o
-
-in_use_begin : (r : Trace) (seat : ℕ) (call : Call) → InUse r → InUse (trace_act r (begin seat call))
-unfolding trace_act act
-in_use_begin r seat call o = record {
-  lawful = lawful_act_begin r.running seat call o.lawful;
-  uses = by_test (may_begin r.running.core seat call);
-}
-  where
-    by_test : (test : Bool) → (let k : Running = if test then record r.running { core = after_begin r.running.core seat call } else r.running in UsesOf k.core k.history r.at_flip r.young)
-    by_test true = begun_uses r.running.core seat call r.running.history r.at_flip r.young o.uses
-    by_test false = o.uses
-
-in_flight : (place : ℕ) → nat_eq place 0 ≡ false → 1 ≤ place
-in_flight place e = grind (arith, nat_tests)
-
-in_use_step : (r : Trace) (seat : ℕ) → InUse r → InUse (trace_act r (step seat))
-unfolding trace_act act flight_at
-in_use_step r seat o = by_busy (is_busy r.running.core seat) refl
-  where
-    by_busy : (busy : Bool) → is_busy r.running.core seat ≡ busy → InUse (record r {
-      running = if busy then record { core = next r.running.core seat; history = history_after r.running.core seat r.running.history } else r.running;
-      young = if busy && gives_young r.running.core seat then r.young ++ next_birth r.running.core.geometry r.running.history ∷ [] else r.young;
-    })
-    by_busy false e = o
-    by_busy true e =
-        let p = and_parts (nat_lt seat (tasks r.running.core.geometry)) (not (nat_eq (flight_of r.running.core.flights seat).place 0)) e in
-        let below = ltb-true seat (tasks r.running.core.geometry) p.0 in
-        let some = in_flight (flight_of r.running.core.flights seat).place (not-true (nat_eq (flight_of r.running.core.flights seat).place 0) p.1) in
-        record {
-          lawful = (seat_steps r.running.core r.running.history seat below o.lawful some).lawful;
-          uses = uses_step r.running.core r.running.history r.at_flip r.young o.lawful o.uses seat below some;
-        }
-
-in_use_collect : CollectKeepsLawful → (r : Trace) → InUse r → InUse (trace_act r collect)
-unfolding trace_act act
-in_use_collect keeps r o = by_flip (is_flip (work_by_collector r.running.core)) refl
-  where
-    by_flip : (flips : Bool) → is_flip (work_by_collector r.running.core) ≡ flips → InUse (if flips then record { running = record r.running { core = next_collected r.running.core }; at_flip = r.running.history; young = [] }
-        else record r { running = record r.running { core = next_collected r.running.core } })
-    by_flip true e = record {
-      lawful = keeps r.running.core r.running.history o.lawful;
-      uses = uses_flip r.running.core r.running.history r.at_flip r.young o.lawful (keeps r.running.core r.running.history o.lawful) o.uses e;
-    }
-    by_flip false e = record {
-      lawful = keeps r.running.core r.running.history o.lawful;
-      uses = uses_collect r.running.core r.running.history r.at_flip r.young o.lawful (keeps r.running.core r.running.history o.lawful) o.uses e;
-    }
-
-pub in_use_act : CollectKeepsLawful → (r : Trace) (a : Action) → InUse r → InUse (trace_act r a)
-in_use_act keeps r (begin seat call) o = in_use_begin r seat call o
-in_use_act keeps r (step seat) o = in_use_step r seat o
-in_use_act keeps r collect o = in_use_collect keeps r o
-
-in_use_all : CollectKeepsLawful → (r : Trace) (actions : List Action) → InUse r → InUse (fold trace_act r actions)
-in_use_all keeps r [] o = o
-in_use_all keeps r (a ∷ later) o = in_use_all keeps (trace_act r a) later (in_use_act keeps r a o)
-
-pub in_use_traced : CollectKeepsLawful → (g : Geometry) (actions : List Action) → InUse (traced g actions)
-unfolding traced trace_opening
-in_use_traced keeps g actions = in_use_all keeps (trace_opening g) actions (record { lawful = opening_lawful g; uses = uses_opening g })

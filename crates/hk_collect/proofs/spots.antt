@@ -12,7 +12,6 @@ pub mod SpotTrade
 pub mod SpotCopy
 pub mod SpotMove
 pub mod SpotClaim
-pub mod SpotMoveRows
 pub mod SpotSweepCounts
 pub mod SpotSweepLines
 pub mod SpotFlip

@@ -4,3 +4,8 @@ pub mod Runs
 pub mod Laws
 pub mod Measure
 pub mod Used
+pub mod Taken
+pub mod Cycles
+pub mod Reserved
+pub mod Pays
+pub mod Live

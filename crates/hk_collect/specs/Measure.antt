@@ -1,7 +1,7 @@
 -- The measure of a cycle, and the attempts of the collector. Tasks may take steps between any two events of the collector;
 -- the laws of the measure are about events at which no call is in mid-course. Then no event waits for anybody, and the
 -- useful events of a cycle are at most a bound that depends on the spot alone, and is largest at the end of the cycle.
-use Rattle.std.specs.Prelude.{◌≡◌, ◌≢◌, ℕ, ◌+◌, ◌-◌, ◌*◌, ◌<◌, ◌≤◌, max, Bool, true, false, ⊤, Some, if◌then◌else◌}
+use Rattle.std.specs.Prelude.{◌≡◌, ◌≢◌, ℕ, ◌+◌, ◌-◌, ◌*◌, ◌<◌, ◌≤◌, max, true, false, ⊤, Some, if◌then◌else◌}
 use Rattle.hk_words.specs.declared.geometry.Geometry.{Geometry}
 use Rattle.hk_words.specs.declared.call.Call.{Call}
 use Rattle.hk_words.specs.Bounds.{frame_events, object_events, cycle_events}
@@ -20,29 +20,12 @@ use Rattle.hk_core.specs.State.{State, flight_of, opening}
 use Rattle.hk_core.specs.Step.{reference_size, next}
 use Rattle.hk_core.specs.Begin.{after_begin}
 use Rattle.hk_core.specs.Collect.{moved_number, next_collected, work_by_collector}
-use Rattle.hk_core.specs.View.{Words, words_of, names_of}
+use Rattle.hk_core.specs.View.{words_of, names_of}
 use Rattle.hk_core.specs.Lines.{passing, has_item}
-use Rattle.hk_core.specs.Colours.{spaces_of, grey_by}
 use Rattle.hk_core.specs.Lawful.{Lawful}
+use Rattle.hk_collect.specs.Runs.{in_attempt, is_grey}
 
 -- ATTEMPTS
-
--- an attempt is open: it began, and its exchange is still to come
-unfoldable pub in_attempt : Line → Bool
-in_attempt line.Rest = false
-in_attempt (line.Frame s) = false
-in_attempt (line.Register s r stage) = true
-in_attempt (line.FrameTrade s) = true
-in_attempt line.Scan = false
-in_attempt line.Link = false
-in_attempt line.Look = false
-in_attempt (line.Cell i stage) = true
-in_attempt line.ObjectTrade = true
-in_attempt (line.Pass n) = false
-in_attempt (line.PassHead n) = false
-in_attempt (line.Sweep n stage) = false
-in_attempt (line.Clear i) = false
-in_attempt line.Reset = false
 
 -- The word of an open attempt is untouched: the frame word, or the header of the object that is moved, still is the one
 -- that the attempt loaded. Nothing is said where no attempt is open.
@@ -142,13 +125,6 @@ useful_after Worn useful = useful
 -- no call is in mid-course
 abbrev pub NoneInFlight : State → Type 0
 NoneInFlight c = (seat : ℕ) → seat < tasks c.geometry → (flight_of c.flights seat).place ≡ 0
-
--- a number is grey, by the words of a state
-abbrev pub is_grey_by : Geometry → Words → ℕ → Bool
-is_grey_by g w number = grey_by (spaces_of g w.cycle) w.cycle w.place w.mark number
-
-abbrev pub is_grey : State → ℕ → Bool
-is_grey c number = is_grey_by c.geometry (words_of c.geometry c.row) number
 
 -- A state is calm where no number is grey while the pass goes on, and the number whose header the pass is about to load was
 -- claimed in this cycle. Without the second part the pass could take a number that wasn't claimed for a grey one.

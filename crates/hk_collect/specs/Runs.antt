@@ -1,7 +1,8 @@
--- What is said of runs: where an operation stands, which cell an action writes, and how far an attempt of the collector
--- has come.
+-- What is said of runs: where an operation stands, which cell an action writes, which numbers are grey, and whether an
+-- attempt of the collector is open.
 use Rattle.std.specs.Prelude.{◌≡◌, ℕ, ◌<◌, Bool, true, false, Option, None, if◌then◌else◌}
 use Rattle.hk_words.specs.declared.call.Call.{Call}
+use Rattle.hk_words.specs.declared.geometry.Geometry.{Geometry}
 use Rattle.hk_words.specs.Geometry.{tasks}
 use Rattle.hk_words.specs.Layout.{reference_number}
 use Rattle.hk_core.specs.declared.spot.Line.{Line}
@@ -10,7 +11,9 @@ use Rattle.hk_core.specs.State.{State, flight_of}
 use Rattle.hk_words.specs.Bounds.{places_of}
 use Rattle.hk_core.specs.Step.{next, answer_by}
 use Rattle.hk_core.specs.Run.{Action, begin, step, collect, is_busy}
+use Rattle.hk_core.specs.View.{Words, words_of}
 use Rattle.hk_core.specs.Flights.{in_object}
+use Rattle.hk_core.specs.Colours.{spaces_of, grey_by}
 use Rattle.hk_core.specs.Inside.{cell_written}
 use Rattle.hk_core.specs.Places.{GoesOn, Ends}
 
@@ -39,6 +42,13 @@ pub record IsStepInside (c : State) (action : Action) (n : ℕ) : Type 0 where
   pub steps : action ≡ step seat
   pub inside : in_object (flight_of c.flights seat) ≡ true
   pub same : entered_number c seat ≡ n
+
+-- a number is grey, by the words of a state: it was claimed in this cycle, and isn't moved yet
+abbrev pub is_grey_by : Geometry → Words → ℕ → Bool
+is_grey_by g w = grey_by (spaces_of g w.cycle) w.cycle w.place w.mark
+
+abbrev pub is_grey : State → ℕ → Bool
+is_grey c = is_grey_by c.geometry (words_of c.geometry c.row)
 
 -- the lines of an attempt, from the load that begins it to its exchange
 unfoldable pub in_attempt : Line → Bool

@@ -2,20 +2,15 @@
 #![tactic(auto)]
 
 mod collector;
-#[cfg(test)]
-mod cycles;
 mod decide;
 mod follow;
-#[cfg(test)]
-mod lawful;
 mod laws;
 mod measure;
-#[cfg(test)]
-mod measured;
 mod owned;
-mod used;
 #[cfg(test)]
-mod walk;
+mod tests;
+mod used;
+mod words;
 
 pub use collector::{advance, step};
 pub use decide::event;
@@ -25,6 +20,7 @@ pub use laws::{
     collector_can_go_on, collector_keeps_history, events_are_counted, inside_stays, operations_end,
     runs_are_lawful, runs_give_fresh_numbers,
 };
-pub use measure::{measured_cycle, untouched_attempts};
+pub use measure::{collector_pays, cycles_take_events, measured_cycle, untouched_attempts};
 pub use owned::OwnedHeap;
-pub use used::reserved_was_used;
+pub use used::{reserved_is_live, reserved_was_used};
+pub use words::{words_reserved, words_taken};

@@ -1,6 +1,6 @@
 -- The object that a call is inside stands apart from all others, and only a call inside it writes its cells.
-use Rattle.std.proofs.Common.{◌≡◌, ◌≢◌, ℕ, ◌+◌, ◌<◌, ◌≤◌, Bool, true, false, inl, inr, refl, arith, Some, None}
-use Rattle.std.proofs.lemmas.Bool.{cases_eq, eqb-true, ltb-true}
+use Rattle.std.proofs.Common.{◌≡◌, ◌≢◌, ℕ, ◌+◌, ◌<◌, ◌≤◌, Bool, true, false, inl, inr, refl, sym, ◌∙◌, ap, arith, Some, None}
+use Rattle.std.proofs.lemmas.Bool.{cases_eq, eqb-true, ltb-true, and_parts}
 use Rattle.std.specs.Prelude.{nat_eq, if◌then◌else◌}
 use Rattle.hk_words.specs.declared.call.Call.{Call}
 use Rattle.hk_words.specs.declared.call.Call.TheVariants as call
@@ -10,14 +10,34 @@ use Rattle.hk_model.specs.History.{History}
 use Rattle.hk_core.specs.declared.flight.Flight.{Flight}
 use Rattle.hk_core.specs.State.{State}
 use Rattle.hk_core.specs.Begin.{has_field}
-use Rattle.hk_core.specs.Step.{number_cell, reference_cell, reference_size}
+use Rattle.hk_core.specs.Step.{number_cell, reference_cell, reference_size, new_place}
+use Rattle.hk_core.specs.Facts.{own_entry}
 use Rattle.hk_core.specs.View.{words_of, names_of, flight_at, refs_at, nums_at, size_at}
 use Rattle.hk_core.specs.Flights as f
 use Rattle.hk_core.specs.Colours.{shades_of, Apart, Covers}
 use Rattle.hk_core.specs.Inside.{cell_written, cell_written_at, kept_in, size_in, StandsApart}
 use Rattle.hk_core.specs.Lawful.{Lawful}
 use Rattle.hk_core.proofs.Inside.{inside_through, shapes_fit, good_sound}
+use Rattle.hk_core.proofs.PromisedLists.{numbered}
+use Rattle.hk_core.proofs.Shared.{size_some}
+use Rattle.hk_core.proofs.Unused.{making}
 use Rattle.hk_core.proofs.kinds.Enter.{object_of}
+
+-- the object that a New makes has words
+making_some : (x : Flight) → f.is_making x ≡ true → 0 < f.new_size x
+unfolding f.is_making f.is_new_at f.new_size f.new_size_of
+making_some x made = each x.call (and_parts _ _ made).0
+  where
+    each : (call' : Call) → f.is_new_at 4 6 call' x.place ≡ true → 0 < f.new_size_of call'
+    each (call.Get reg field) e = absurd (cc)
+    each (call.Put reg field value) e = absurd (cc)
+    each (call.Load dest reg field) e = absurd (cc)
+    each (call.Store reg field from) e = absurd (cc)
+    each (call.Move dest from) e = absurd (cc)
+    each (call.Clear dest) e = absurd (cc)
+    each (call.New dest shape) e = omega arith
+    each (call.Same a b) e = absurd (cc)
+    each (call.IsNull reg) e = absurd (cc)
 
 -- a cell that a flight writes is one of the words of the object that its call is inside
 pub record WritesThere (x : Flight) (p : ℕ) : Type 0 where
@@ -63,10 +83,31 @@ module _ (c : State) (history : History) (h : Lawful c history) where
   unfolding shades_of
   objects_apart m n = h.facts.objects_apart m n
 
+  apart_from_new : (s : ℕ) → s < tasks c.geometry → f.is_making (flight_at c s) ≡ true → (n : ℕ) → kept_in c history n ≡ true
+      → Apart ((words_of c.geometry c.row).place n) (size_in c history n) (new_place c.geometry (flight_at c s)) (f.new_size (flight_at c s))
+  unfolding shades_of
+  apart_from_new s below making n kept = h.facts.objects_apart_from_new s n below making kept
+
+  -- the number to which a New has given a header has the place of the words that it was given
+  elsewhere : (s : ℕ) → s < tasks c.geometry → f.has_header (flight_at c s) ≡ true → (n : ℕ) → kept_in c history n ≡ true
+      → (words_of c.geometry c.row).place (flight_at c s).number ≢ (words_of c.geometry c.row).place n
+  elsewhere s below headed n kept same =
+      let place = (words_of c.geometry c.row).place in
+      let has = numbered (flight_at c s) headed in
+      let made = making (flight_at c s) has in
+      let number = h.facts.number_is_own s below has in
+      let own : place (own_entry (words_of c.geometry c.row).entry (flight_at c s)) ≡ new_place c.geometry (flight_at c s) = rw headed at (h.facts.own_entries s below made).placed in
+      let there : place n ≡ new_place c.geometry (flight_at c s) = sym same ∙ ap place number ∙ own in
+      let words : 0 < size_in c history n = size_some (names_of c.geometry history) n in
+      let given : 0 < f.new_size (flight_at c s) = making_some (flight_at c s) made in
+      elim (apart_from_new s below made n kept) [ inl after ↦ absurd (omega arith) | inr before ↦ absurd (omega arith) ]
+
   pub stands_apart : (t : ℕ) → t < tasks c.geometry → f.in_object (flight_at c t) ≡ true → StandsApart c history (object_of (flight_at c t))
   stands_apart t below inside = record {
     is_kept = inside_kept t below inside;
     apart = λ m kept differ. objects_apart m (object_of (flight_at c t)) kept (inside_kept t below inside) differ;
+    news = λ s s_below making. apart_from_new s s_below making (object_of (flight_at c t)) (inside_kept t below inside);
+    headers = λ s s_below headed. elsewhere s s_below headed (object_of (flight_at c t)) (inside_kept t below inside);
   }
 
   -- the words of the object that a call is inside are those that its reference says

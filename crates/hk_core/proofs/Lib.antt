@@ -1,6 +1,6 @@
 mod OpeningTables
-mod OpeningHeap
-mod OpeningRow
+pub mod OpeningHeap
+pub mod OpeningRow
 mod OpeningFacts
 pub mod OpeningLawful
 pub mod Shared
@@ -28,6 +28,7 @@ pub mod Actions
 pub mod Seven
 pub mod Unused
 pub mod Room
+pub mod RefusedPlain
 pub mod Turns
 pub mod Replied
 pub mod Entries

@@ -1,20 +1,21 @@
 -- A lawful state keeps all its promises.
-use Rattle.std.proofs.Common.{◌≡◌, ◌≢◌, ℕ, ◌+◌, sym, ◌∙◌, ap, arith, Option, Some}
+use Rattle.std.proofs.Common.{◌≡◌, ◌≢◌, ℕ, ◌+◌, refl, sym, ◌∙◌, ap, arith, Option, Some}
 use Rattle.hk_words.specs.declared.geometry.Geometry.{Geometry}
+use Rattle.hk_words.specs.Layout as layout
 use Rattle.hk_model.specs.History.{History}
 use Rattle.hk_core.specs.declared.flight.Flight.{Flight}
 use Rattle.hk_core.specs.declared.spot.Spot.{Spot}
 use Rattle.hk_core.specs.State.{State}
-use Rattle.hk_core.specs.View.{Words, Names, Contents, words_of, names_of, contents_of, flight_at, begun_at}
+use Rattle.hk_core.specs.View.{Words, Names, Contents, words_of, names_of, contents_of, flight_at, begun_at, shown}
 use Rattle.hk_core.specs.Flights.{Hand}
-use Rattle.hk_core.specs.Colours.{Spaces, spaces_of, Shades, shades_of, Apart, IsKeptBirth}
+use Rattle.hk_core.specs.Colours.{Spaces, spaces_of, Shades, shades_of, Apart, IsGood, IsKeptBirth}
 use Rattle.hk_core.specs.Lawful.{Facts, Lawful, hands_of}
 use Rattle.hk_core.specs.Stands.{IsInUse, IsShown, Stands, SpotStands, VersionsStand, PromisesOf, Promises}
 use Rattle.hk_core.proofs.kinds.Seats.{pass_upd}
-use Rattle.hk_core.proofs.kinds.LoadRead.{ColoursMean, colours_mean}
+use Rattle.hk_core.proofs.kinds.LoadRead.{ColoursMean, colours_mean, reference_borne, shown_birth}
 use Rattle.hk_core.proofs.kinds.WriteCell.{ShadesMean, shades_mean, BearersNumbered, bearers_numbered}
-use Rattle.hk_core.proofs.PromisedNumbers.{ShadesSay, shades_say, no_number_no_place, kept_in_use}
-use Rattle.hk_core.proofs.PromisedLists.{lists_stand}
+use Rattle.hk_core.proofs.PromisedNumbers.{ShadesSay, shades_say, no_number_no_place, borne_by, kept_in_use}
+use Rattle.hk_core.proofs.PromisedLists.{lists_stand, written_stand}
 use Rattle.hk_core.proofs.PromisedWords.{ranges_stand, space_stands}
 use Rattle.hk_core.proofs.PromisedColours.{black_stands, reads_stand, clean_when_settled}
 use Rattle.hk_core.proofs.Shared.{size_borne}
@@ -47,9 +48,19 @@ module _ (g : Geometry) (w : Words) (z : Spaces) (sh : Shades) (flight : ℕ →
       let size' : sh.size (names.number b) ≡ 1 + names.refs b + names.nums b = m.size (names.number b) ∙ size_borne names (names.number b) b o'.bears in
       rw (← size, ← size') (h.objects_apart (names.number a) (names.number b) o.is_kept o'.is_kept other)
 
+  -- a good reference is that of the birth that bears its number
+  good_birth : (word : ℕ) → IsGood sh.kept names word → (birth : ℕ) × (names.bearer (layout.reference_number word) ≡ Some birth) × (word ≡ shown names (Some birth))
+  good_birth word good =
+      let n = layout.reference_number word in
+      let b = borne_by (names.bearer n) (m.kept n good.is_kept).is_born in
+      let packed : word ≡ layout.pack_reference n (names.refs b.0) (names.nums b.0) = good.shows ∙ reference_borne names n b.0 b.1 in
+      (b.0, b.1, packed ∙ ap (λ (k : ℕ). layout.pack_reference k (names.refs b.0) (names.nums b.0)) (sym (numbered n b.0 b.1)) ∙ sym (shown_birth names (Some b.0) b.0 refl))
+
   stands : Stands g w flight names contents
   stands = record {
     registers = h.registers_shown;
+    loaded = h.loaded_stays;
+    through = λ s below goes. good_birth (flight s).entered (h.entered_good s below goes.0 goes.1);
     births = shown_in_use;
     apart = apart_in_use;
     accessors = h.accessors_counted;
@@ -60,9 +71,7 @@ module _ (g : Geometry) (w : Words) (z : Spaces) (sh : Shades) (flight : ℕ →
   spot_stands = record {
     copied = h.cells_copied;
     loaded = h.cell_loaded;
-    written_distinct = h.written_distinct;
-    written_marked = h.written_marked;
-    written_empty = h.written_empty;
+    written = written_stand g w z sh flight begun hand t names contents range h m;
     pass = pass_upd g t.line sh.grey _ _ (clean_when_settled g w z sh flight begun hand t names contents range h m c) h.pass_meets_grey;
     clean = λ quiet. clean_when_settled g w z sh flight begun hand t names contents range h m c (h.settled_from_sweep quiet);
     frames = h.frames_blackened;

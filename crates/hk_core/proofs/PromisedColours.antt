@@ -1,12 +1,13 @@
 -- What a lawful state promises of colours: black objects and black frames refer to nothing white, a call that claimed
 -- something white is inside nothing black, and from the sweep on nothing white can be reached.
-use Rattle.std.proofs.Common.{◌≡◌, ◌≢◌, ℕ, ◌<◌, ◌≤◌, Bool, true, false, inl, inr, refl, sym, ◌∙◌, ap, arith, Option}
+use Rattle.std.proofs.Common.{◌≡◌, ◌≢◌, ℕ, ◌<◌, ◌≤◌, Bool, true, false, inl, inr, refl, sym, ◌∙◌, ap, arith, Option, Some}
 use Rattle.std.proofs.lemmas.Bool.{cases_Bool, and_parts, and_from, or_left}
 use Rattle.std.proofs.lemmas.Bool.Decides.{nat_tests}
 use Rattle.std.specs.Prelude.{nat_eq, nat_le, not, ◌&&◌}
 use Rattle.hk_words.specs.declared.geometry.Geometry.{Geometry}
 use Rattle.hk_words.specs.declared.call.Call.{Call}
 use Rattle.hk_words.specs.declared.call.Call.TheVariants as call
+use Rattle.hk_words.specs.Calls.{target, RegistersFit}
 use Rattle.hk_words.specs.Geometry.{tasks}
 use Rattle.hk_words.specs.Layout as layout
 use Rattle.hk_core.specs.declared.flight.Flight.{Flight}
@@ -19,8 +20,7 @@ use Rattle.hk_core.specs.Facts as fact
 use Rattle.hk_core.specs.Facts.{IsSettled}
 use Rattle.hk_core.specs.Lawful.{Facts}
 use Rattle.hk_core.specs.Reach.{Reach, in_register, in_cell}
-use Rattle.hk_core.specs.Stands.{BlackStands, ReadsStand, IsClean}
-use Rattle.hk_core.proofs.Inside.{inside_through}
+use Rattle.hk_core.specs.Stands.{GoesThrough, BlackStands, ReadsStand, IsClean}
 use Rattle.hk_core.proofs.kinds.LoadRead.{ColoursMean, some_words, kept_number, shown_birth, settled_black}
 use Rattle.hk_core.proofs.kinds.WriteCell.{ShadesMean}
 use Rattle.hk_core.proofs.PromisedNumbers.{ShadesSay, kept_when_reached}
@@ -87,6 +87,31 @@ held_back x r e = each x.call x.place e
     each (call.Same a b) p e = e
     each (call.IsNull reg) p e = e
 
+-- a Load that has written its register is in flight, and has one
+record HasTarget (call' : Call) (place : ℕ) : Type 0 where
+  register : ℕ
+  is_target : target call' ≡ Some register
+  flying : nat_le 1 place ≡ true
+  fits : (registers : ℕ) → RegistersFit registers call' → register < registers
+
+written_register : (x : Flight) → f.has_written x ≡ true → HasTarget x.call x.place
+unfolding f.has_written f.is_load_at
+written_register x e = each x.call x.place e
+  where
+    flies : (p : ℕ) → (nat_le 9 p && nat_le p 10) ≡ true → nat_le 1 p ≡ true
+    flies p e = grind (arith, nat_tests)
+
+    each : (call' : Call) (p : ℕ) → f.is_load_at 9 10 call' p ≡ true → HasTarget call' p
+    each (call.Get reg field) p e = absurd (cc)
+    each (call.Put reg field value) p e = absurd (cc)
+    each (call.Load dest reg field) p e = record { register = dest; is_target = refl; flying = flies p e; fits = λ registers fit. fit.0.1 }
+    each (call.Store reg field from) p e = absurd (cc)
+    each (call.Move dest from) p e = absurd (cc)
+    each (call.Clear dest) p e = absurd (cc)
+    each (call.New dest shape) p e = absurd (cc)
+    each (call.Same a b) p e = absurd (cc)
+    each (call.IsNull reg) p e = absurd (cc)
+
 -- a word that isn't null and names no white number
 dark_number : (white : ℕ → Bool) (word n : ℕ) → (layout.reference_number word ≡ n) × (word ≢ 0) → NamesNoWhite white word → white n ≡ false
 dark_number white word n number (inl null) = absurd (number.1 null)
@@ -113,6 +138,13 @@ module _ (g : Geometry) (w : Words) (z : Spaces) (sh : Shades) (flight : ℕ →
       let lasts : f.cycle_of (flight s) ≤ w.mark (layout.reference_number (flight s).item) = h.claims_last s below claimed in
       omega arith
 
+  -- what a Load has written into its register isn't white where the frame is black
+  written_dark : (s : ℕ) → s < tasks g → f.has_written (flight s) ≡ true → sh.black_frame s ≡ true → NamesNoWhite sh.white (flight s).item
+  written_dark s below written black =
+      let to = written_register (flight s) written in
+      let fits : to.register < g.registers = to.fits g.registers ((h.flights_formed s below).registers to.flying) in
+      rw (← h.loaded_stays s to.register below written to.is_target) (h.black_frame_has_no_white s to.register below fits black)
+
   pub reads_stand : ShadesSay g w z sh flight names → ReadsStand g w sh flight
   reads_stand say = record {
     copied = h.copied_stays;
@@ -123,6 +155,7 @@ module _ (g : Geometry) (w : Words) (z : Spaces) (sh : Shades) (flight : ℕ →
           h.late_in_no_black_object s below (claimed_inside (flight s) claimed) late,
           λ framed. h.late_in_no_black_frame s below (claimed_in_frame (flight s) claimed framed) late,
         );
+    written = written_dark;
   }
 
   -- A CLEAN STATE
@@ -150,10 +183,9 @@ module _ (g : Geometry) (w : Words) (z : Spaces) (sh : Shades) (flight : ℕ →
         (settled.none_grey n (m.kept n o.is_kept).within) (reached_dark holder reach) in
         h.black_leads_to_no_white n holder o.is_kept black o.bears field birth within holds
 
-    inside_dark : (s : ℕ) → s < tasks g → f.in_object (flight s) ≡ true → sh.white (layout.reference_number (flight s).entered) ≡ false
-    inside_dark s below inside =
-        let p = inside_through (flight s) inside in
-        dark_number sh.white (flight s).entered (layout.reference_number (flight s).entered) (refl, (h.entered_good s below p.0 p.1).some) (settled.entered s below p.1)
+    through_dark : (s : ℕ) → s < tasks g → GoesThrough (flight s) → sh.white (layout.reference_number (flight s).entered) ≡ false
+    through_dark s below goes =
+        dark_number sh.white (flight s).entered (layout.reference_number (flight s).entered) (refl, (h.entered_good s below goes.0 goes.1).some) (settled.entered s below goes.1)
 
     pub clean_when_settled : IsClean g w sh flight names contents
     clean_when_settled = record {
@@ -161,5 +193,5 @@ module _ (g : Geometry) (w : Words) (z : Spaces) (sh : Shades) (flight : ℕ →
       none_late = settled.none_late;
       reached = reached_dark;
       read = settled.items;
-      inside = inside_dark;
+      through = through_dark;
     }

@@ -1,5 +1,5 @@
 -- What a lawful state promises of the lists: they name nothing that is in use, and their unread numbers are free.
-use Rattle.std.proofs.Common.{◌≡◌, ◌≢◌, ◌⊎◌, ℕ, ◌+◌, ◌-◌, ◌<◌, true, false, inl, inr, refl, sym, ◌∙◌, ap, subst, arith, Option}
+use Rattle.std.proofs.Common.{◌≡◌, ◌≢◌, ◌⊎◌, ℕ, ◌+◌, ◌-◌, ◌<◌, ◌≤◌, true, false, inl, inr, refl, sym, ◌∙◌, ap, subst, arith, Option}
 use Rattle.std.proofs.lemmas.Bool.{cases_lt, cases_eq, cases_Bool, and_parts, and_from}
 use Rattle.std.proofs.lemmas.Bool.Decides.{nat_tests}
 use Rattle.std.specs.Prelude.{nat_le, ◌&&◌}
@@ -22,7 +22,7 @@ use Rattle.hk_core.specs.Colours.{Spaces, Shades}
 use Rattle.hk_core.specs.Facts as fact
 use Rattle.hk_core.specs.Facts.{IsOwn, IsUnread, own_entry}
 use Rattle.hk_core.specs.Lawful.{Facts}
-use Rattle.hk_core.specs.Stands.{IsUnreadEntry, IsOnNoList, ListsStand}
+use Rattle.hk_core.specs.Stands.{IsUnreadEntry, IsOnNoList, ListsStand, WrittenStand}
 use Rattle.hk_core.proofs.kinds.WriteCell.{ShadesMean, fresh_when_done}
 use Rattle.hk_core.proofs.PromisedNumbers.{mark_fresh, kept_when_reached, item_null_or_good}
 use Rattle.hk_core.proofs.Shared.{refuted}
@@ -65,8 +65,60 @@ written_case g t (line.Sweep n stage.Empty) cycle mark next marked step j below 
 written_case g t (line.Clear i) cycle mark next marked step j below = inl (marked j below)
 written_case g t line.Reset cycle mark next marked step j below = inl (marked j below)
 
+-- of the entries that are written but not marked, the one there is has a mark below the cycle
+unmarked_case : (g : Geometry) (t : Spot) (ln : Line) (cycle : ℕ) (mark next : ℕ → ℕ) → l.InStep (list_length g) cycle t.entries mark next ln
+    → (j : ℕ) → l.marked g t ln ≤ j → j < l.written g t ln → mark (next j) < cycle
+unfolding l.written l.marked l.unmarked_at
+unmarked_case g t line.Rest cycle mark next step j above below = absurd (omega arith)
+unmarked_case g t (line.Frame s) cycle mark next step j above below = none_written j below
+unmarked_case g t (line.Register s r stage) cycle mark next step j above below = none_written j below
+unmarked_case g t (line.FrameTrade s) cycle mark next step j above below = none_written j below
+unmarked_case g t line.Scan cycle mark next step j above below = none_written j below
+unmarked_case g t line.Link cycle mark next step j above below = none_written j below
+unmarked_case g t line.Look cycle mark next step j above below = none_written j below
+unmarked_case g t (line.Cell i stage) cycle mark next step j above below = none_written j below
+unmarked_case g t line.ObjectTrade cycle mark next step j above below = none_written j below
+unmarked_case g t (line.Pass n) cycle mark next step j above below = none_written j below
+unmarked_case g t (line.PassHead n) cycle mark next step j above below = none_written j below
+unmarked_case g t (line.Sweep n stage.Read) cycle mark next step j above below = absurd (omega arith)
+unmarked_case g t (line.Sweep n stage.Claim) cycle mark next step j above below = absurd (omega arith)
+unmarked_case g t (line.Sweep n stage.Reserve) cycle mark next step j above below = absurd (omega arith)
+unmarked_case g t (line.Sweep n stage.Tie) cycle mark next step j above below = absurd (omega arith)
+unmarked_case g t (line.Sweep n stage.Write) cycle mark next step j above below = absurd (omega arith)
+unmarked_case g t (line.Sweep n stage.Mark) cycle mark next step j above below =
+    let last : j ≡ t.entries - 1 = omega arith in
+    let number : next j ≡ n = ap next last ∙ step.2 in
+    rw number step.3
+unmarked_case g t (line.Sweep n stage.Empty) cycle mark next step j above below = absurd (omega arith)
+unmarked_case g t (line.Clear i) cycle mark next step j above below = absurd (omega arith)
+unmarked_case g t line.Reset cycle mark next step j above below = absurd (omega arith)
+
+-- so all but the last one are marked, and all but the last one are without a header
+all_but_last : (g : Geometry) (t : Spot) (ln : Line) → (l.written g t ln ≤ l.marked g t ln + 1) × (l.written g t ln ≤ l.emptied g t ln + 1)
+unfolding l.written l.marked l.emptied l.unmarked_at l.headed_at
+all_but_last g t line.Rest = (omega arith, omega arith)
+all_but_last g t (line.Frame s) = (omega arith, omega arith)
+all_but_last g t (line.Register s r stage) = (omega arith, omega arith)
+all_but_last g t (line.FrameTrade s) = (omega arith, omega arith)
+all_but_last g t line.Scan = (omega arith, omega arith)
+all_but_last g t line.Link = (omega arith, omega arith)
+all_but_last g t line.Look = (omega arith, omega arith)
+all_but_last g t (line.Cell i stage) = (omega arith, omega arith)
+all_but_last g t line.ObjectTrade = (omega arith, omega arith)
+all_but_last g t (line.Pass n) = (omega arith, omega arith)
+all_but_last g t (line.PassHead n) = (omega arith, omega arith)
+all_but_last g t (line.Sweep n stage.Read) = (omega arith, omega arith)
+all_but_last g t (line.Sweep n stage.Claim) = (omega arith, omega arith)
+all_but_last g t (line.Sweep n stage.Reserve) = (omega arith, omega arith)
+all_but_last g t (line.Sweep n stage.Tie) = (omega arith, omega arith)
+all_but_last g t (line.Sweep n stage.Write) = (omega arith, omega arith)
+all_but_last g t (line.Sweep n stage.Mark) = (omega arith, omega arith)
+all_but_last g t (line.Sweep n stage.Empty) = (omega arith, omega arith)
+all_but_last g t (line.Clear i) = (omega arith, omega arith)
+all_but_last g t line.Reset = (omega arith, omega arith)
+
 -- a New without a number has written no header
-numbered : (x : Flight) → f.has_header x ≡ true → f.has_number x ≡ true
+pub numbered : (x : Flight) → f.has_header x ≡ true → f.has_number x ≡ true
 unfolding f.has_header f.has_number f.is_new_at
 numbered x headed = let p = and_parts _ _ headed in and_from _ _ (each x.call x.place p.0) p.1
   where
@@ -139,6 +191,17 @@ module _ (g : Geometry) (w : Words) (z : Spaces) (sh : Shades) (flight : ℕ →
     ];
   }
 
+  pub written_stand : WrittenStand g w t
+  written_stand = record {
+    numbers = h.written_numbers;
+    distinct = h.written_distinct;
+    marked = h.written_marked;
+    unmarked = unmarked_case g t t.line w.cycle w.mark (w.entry (next_list w.cycle)) h.sweep_in_step;
+    empty = h.written_empty;
+    marked_but_last = (all_but_last g t t.line).0;
+    empty_but_last = (all_but_last g t t.line).1;
+  }
+
   pub lists_stand : ListsStand g w flight t names contents
   lists_stand = record {
     reached = λ birth reach. on_no_list (names.number birth) (kept_when_reached g w z sh flight begun hand t names contents range h birth reach).is_kept;
@@ -146,6 +209,7 @@ module _ (g : Geometry) (w : Words) (z : Spaces) (sh : Shades) (flight : ℕ →
       | inl null ↦ absurd (some null)
       | inr good ↦ on_no_list (layout.reference_number (flight s).item) good.is_kept
     ];
+    through = λ s below goes. on_no_list (layout.reference_number (flight s).entered) (h.entered_good s below goes.0 goes.1).is_kept;
     distinct = unread_distinct;
     free = unread_free;
   }

@@ -23,7 +23,6 @@ use Rattle.hk_core.specs.Colours.{Spaces, spaces_of, Shades, shades_of, held_by,
 use Rattle.hk_core.specs.Lawful.{Facts}
 use Rattle.hk_core.specs.Reach.{Reach, in_register, in_cell}
 use Rattle.hk_core.specs.Stands.{IsInUse}
-use Rattle.hk_core.proofs.Inside.{inside_through}
 use Rattle.hk_core.proofs.kinds.WriteCell.{BearersNumbered}
 use Rattle.hk_core.proofs.Shared.{some_kept}
 
@@ -90,11 +89,10 @@ module _ (g : Geometry) (w : Words) (z : Spaces) (sh : Shades) (flight : ℕ →
   -- and so is one that is in use
   pub kept_in_use : BearersNumbered names → (birth : ℕ) → IsInUse g names contents flight birth → IsKeptBirth sh.kept names birth
   kept_in_use numbered birth (inl reach) = kept_when_reached birth reach
-  kept_in_use numbered birth (inr (s, below, (inside, bears))) =
-      let p = inside_through (flight s) inside in
+  kept_in_use numbered birth (inr (s, below, goes, bears)) =
       let number : names.number birth ≡ layout.reference_number (flight s).entered = numbered _ birth bears in
       record {
-        is_kept = rw number (h.entered_good s below p.0 p.1).is_kept;
+        is_kept = rw number (h.entered_good s below goes.0 goes.1).is_kept;
         bears = rw number bears;
       }
 

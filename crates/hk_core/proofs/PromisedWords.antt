@@ -1,6 +1,6 @@
 -- What a lawful state promises of words: the ranges that are reserved are apart and belong to claimed numbers, and a word of
 -- the current space that is in no black object, no range and none of a New's words is 0.
-use Rattle.std.proofs.Common.{◌≡◌, ℕ, ◌+◌, ◌-◌, ◌<◌, ◌≤◌, true, inl, inr, sym, ◌∙◌, ap, subst, arith, Option, Some}
+use Rattle.std.proofs.Common.{◌≡◌, ◌≢◌, ℕ, zero, suc, ◌+◌, ◌-◌, ◌<◌, ◌≤◌, true, inl, inr, refl, sym, ◌∙◌, ap, subst, arith, Option, Some, None}
 use Rattle.std.proofs.lemmas.Bool.{cases_lt, cases_Bool}
 use Rattle.hk_words.specs.declared.geometry.Geometry.{Geometry}
 use Rattle.hk_core.specs.declared.flight.Flight.{Flight}
@@ -11,10 +11,11 @@ use Rattle.hk_core.specs.Lines as l
 use Rattle.hk_core.specs.Colours.{Spaces, Shades, InOld, Covers}
 use Rattle.hk_core.specs.Facts.{IsMoved}
 use Rattle.hk_core.specs.Lawful.{Facts}
-use Rattle.hk_core.specs.Stands.{LiesNowhere, RangesStand, SpaceStands}
+use Rattle.hk_core.specs.Stands.{LiesInRange, IsTiled, LiesNowhere, RangesStand, SpaceStands}
 use Rattle.hk_core.proofs.kinds.LoadRead.{ColoursMean, some_words}
 use Rattle.hk_core.proofs.kinds.WriteCell.{ShadesMean}
 use Rattle.hk_core.proofs.PromisedNumbers.{mark_fresh, borne_by}
+use Rattle.hk_core.proofs.Shared.{never_both}
 
 module _ (g : Geometry) (w : Words) (z : Spaces) (sh : Shades) (flight : ℕ → Flight) (begun : ℕ → ℕ) (hand : ℕ → Hand) (t : Spot)
     (names : Names) (contents : Contents) (range : ℕ → Option ℕ) (h : Facts g w z sh flight begun hand t names contents range)
@@ -39,10 +40,43 @@ module _ (g : Geometry) (w : Words) (z : Spaces) (sh : Shades) (flight : ℕ →
             c.is_black n o.is_claimed (omega arith) (omega arith)
       ]
 
+  -- the range that begins at an offset, or a later one, has a reserved word from there on
+  covered_from : (fuel from i : ℕ) → range from ≢ None → from ≤ i → i < w.reserved → i < from + fuel → (x : ℕ) × LiesInRange sh.size range x i
+  covered_from zero from i there after below enough = absurd (omega arith)
+  covered_from (suc fuel) from i there after below enough =
+      let o = number_there (range from) there in
+      let n = o.0 in
+      let words : 0 < sh.size n = some n in
+      elim (cases_lt i (from + sh.size n)) [
+        | inl here ↦ (from, (n, o.1, record { after = after; before = here }))
+        | inr later ↦ covered_from fuel (from + sh.size n) i (h.ranges_join from n o.1 (omega arith)) later below (omega arith)
+      ]
+    where
+      number_there : (o : Option ℕ) → o ≢ None → (n : ℕ) × (o ≡ Some n)
+      number_there None none = absurd (none refl)
+      number_there (Some n) none = (n, refl)
+
+  -- no word lies in two ranges
+  not_later : (x y i : ℕ) → LiesInRange sh.size range x i → LiesInRange sh.size range y i → x < y → ⊥
+  not_later x y i (n, there, covers) (n', there', covers') less =
+      let to : i < x + sh.size n = covers.before in
+      let from : y ≤ i = covers'.after in
+      never_both (range y) n' (h.ranges_apart x n y there less (omega arith)) there'
+
+  tiled : IsTiled w.reserved sh.size range
+  tiled = record {
+    within = h.ranges_within;
+    covered = λ i below. covered_from (i + 1) 0 i (h.first_range (omega arith)) (omega arith) below (omega arith);
+    once = λ x y i a b. elim (cases_lt x y) [
+      | inl less ↦ absurd (not_later x y i a b less)
+      | inr more ↦ elim (cases_lt y x) [ inl less ↦ absurd (not_later y x i b a less) | inr not_less ↦ omega arith ]
+    ];
+  }
+
   pub ranges_stand : RangesStand w z sh t names range
   ranges_stand = record {
-    within = h.ranges_within;
-    apart = h.ranges_apart;
+    tiled = tiled;
+    one_each = h.one_range_each;
     claimed = λ x n there. elim (cases_lt x t.scan) [
       | inl below ↦ (h.ranges_below_moved x n there below).is_claimed
       | inr above ↦ (m.grey n (h.ranges_above_grey x n there above).1).of_cycle

@@ -52,7 +52,7 @@ packed_number m n refs nums refs' nums' a b e = omega arith
 
 module _ (c : State) (history : History) (s : ℕ) (below : s < tasks c.geometry) (h : Lawful c history) (idle : (flight_at c s).place ≡ 0) where
   -- a register word shows the plain register
-  word_shows : (r : ℕ) → r < c.geometry.registers → register_word c s r ≡ shown (names_of c.geometry history) ((contents_of c.geometry history).register s r)
+  pub word_shows : (r : ℕ) → r < c.geometry.registers → register_word c s r ≡ shown (names_of c.geometry history) ((contents_of c.geometry history).register s r)
   unfolding words_of decoded register_word
   word_shows r fits =
       let g = c.geometry in

@@ -37,7 +37,7 @@ in_flight : (first last p : ℕ) → 1 ≤ first → f.is_between first last p �
 in_flight first last p from e = grind (arith, nat_tests)
 
 -- a New that has a number is making its object
-making : (x : Flight) → f.has_number x ≡ true → f.is_making x ≡ true
+pub making : (x : Flight) → f.has_number x ≡ true → f.is_making x ≡ true
 unfolding f.has_number f.is_making f.is_new_at
 making x has = each x.call x.place has
   where

@@ -51,31 +51,38 @@ has_field (New dest shape) reference = true
 has_field (Same a b) reference = true
 has_field (IsNull reg) reference = true
 
--- the first reason, in the stated order, why a call isn't begun: the seat has begun as many as it can, the entered
--- register is null, the object has no such field
-unfoldable pub refusal : State → ℕ → Call → Option Fault
-refusal c seat call =
-    if nat_le most_calls (slice_index c.begun seat) then Some Spent
-    else if is_some (entered call) && entered_word c seat call == 0 then Some Nil
-    else if not (has_field call (entered_word c seat call)) then Some Field
+-- The first reason, in the stated order, why a call isn't begun, where its seat has begun so many calls and the entered
+-- register holds so much: the seat has begun as many as it can, the register is null, the object has no such field.
+abbrev pub refusal_by : (begun : ℕ) → Call → (entered : ℕ) → Option Fault
+refusal_by begun call word =
+    if nat_le most_calls begun then Some Spent
+    else if is_some (entered call) && word == 0 then Some Nil
+    else if not (has_field call word) then Some Field
     else None
 
--- the flight of a call that begins: it stands at its first place, and has read nothing but registers
-unfoldable pub first_flight : State → ℕ → Call → Flight
-first_flight c seat call = record {
+unfoldable pub refusal : State → ℕ → Call → Option Fault
+refusal c seat call = refusal_by (slice_index c.begun seat) call (entered_word c seat call)
+
+-- the flight of a call that begins, where the register that it enters and the one that it copies from hold so much: it
+-- stands at its first place, and has read nothing else
+abbrev pub flight_by : (seat : ℕ) → Call → (entered copied : ℕ) → Flight
+flight_by seat call entered copied = record {
   seat = seat;
   call = call;
   place = 1;
-  entered = entered_word c seat call;
+  entered = entered;
   at = 0;
   word = 0;
-  item = copied_word c seat call;
+  item = copied;
   claimer = false;
   offset = 0;
   number = 0;
   full = false;
   raised = false;
 }
+
+unfoldable pub first_flight : State → ℕ → Call → Flight
+first_flight c seat call = flight_by seat call (entered_word c seat call) (copied_word c seat call)
 
 -- the state in which the call is in flight, one more call of the seat is begun, and nothing else is changed
 unfoldable pub accepted : State → ℕ → Call → State

@@ -1,9 +1,11 @@
 -- What a step does to an object that a call is inside.
-use Rattle.std.specs.Prelude.{◌≡◌, ◌≢◌, ℕ, ◌==◌, Bool, true, Option, Some, None, if◌then◌else◌}
+use Rattle.std.specs.Prelude.{◌≡◌, ◌≢◌, ℕ, ◌<◌, ◌==◌, Bool, true, Option, Some, None, if◌then◌else◌}
 use Rattle.hk_words.specs.declared.call.Call.{Call}
 use Rattle.hk_words.specs.declared.call.Call.TheVariants.{Get, Put, Load, Store, Move, Clear, New, Same, IsNull}
 use Rattle.hk_core.specs.declared.flight.Flight.{Flight}
-use Rattle.hk_core.specs.Step.{number_cell, reference_cell}
+use Rattle.hk_core.specs.Step.{number_cell, reference_cell, new_place}
+use Rattle.hk_core.specs.Flights.{is_making, has_header, new_size}
+use Rattle.hk_words.specs.Geometry.{tasks}
 use Rattle.hk_model.specs.History.{History}
 use Rattle.hk_core.specs.State.{State}
 use Rattle.hk_core.specs.View.{Words, words_of, names_of, flight_at, size_at}
@@ -38,8 +40,13 @@ kept_in c history = (shades_of c.geometry (words_of c.geometry c.row) (flight_at
 abbrev pub size_in : State → History → ℕ → ℕ
 size_in c history = size_at (names_of c.geometry history)
 
--- the object of a number is kept, and its words are apart from those of every other kept number
+-- the object of a number is kept, its words are apart from those of every other kept number and from those that a New in
+-- flight was given, and no number to which a New in flight has given a header has its place
 pub record StandsApart (c : State) (history : History) (n : ℕ) : Type 0 where
   pub is_kept : kept_in c history n ≡ true
   pub apart : (m : ℕ) → kept_in c history m ≡ true → m ≢ n
       → Apart ((words_of c.geometry c.row).place m) (size_in c history m) ((words_of c.geometry c.row).place n) (size_in c history n)
+  pub news : (s : ℕ) → s < tasks c.geometry → is_making (flight_at c s) ≡ true
+      → Apart ((words_of c.geometry c.row).place n) (size_in c history n) (new_place c.geometry (flight_at c s)) (new_size (flight_at c s))
+  pub headers : (s : ℕ) → s < tasks c.geometry → has_header (flight_at c s) ≡ true
+      → (words_of c.geometry c.row).place (flight_at c s).number ≢ (words_of c.geometry c.row).place n

@@ -8,6 +8,7 @@ use Rattle.hk_words.specs.Layout.{reference_number}
 use Rattle.hk_words.specs.Calls.{RegistersFit}
 use Rattle.hk_model.specs.Heap.{opening_of}
 use Rattle.hk_model.specs.History.{History, Legal, after, of_seat, is_question}
+use Rattle.hk_model.specs.Replies.{reply_of}
 use Rattle.hk_core.specs.declared.outcome.Fault.{Fault}
 use Rattle.hk_core.specs.declared.outcome.Step.TheVariants.{Ended}
 use Rattle.hk_core.specs.declared.outcome.Outcome.TheVariants.{Full}
@@ -26,6 +27,7 @@ use Rattle.hk_core.specs.Turns.{steps_of, StandsLater}
 use Rattle.hk_core.specs.Replied.{AnswersEntry}
 use Rattle.hk_core.specs.Refused.{TellsRoom, EndsFull}
 use Rattle.hk_core.specs.Fresh.{IsFresh}
+use Rattle.hk_core.specs.Faults.{TellsPlain}
 use Rattle.hk_core.specs.Reach.{Reached}
 use Rattle.hk_core.specs.Inside.{cell_written, IsLeftAlone, kept_in, size_in, StandsApart}
 
@@ -49,6 +51,12 @@ LawfulIsLegal = (c : State) (history : History) → Lawful c history → Legal (
 abbrev pub LawfulCanStep : Type 0
 LawfulCanStep = (c : State) (history : History) (seat : ℕ) → seat < tasks c.geometry → 1 ≤ (flight_of c.flights seat).place → Lawful c history
     → CanStep c seat
+
+-- a begin of an idle seat is refused for what the plain heap answers, and one that isn't finds its object and field there
+abbrev pub BeginTellsPlain : Type 0
+BeginTellsPlain = (c : State) (history : History) (seat : ℕ) (call : Call) → seat < tasks c.geometry → (flight_of c.flights seat).place ≡ 0
+    → is_question call ≡ false → RegistersFit c.geometry.registers call → Lawful c history
+    → TellsPlain (refusal c seat call) (reply_of (after (opening_of c.geometry) history) seat call)
 
 -- PLACES
 
@@ -149,7 +157,8 @@ StepsLeaveAlone = (c : State) (history : History) (seat inside : ℕ) → seat <
     → let n = reference_number (flight_of c.flights inside).entered in
     IsLeftAlone (words_of c.geometry c.row) (words_of c.geometry (next c seat).row) (size_in c history n) (cell_written (flight_of c.flights seat)) n
 
--- such an object stands apart from those of all other kept numbers, so none of these has its place
+-- such an object stands apart from those of all other kept numbers, and from what News in flight were given, so none of
+-- these has its place
 abbrev pub InsideStandsApart : Type 0
 InsideStandsApart = (c : State) (history : History) (inside : ℕ) → inside < tasks c.geometry → in_object (flight_of c.flights inside) ≡ true → Lawful c history
     → StandsApart c history (reference_number (flight_of c.flights inside).entered)

@@ -20,5 +20,6 @@ pub mod Turns
 pub mod Replied
 pub mod Refused
 pub mod Fresh
+pub mod Faults
 pub mod Laws
 pub mod Promise

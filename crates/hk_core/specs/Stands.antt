@@ -21,15 +21,16 @@ use Rattle.hk_core.specs.Reach.{Reach}
 
 -- THE STATE STANDS FOR THE PLAIN HEAP
 
--- the birth of the object that a flight is inside
-abbrev pub IsInsideBirth : Names → Flight → ℕ → Type 0
-IsInsideBirth names flight birth = (f.in_object flight ≡ true) × (names.bearer (layout.reference_number flight.entered) ≡ Some birth)
+-- a seat has a call in flight that goes through an object: it is inside it, has still to enter it, or is a Load that has
+-- left it and stands at its last place
+abbrev pub GoesThrough : Flight → Type 0
+GoesThrough flight = (f.is_through flight.call ≡ true) × (f.is_flying flight ≡ true)
 
--- a birth is in use where it can be reached, or a call in flight is inside its object
+-- a birth is in use where it can be reached, or a call in flight goes through its object
 abbrev pub IsInUse : Geometry → Names → Contents → (ℕ → Flight) → ℕ → Type 0
 IsInUse g names contents flight birth =
     Reach g names.refs contents.register contents.link birth
-    ⊎ ((s : ℕ) × (s < tasks g) × IsInsideBirth names (flight s) birth)
+    ⊎ ((s : ℕ) × (s < tasks g) × GoesThrough (flight s) × (names.bearer (layout.reference_number (flight s).entered) ≡ Some birth))
 
 -- a birth is shown where it is the last one of its number, the header of the number has a place, and the words after the
 -- link word at that place show its cells
@@ -41,10 +42,14 @@ pub record IsShown (w : Words) (names : Names) (contents : Contents) (birth : �
       → w.cell (w.place (names.number birth) + 1 + names.refs birth + i) ≡ contents.value birth i
 
 -- each register of the plain heap is shown by its register word, but between the effect of a Load and the write of its
--- register by the reference that the Load read; each birth in use is shown; the words of two such births don't overlap;
+-- register by the reference that the Load read; from that write on the register word is what the Load read; a call goes
+-- through the object of a birth, by its reference; each birth in use is shown; the words of two such births don't overlap;
 -- the accessors of each header and of each frame are the number of calls that are inside it
 pub record Stands (g : Geometry) (w : Words) (flight : ℕ → Flight) (names : Names) (contents : Contents) : Type 0 where
   pub registers : fact.RegistersShown g names w.register contents.register flight
+  pub loaded : fact.LoadedStays g w.register flight
+  pub through : (s : ℕ) → s < tasks g → GoesThrough (flight s)
+      → (birth : ℕ) × (names.bearer (layout.reference_number (flight s).entered) ≡ Some birth) × ((flight s).entered ≡ shown names (Some birth))
   pub births : (birth : ℕ) → IsInUse g names contents flight birth → IsShown w names contents birth
   pub apart : (a b : ℕ) → IsInUse g names contents flight a → IsInUse g names contents flight b → a ≢ b
       → Apart (w.place (names.number a)) (1 + names.refs a + names.nums a) (w.place (names.number b)) (1 + names.refs b + names.nums b)
@@ -66,12 +71,14 @@ pub record IsOnNoList (g : Geometry) (w : Words) (flight : ℕ → Flight) (t : 
   pub not_unread : (j : ℕ) → IsUnreadEntry g w flight j → w.entry (current_space w.cycle) j ≢ n
   pub not_written : (j : ℕ) → j < l.written g t t.line → w.entry (next_list w.cycle) j ≢ n
 
--- what can be reached, and what calls in flight have read, is on no list, and the unread numbers are free
+-- what can be reached, what calls in flight have read, and what they go through, is on no list, and the unread numbers
+-- are free
 pub record ListsStand (g : Geometry) (w : Words) (flight : ℕ → Flight) (t : Spot) (names : Names) (contents : Contents) : Type 0 where
   pub reached : (birth : ℕ) → Reach g names.refs contents.register contents.link birth
       → IsOnNoList g w flight t (names.number birth)
   pub read : (s : ℕ) → s < tasks g → f.has_item (flight s) ≡ true → (flight s).item ≢ 0
       → IsOnNoList g w flight t (layout.reference_number (flight s).item)
+  pub through : (s : ℕ) → s < tasks g → GoesThrough (flight s) → IsOnNoList g w flight t (layout.reference_number (flight s).entered)
   pub distinct : (i j : ℕ) → IsUnreadEntry g w flight i → IsUnreadEntry g w flight j → i ≢ j
       → w.entry (current_space w.cycle) i ≢ w.entry (current_space w.cycle) j
   pub free : (j : ℕ) → IsUnreadEntry g w flight j
@@ -87,7 +94,8 @@ pub record BlackStands (g : Geometry) (w : Words) (sh : Shades) (flight : ℕ �
   pub late_frames : fact.LateInNoBlackFrame g w.cycle sh.black_frame flight
 
 -- what calls in flight have read: a Store and a Move write what is in their register; what a Load read, and what it goes
--- through, is white only where it comes from nothing black; and so is, from the claim on, what was claimed
+-- through, is white only where it comes from nothing black; and so is, from the claim on, what was claimed. Once a Load has
+-- written its register, also at its last place, what it read is white only where its frame isn't black
 pub record ReadsStand (g : Geometry) (w : Words) (sh : Shades) (flight : ℕ → Flight) : Type 0 where
   pub copied : fact.CopiedStays g w.register flight
   pub loaded : fact.LoadedWhiteFromNoBlack g sh.white sh.black flight
@@ -95,12 +103,24 @@ pub record ReadsStand (g : Geometry) (w : Words) (sh : Shades) (flight : ℕ →
   pub claimed : (s : ℕ) → s < tasks g → f.has_claimed (flight s) ≡ true
       → sh.white (layout.reference_number (flight s).item) ≡ true
       → (sh.black (layout.reference_number (flight s).entered) ≡ false) × (f.in_frame (flight s) ≡ true → sh.black_frame s ≡ false)
+  pub written : (s : ℕ) → s < tasks g → f.has_written (flight s) ≡ true → sh.black_frame s ≡ true → NamesNoWhite sh.white (flight s).item
 
--- the ranges below what is reserved are apart, each belongs to a number that was claimed in this cycle, the link word of
--- one that fits is 0 or the reference of the number, and those below the scan offset belong to black objects
+-- an offset of the area for evacuation lies in the range that begins at an offset
+abbrev pub LiesInRange : (size : ℕ → ℕ) → (range : ℕ → Option ℕ) → (x i : ℕ) → Type 0
+LiesInRange size range x i = (n : ℕ) × (range x ≡ Some n) × Covers x (size n) i
+
+-- the ranges tile what is reserved: each of its words lies in exactly one range, and each word of a range is one of them
+pub record IsTiled (reserved : ℕ) (size : ℕ → ℕ) (range : ℕ → Option ℕ) : Type 0 where
+  pub within : fact.RangesWithin reserved size range
+  pub covered : (i : ℕ) → i < reserved → (x : ℕ) × LiesInRange size range x i
+  pub once : (x y i : ℕ) → LiesInRange size range x i → LiesInRange size range y i → x ≡ y
+
+-- the ranges tile the words that are reserved, no two belong to one number, each belongs to a number that was claimed in
+-- this cycle, the link word of one that fits is 0 or the reference of the number, and those below the scan offset belong to
+-- black objects
 pub record RangesStand (w : Words) (z : Spaces) (sh : Shades) (t : Spot) (names : Names) (range : ℕ → Option ℕ) : Type 0 where
-  pub within : fact.RangesWithin w.reserved sh.size range
-  pub apart : fact.RangesApart sh.size range
+  pub tiled : IsTiled w.reserved sh.size range
+  pub one_each : fact.OneRangeEach range
   pub claimed : (x n : ℕ) → range x ≡ Some n → w.mark n ≡ w.cycle
   pub linked : fact.RangesLinked z sh.size w.cell (reference_at names) range
   pub moved : (x n : ℕ) → range x ≡ Some n → x < t.scan → sh.black n ≡ true
@@ -119,22 +139,32 @@ SpaceStands g w z sh flight names range = (i : ℕ) → i < z.live + z.alloc
     → LiesNowhere g w z sh flight names range (z.current + i) → w.cell (z.current + i) ≡ 0
 
 -- a clean state: no number is grey, no New in flight has raised W0 before the last flip, and no white number can be
--- reached, stands in a reference that a call in flight has read, or is that of an object that a call is inside
+-- reached, stands in a reference that a call in flight has read, or is that of an object that a call goes through
 pub record IsClean (g : Geometry) (w : Words) (sh : Shades) (flight : ℕ → Flight) (names : Names) (contents : Contents) : Type 0 where
   pub none_grey : (n : ℕ) → n < numbers g → sh.grey n ≡ false
   pub none_late : (s : ℕ) → s < tasks g → f.has_raised (flight s) ≡ true → f.cycle_of (flight s) ≡ w.cycle
   pub reached : (birth : ℕ) → Reach g names.refs contents.register contents.link birth → sh.white (names.number birth) ≡ false
   pub read : (s : ℕ) → s < tasks g → f.has_item (flight s) ≡ true → NamesNoWhite sh.white (flight s).item
-  pub inside : (s : ℕ) → s < tasks g → f.in_object (flight s) ≡ true
-      → sh.white (layout.reference_number (flight s).entered) ≡ false
+  pub through : (s : ℕ) → s < tasks g → GoesThrough (flight s) → sh.white (layout.reference_number (flight s).entered) ≡ false
+
+-- the entries that the sweep has written for the next cycle are distinct numbers, marked for that cycle and without a
+-- header. Of the last one this is so once the sweep has written its mark and has emptied its header; until then its mark is
+-- below the cycle
+pub record WrittenStand (g : Geometry) (w : Words) (t : Spot) : Type 0 where
+  pub numbers : fact.WrittenNumbers g (l.written g t t.line) (w.entry (next_list w.cycle))
+  pub distinct : fact.WrittenDistinct (l.written g t t.line) (w.entry (next_list w.cycle))
+  pub marked : fact.WrittenMarked w.cycle (l.marked g t t.line) w.mark (w.entry (next_list w.cycle))
+  pub unmarked : (j : ℕ) → l.marked g t t.line ≤ j → j < l.written g t t.line → w.mark (w.entry (next_list w.cycle) j) < w.cycle
+  pub empty : fact.WrittenEmpty (l.emptied g t t.line) w.accessors w.place w.version (w.entry (next_list w.cycle))
+  -- all but the last one are marked and empty
+  pub marked_but_last : l.written g t t.line ≤ l.marked g t t.line + 1
+  pub empty_but_last : l.written g t t.line ≤ l.emptied g t t.line + 1
 
 -- what holds at the spot of the collector
 pub record SpotStands (g : Geometry) (w : Words) (z : Spaces) (sh : Shades) (flight : ℕ → Flight) (t : Spot) (names : Names) (contents : Contents) : Type 0 where
   pub copied : fact.CellsCopied z t t.line t.scan t.first t.item w.version w.cell
   pub loaded : fact.CellLoaded t.line t.first t.item t.cell w.version w.cell
-  pub written_distinct : fact.WrittenDistinct (l.written g t t.line) (w.entry (next_list w.cycle))
-  pub written_marked : fact.WrittenMarked w.cycle (l.marked g t t.line) w.mark (w.entry (next_list w.cycle))
-  pub written_empty : fact.WrittenEmpty (l.emptied g t t.line) w.accessors w.place w.version (w.entry (next_list w.cycle))
+  pub written : WrittenStand g w t
   pub pass : fact.PassMeetsGrey g t.line sh.grey (IsClean g w sh flight names contents)
   pub clean : fact.SettledFromSweep t.line (IsClean g w sh flight names contents)
   pub frames : fact.FramesBlackened g sh.black_frame t.line

@@ -1,13 +1,15 @@
 //! Laws of the machine, over its definitions alone.
-ghost use Rattle.hk_core.specs.Laws.{BeginKeepsLawful, StepKeepsLawful, LawfulCanStep, LawfulIsLegal, NewTellsRoom, AnswersFull, ReachedIsKept, NumbersAreFresh, RowsAreSoLong, TakesItsSteps, EndsAtItsLastStep, AnswersItsEntry, RefusedChangesNothing, BeginsAtFirst, BeginsAlone, StaysInRow, StepGoesOn, StepEnds, StepsAlone, RegistersTested, StepsLeaveAlone, InsideStandsApart, InsideKnowsPlace, WritesOwn};
+ghost use Rattle.hk_core.specs.Laws.{BeginKeepsLawful, StepKeepsLawful, LawfulCanStep, LawfulIsLegal, BeginTellsPlain, NewTellsRoom, AnswersFull, ReachedIsKept, NumbersAreFresh, RowsAreSoLong, TakesItsSteps, EndsAtItsLastStep, AnswersItsEntry, RefusedChangesNothing, BeginsAtFirst, BeginsAlone, StaysInRow, StepGoesOn, StepEnds, StepsAlone, RegistersTested, StepsLeaveAlone, InsideStandsApart, InsideKnowsPlace, WritesOwn};
 
 /// Begins and steps keep a lawful state lawful, for the history that they lead to, whatever the call; each reply in that
-/// history is the one of the plain heap; and no seat in flight is ever stuck.
+/// history is the one of the plain heap; a begin is refused for what the plain heap answers; and no seat in flight is ever
+/// stuck.
 pub fn lawful_states()
     ensures begin { BeginKeepsLawful }
     ensures step { StepKeepsLawful }
     ensures legal { LawfulIsLegal }
     ensures can_step { LawfulCanStep }
+    ensures plain { BeginTellsPlain }
 {}
 
 /// A call goes through the places of its row one by one: it begins at the first, each step leads to the next, and the
@@ -26,7 +28,7 @@ pub fn places_in_order()
 {}
 
 /// While a call is inside an object, no step changes the place in its header, nor a word of it but for the cell that a
-/// call inside it writes, and no other kept number has one of its words.
+/// call inside it writes, and no other kept number, nor a New in flight, has one of its words.
 pub fn inside_an_object()
     ensures alone { StepsLeaveAlone }
     ensures apart { InsideStandsApart }

@@ -10,6 +10,7 @@ mod opening;
 mod outcome;
 mod promise;
 mod spot;
+mod starting;
 #[cfg(test)]
 mod tests;
 mod took;
@@ -17,8 +18,13 @@ mod took;
 pub use event::Event;
 pub use flight::{Flight, reference_size, reserved_fits};
 pub use hk_model::Memory;
-pub use laws::{inside_an_object, lawful_states, places_in_order};
-pub use machine::{Core, MAX_CALLS};
+pub use laws::{
+    fresh_numbers, inside_an_object, lawful_states, news_without_room, places_in_order,
+    steps_of_a_call,
+};
+pub use machine::Core;
+pub use opening::opening_row;
 pub use outcome::{Fault, Outcome, Step};
 pub use promise::lawful_states_promise;
 pub use spot::{Line, Spot, Stage, Work};
+pub use starting::{MAX_CALLS, flight_by, refusal_by};

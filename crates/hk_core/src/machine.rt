@@ -10,7 +10,8 @@ ghost use Rattle.hk_model.specs.Replies.{reply_of, said};
 ghost use Rattle.hk_core.specs.Event.{CanFire, CanFireIf, fired, fired_if, old_of, learnt};
 ghost use Rattle.hk_core.specs.State.{State, IsSized, opening, flight_of};
 ghost use Rattle.hk_core.specs.Step.{next, answer_by, history_after};
-ghost use Rattle.hk_core.specs.Begin.{most_calls, register_word, entered_word, copied_word, has_field, first_flight, after_begin, refusal};
+ghost use Rattle.hk_core.specs.Begin.{most_calls, register_word, entered_word, copied_word, first_flight, after_begin, refusal};
+ghost use Rattle.hk_core.specs.Faults.{FindsField, IsPlainFault};
 ghost use Rattle.hk_core.specs.Fits.{CanStep};
 ghost use Rattle.hk_core.specs.Lawful.{Lawful, IsLawful};
 ghost use Rattle.hk_core.specs.Refused.{EndsFull};
@@ -18,14 +19,12 @@ ghost use Rattle.hk_core.specs.declared.outcome.Step.TheVariants.{Ended};
 ghost use Rattle.hk_core.specs.declared.outcome.Outcome.TheVariants.{Full};
 
 use crate::opening::{opening_begun, opening_flights, opening_row, opening_spot};
+use crate::starting::{flight_by, refusal_by};
 use crate::{Event, Fault, Flight, Spot, Step};
 use hk_model::Memory;
-use hk_words::{Call, Geometry, reference_nums, reference_refs, w0_cycle, w0_words};
+use hk_words::{Call, Geometry, w0_cycle, w0_words};
 use std::alloc::Global;
 use std::marker::Model;
-
-/// The calls that a seat can begin.
-pub const MAX_CALLS: u32 = 1 << 30;
 
 /// The machine of the heap: its row of words, the calls in flight, the begun calls of each seat, and where the
 /// collector is.
@@ -215,7 +214,8 @@ impl Core {
     }
 
     /// Begins a call of a seat: it does no event. A call that is refused, for the first of the three reasons that holds,
-    /// changes nothing. The machine is lawful for each history for which it was.
+    /// changes nothing. The machine is lawful for each history for which it was. It is refused as [`Fault::Nil`] or
+    /// [`Fault::Field`] where the plain heap answers so, and begun only where it answers neither.
     pub fn begin(&mut self, seat: u8, call: Call) -> Result<(), Fault>
         requires seat { seat < tasks self.old.geometry }
         requires idle { (flight_of self.old.flights seat).place ≡ 0 }
@@ -224,6 +224,9 @@ impl Core {
         ensures state { self.new ≡ after_begin self.old seat call }
         ensures answer { MatchResult result (λ _. refusal self.old seat call ≡ None) (λ fault. refusal self.old seat call ≡ Some fault) }
         ensures lawful { (history : History) → Lawful self.old history → Lawful self.new history }
+        ensures plain { (history : History) → Lawful self.old history
+            → let reply = reply_of (after (opening_of self.old.geometry) history) seat call in
+            MatchResult result (λ _. FindsField reply) (λ fault. IsPlainFault fault reply) }
     {
         self.start(seat, call)
     }
@@ -255,16 +258,11 @@ impl Core {
         ensures refusal { result ≡ refusal self.now seat call.now }
         ensures room { IfNone result (slice_index self.now.begun seat < most_calls) }
     {
-        let entered = self.entered_word(seat, call);
-        if self.begun[seat as usize] >= MAX_CALLS {
-            Some(Fault::Spent)
-        } else if call.entered().is_some() && entered == 0 {
-            Some(Fault::Nil)
-        } else if !has_field(call, entered) {
-            Some(Fault::Field)
-        } else {
-            None
-        }
+        refusal_by(
+            self.begun[seat as usize],
+            call,
+            self.entered_word(seat, call),
+        )
     }
 
     /// The flight of a call that begins: it has read nothing but registers.
@@ -274,20 +272,8 @@ impl Core {
         requires registers { RegistersFit self.now.geometry.registers call }
         ensures { result ≡ first_flight self.now seat call }
     {
-        Flight {
-            seat,
-            call,
-            place: 1,
-            entered: self.entered_word(seat, &call),
-            at: 0,
-            word: 0,
-            item: self.copied_word(seat, &call),
-            claimer: false,
-            offset: 0,
-            number: 0,
-            full: false,
-            raised: false,
-        }
+        let entered = self.entered_word(seat, &call);
+        flight_by(seat, call, entered, self.copied_word(seat, &call))
     }
 
     /// The reference in the register that a call enters, and 0 where it enters none.
@@ -327,20 +313,5 @@ impl Core {
             | Call::Same { .. }
             | Call::IsNull { .. } => 0,
         }
-    }
-}
-
-/// The object that a reference names has the field of the call.
-fn has_field(call: &Call, reference: u64) -> bool
-    ensures { result ≡ has_field call.now reference }
-{
-    match *call {
-        Call::Get { field, .. } | Call::Put { field, .. } => field < reference_nums(reference),
-        Call::Load { field, .. } | Call::Store { field, .. } => field < reference_refs(reference),
-        Call::Move { .. }
-        | Call::Clear { .. }
-        | Call::New { .. }
-        | Call::Same { .. }
-        | Call::IsNull { .. } => true,
     }
 }

@@ -7,12 +7,15 @@ ghost use Rattle.hk_core.specs.State as state;
 ghost use Rattle.hk_core.specs.State.{idle, opening_row, opening_spot, opening_header, opening_mark, opening_entry, opening_register};
 
 use crate::{Flight, Line, Spot};
+use hk_model::Memory;
 use hk_words::{Geometry, pack_header, pack_reference, pack_w0};
 use std::alloc::{AllocError, Global};
 
-/// The row of words at the start.
+/// The row of words at the start: cycle 1, no word used, and the board alone at the first word of space 1.
+///
+/// [`Memory`] where there is no memory for it.
 #[tactic(auto, unfolding(crate::specs::State::opening_row))]
-pub fn opening_row(alloc: Global, g: &Geometry) -> Result<Vec<u64>, AllocError>
+pub fn opening_row(alloc: Global, g: &Geometry) -> Result<Vec<u64>, Memory>
     ensures { IfOk result (λ row. row.items ≡ state.opening_row g.now) }
 {
     let mut row = Vec::with_capacity(alloc, g.words() as usize)?;

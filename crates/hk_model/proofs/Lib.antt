@@ -3,6 +3,8 @@ pub mod Fields
 pub mod Heaps
 pub mod Histories
 pub mod Lists
+pub mod Lasting
+pub mod Lives
 pub mod Replies
 pub mod Updates
 pub mod Views

@@ -1,13 +1,16 @@
 -- Laws of the heap that never collects and of its histories.
-use Rattle.std.specs.Prelude.{◌≡◌, ◌≢◌, ◌↔◌, ℕ, ◌+◌, ◌<◌, [], ◌∷◌, ◌++◌, length, true, false, Some, None}
+use Rattle.std.specs.Prelude.{◌≡◌, ◌≢◌, ◌↔◌, ℕ, ◌+◌, ◌<◌, ◌≤◌, List, All, slice_index, sum_by, [], ◌∷◌, ◌++◌, length, true, false, Some, None}
 use Rattle.hk_words.specs.declared.shape.Shape.{Shape}
+use Rattle.hk_words.specs.Shape.{size}
 use Rattle.hk_words.specs.declared.call.Call.{Call}
 use Rattle.hk_words.specs.declared.call.Call.TheVariants.{Put, Load, Store, Move, Clear, New}
 use Rattle.hk_words.specs.declared.call.Reply.TheVariants.{Full}
 use Rattle.hk_words.specs.Calls.{RegistersFit}
 use Rattle.hk_model.specs.Heap.{Heap, IsHeap, HoldsBoard, born, register, refs, nums, link, value, opening}
 use Rattle.hk_model.specs.Replies.{reply_of, heap_after}
-use Rattle.hk_model.specs.History.{Entry, History, after_entry, after, EntryLegal, Legal, is_birth, numbers, number_of, bearer}
+use Rattle.hk_model.specs.History.{Entry, History, after_entry, after, EntryLegal, Legal, of_seat, is_birth, numbers, number_of, bearer}
+use Rattle.hk_model.specs.Reach.{Reached, words_of_birth, Live}
+use Rattle.hk_model.specs.Lasting.{Lasts, MakesAtMost}
 use Rattle.hk_model.specs.View.{upd, upd2, view_of}
 
 -- the heap after a history with one more entry is the heap after that entry
@@ -38,6 +41,39 @@ CallsKeepBoard = (tasks count : ℕ) (h : Heap) (seat : ℕ) (call : Call) → R
 -- no call finds the heap full
 abbrev pub NeverFull : Type 0
 NeverFull = (h : Heap) (seat : ℕ) (call : Call) → reply_of h seat call ≢ Full
+
+-- so many words of a heap are live, and no other number
+abbrev pub SomeLive : Type 0
+SomeLive = (tasks count : ℕ) (h : Heap) → IsHeap tasks count h → (words : ℕ) × Live tasks count h words
+
+abbrev pub OneLive : Type 0
+OneLive = (tasks count : ℕ) (h : Heap) (some other : ℕ) → Live tasks count h some → Live tasks count h other → some ≡ other
+
+-- births that can be reached, each counted once, have no more words than are live
+abbrev pub ReachedWithinLive : Type 0
+ReachedWithinLive = (tasks count : ℕ) (h : Heap) (words : ℕ) (births : List ℕ) → Live tasks count h words
+    → ((i j : ℕ) → i < j → j < length births → slice_index births i ≢ slice_index births j) → All (Reached tasks count h) births
+    → sum_by (words_of_birth h) births ≤ words
+
+-- what lasts as a history grows: a beginning of a legal history is legal
+abbrev pub LegalBegins : Type 0
+LegalBegins = (start : Heap) (first later : History) → Legal start (first ++ later) → Legal start first
+
+-- births last, with their shapes
+abbrev pub ShapesLast : Type 0
+ShapesLast = (start : Heap) (history later : History) → Lasts (after start history) (after start (history ++ later))
+
+-- where the board, and each object that a history makes, has at most so many words, so has each object after it
+abbrev pub ObjectsStaySmall : Type 0
+ObjectsStaySmall = (tasks count : ℕ) (board : Shape) (history : History) (most : ℕ) → size board ≤ most → All (MakesAtMost most) history
+    → (birth : ℕ) → words_of_birth (after (opening tasks count board) history) birth ≤ most
+
+-- an entry of another seat leaves the registers of a seat as they are, and so does a history of entries of others
+abbrev pub OthersKeepRegisters : Type 0
+OthersKeepRegisters = (h : Heap) (e : Entry) (seat reg : ℕ) → e.seat ≢ seat → register (after_entry h e) seat reg ≡ register h seat reg
+
+abbrev pub OthersLeaveRegisters : Type 0
+OthersLeaveRegisters = (h : Heap) (others : History) (seat reg : ℕ) → of_seat others seat ≡ [] → register (after h others) seat reg ≡ register h seat reg
 
 -- after a legal history that began with the board alone there are as many numbers as objects
 abbrev pub AsManyNumbers : Type 0

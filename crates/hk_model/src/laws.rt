@@ -1,4 +1,4 @@
-ghost use Rattle.hk_model.specs.Laws.{AfterGrows, LegalGrows, OpeningIsHeap, CallsKeepHeap, HistoriesKeepHeap, OpeningHoldsBoard, CallsKeepBoard, NeverFull, AsManyNumbers, BearerIsLast, NoBearer, BirthGivesNumber, OthersGiveNone, PutEffect, StoreEffect, LoadEffect, MoveEffect, ClearEffect, NewEffect};
+ghost use Rattle.hk_model.specs.Laws.{AfterGrows, LegalGrows, OpeningIsHeap, CallsKeepHeap, HistoriesKeepHeap, OpeningHoldsBoard, CallsKeepBoard, NeverFull, SomeLive, OneLive, ReachedWithinLive, LegalBegins, ShapesLast, ObjectsStaySmall, OthersKeepRegisters, OthersLeaveRegisters, AsManyNumbers, BearerIsLast, NoBearer, BirthGivesNumber, OthersGiveNone, PutEffect, StoreEffect, LoadEffect, MoveEffect, ClearEffect, NewEffect};
 
 /// Laws of histories that grow at their end: the heap after them, and when they are legal.
 pub fn one_more_entry()
@@ -15,6 +15,24 @@ pub fn what_calls_keep()
     ensures opening_board { OpeningHoldsBoard }
     ensures board { CallsKeepBoard }
     ensures never_full { NeverFull }
+{}
+
+/// Laws of what can be reached: in each heap so many words are live, and no other number; and some of what can be reached
+/// has no more words than that.
+pub fn live_words()
+    ensures some { SomeLive }
+    ensures one { OneLive }
+    ensures within { ReachedWithinLive }
+{}
+
+/// Laws of what lasts as a history grows: a beginning of a legal one is legal, births keep their shapes, objects are no
+/// larger than the board and those that are made, and entries of others leave the registers of a seat as they are.
+pub fn what_lasts()
+    ensures begins { LegalBegins }
+    ensures shapes { ShapesLast }
+    ensures small { ObjectsStaySmall }
+    ensures entry { OthersKeepRegisters }
+    ensures others { OthersLeaveRegisters }
 {}
 
 /// Laws of the numbers that objects are given: a number may be given again, and its bearer is the last object that

@@ -10,5 +10,7 @@ mod registers;
 mod tests;
 
 pub use hk_words::Memory;
-pub use laws::{numbers_and_bearers, one_change_a_call, one_more_entry, what_calls_keep};
+pub use laws::{
+    live_words, numbers_and_bearers, one_change_a_call, one_more_entry, what_calls_keep, what_lasts,
+};
 pub use plain::Plain;

@@ -1,20 +1,28 @@
+ghost use Rattle.std.specs.Prelude.{◌≡◌, ℕ, ◌<◌, length};
+ghost use Rattle.hk_model.specs.Heap.{register_count};
+
 use crate::{Memory, Plain};
 use hk_words::{Call, REGISTERS, Reply, Shape};
 use std::alloc::Global;
 use std::process::Abort;
 use std::test::Fail;
 
-/// Makes the calls of a table in order, and compares each answer with the one beside it.
+/// Makes the calls of a table in order on a heap for so many tasks with so many registers each, and compares each answer
+/// with the one beside it.
 fn play(
     rt: &impl Abort,
     alloc: Global,
+    plain: Plain,
     tasks: u8,
-    board: Shape,
+    registers: u8,
     table: &[(u8, Call, Reply)],
-) -> Result<(), Memory> {
-    let mut plain = Plain::open(alloc, tasks, board)?;
+) -> Result<(), Memory>
+    requires tasks { length plain.registers ≡ tasks }
+    requires registers { (seat : ℕ) → seat < tasks → register_count plain seat ≡ registers }
+{
+    let mut plain = plain;
     for (seat, call, want) in table {
-        assert!(rt; *seat < tasks && call.registers_fit(REGISTERS), "{call:?}");
+        assert!(rt; *seat < tasks && call.registers_fit(registers), "{call:?}");
         let reply = plain.apply(alloc, *seat, *call)?;
         assert_eq!(rt; reply, *want, "seat {seat}: {call:?}");
     }
@@ -68,7 +76,22 @@ fn a_board_of_one_reference_and_one_number(rt: HostRuntime) -> Result<(), Fail> 
         (0, get(1, 0), Reply::Nil),
         (0, get(0, 1), Reply::Field),
     ];
-    play(&rt, rt.alloc(), 1, board, &table)?;
+    let plain = Plain::open(rt.alloc(), 1, board)?;
+    play(&rt, rt.alloc(), plain, 1, REGISTERS, &table)?;
+    Ok(())
+}
+
+#[test]
+fn two_registers(rt: HostRuntime) -> Result<(), Fail> {
+    let board = Shape::new(1, 1).ok_or("shape")?;
+    let table = [
+        (0, put(0, 0, 9), Reply::Unit),
+        (0, get(0, 0), Reply::Num(9)),
+        (0, load(1, 0, 0), Reply::Unit),
+        (0, is_null(1), Reply::Yes),
+    ];
+    let plain = Plain::wide(rt.alloc(), 2, 1, board)?;
+    play(&rt, rt.alloc(), plain, 1, 2, &table)?;
     Ok(())
 }
 
@@ -145,6 +168,7 @@ fn two_tasks_share_objects_through_the_board(rt: HostRuntime) -> Result<(), Fail
         (1, is_null(4), Reply::Yes),
         (1, get(2, 1), Reply::Num(7)),
     ];
-    play(&rt, rt.alloc(), 2, board, &table)?;
+    let plain = Plain::open(rt.alloc(), 2, board)?;
+    play(&rt, rt.alloc(), plain, 2, REGISTERS, &table)?;
     Ok(())
 }

@@ -40,11 +40,11 @@ same_item (x ∷ s) zero lt = refl
 same_item (x ∷ s) (suc p) lt = same_item s p (omega arith)
 
 -- the blocks behind a statement of a script
-record Opened (s : List Statement) (p : ℕ) : Type 0 where
-  nests : nest p (open_at s p) (statement_at s p) ≡ Ok (open_at s (p + 1))
-  follows : nested (p + 1) (open_at s (p + 1)) (drop (p + 1) s) ≡ Ok []
+pub record Opened (s : List Statement) (p : ℕ) : Type 0 where
+  pub nests : nest p (open_at s p) (statement_at s p) ≡ Ok (open_at s (p + 1))
+  pub follows : nested (p + 1) (open_at s (p + 1)) (drop (p + 1) s) ≡ Ok []
 
-opened_by : (s : List Statement) (p : ℕ) → p < length s → nested p (open_at s p) (drop p s) ≡ Ok [] → Opened s p
+pub opened_by : (s : List Statement) (p : ℕ) → p < length s → nested p (open_at s p) (drop p s) ≡ Ok [] → Opened s p
 unfolding open_at
 opened_by s p lt n =
     let f = nests_first p (open_at s p) s p (statement_at s p) lt (same_item s p lt) n in
@@ -52,7 +52,7 @@ opened_by s p lt n =
     let is : open_at s (p + 1) ≡ f.0 = ap (open_at s) next ∙ ap left_open f.1 in
     record { nests = rw is f.1; follows = rw is f.2 }
 
-follows_at : {limits : Limits} (s : List Statement) (p : ℕ) → IsScript limits s → p ≤ length s → nested p (open_at s p) (drop p s) ≡ Ok []
+pub follows_at : {limits : Limits} (s : List Statement) (p : ℕ) → IsScript limits s → p ≤ length s → nested p (open_at s p) (drop p s) ≡ Ok []
 unfolding open_at
 follows_at s zero h le = h.blocks
 follows_at s (suc p) h le =
@@ -73,7 +73,7 @@ around_at s (suc p) le =
     let tail : drop (p + 1) (all_around s) ≡ arounds (left_open (nest p (open_at s p) (statement_at s p))) (p + 1) (drop (p + 1) s) = cc in
     subst (λ (n : ℕ). drop n (all_around s) ≡ arounds (left_open (nest p (open_at s p) (statement_at s p))) n (drop n s)) next tail
 
-around_is : (s : List Statement) (p : ℕ) → p < length s → get_or (all_around s) p nothing_around ≡ around (open_at s p)
+pub around_is : (s : List Statement) (p : ℕ) → p < length s → get_or (all_around s) p nothing_around ≡ around (open_at s p)
 around_is s p lt =
     let first = drop_more (all_around s) p nothing_around (omega (arith, length-arounds [] 0 s)) in
     let cut = drop_more s p statement.End lt in
@@ -82,10 +82,10 @@ around_is s p lt =
 
 -- ---- numbers and counters
 
-index_other : (ts : List ℕ) (level k v : ℕ) → k < level → slice_index (slice_set ts level v) k ≡ slice_index ts k
+pub index_other : (ts : List ℕ) (level k v : ℕ) → k < level → slice_index (slice_set ts level v) k ≡ slice_index ts k
 index_other ts level k v lt = grind (arith, common_steps)
 
-index_same : (ts : List ℕ) (level v : ℕ) → level < length ts → slice_index (slice_set ts level v) level ≡ v
+pub index_same : (ts : List ℕ) (level v : ℕ) → level < length ts → slice_index (slice_set ts level v) level ≡ v
 index_same ts level v lt = grind (arith, common_steps)
 
 one_turn : (n t m : ℕ) → t < n → (n - t) * m ≡ (n - (t + 1)) * m + m

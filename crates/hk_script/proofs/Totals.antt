@@ -73,7 +73,7 @@ cap_sum w n = omega arith
 cap_chosen : (w t o f : ℕ) → cap (w + max (cap t) (cap o) + cap f) ≡ cap (w + max t o + f)
 cap_chosen w t o f = omega arith
 
-two_same : (h k : ℕ) (bs cs : List Beyond) → h ≡ k → bs ≡ cs → (let a : Ahead = record { here = h; blocks = bs } in a) ≡ record { here = k; blocks = cs }
+pub two_same : (h k : ℕ) (bs cs : List Beyond) → h ≡ k → bs ≡ cs → (let a : Ahead = record { here = h; blocks = bs } in a) ≡ record { here = k; blocks = cs }
 two_same h k bs cs e f = cc
 
 -- a step on sums up to the limit gives what a step on the sums gives, up to the limit

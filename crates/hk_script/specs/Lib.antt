@@ -18,3 +18,5 @@ pub mod Walks
 pub mod Runs
 pub mod Needs
 pub mod Left
+pub mod Trees
+pub mod Courses

@@ -1,6 +1,6 @@
 //! What holds of all texts and scripts. These functions take no time; their clauses are the laws.
 
-ghost use Rattle.std.specs.Prelude.{◌≡◌, ℕ, ◌+◌, ◌≤◌, List, length, Ok, IfSome};
+ghost use Rattle.std.specs.Prelude.{◌≡◌, ◌↔◌, ℕ, ◌+◌, ◌<◌, ◌≤◌, List, length, replicate, Ok, Some, None, IfSome};
 ghost use Rattle.hk_words.specs.declared.call.Reply.{Reply};
 ghost use Rattle.hk_script.specs.declared.limits.Limits.{Limits};
 ghost use Rattle.hk_script.specs.declared.statement.Statement.{Statement};
@@ -9,11 +9,13 @@ ghost use Rattle.hk_script.specs.Limits.{AreLimits, AreWithin};
 ghost use Rattle.hk_script.specs.Blocks.{IsScript};
 ghost use Rattle.hk_script.specs.Texts.{Spells, script_of};
 ghost use Rattle.hk_script.specs.Printing.{text_of};
-ghost use Rattle.hk_script.specs.Cost.{greatest_ticks, greatest_words};
+ghost use Rattle.hk_script.specs.Cost.{told, greatest_ticks, greatest_words, largest_of};
 ghost use Rattle.hk_script.specs.Walks.{started, need_of, walk_after, Fits};
 ghost use Rattle.hk_script.specs.Runs.{AreReplies, taken, taken_by, need_ticks, need_words};
 ghost use Rattle.hk_script.specs.Left.{ticks_left, words_left};
 ghost use Rattle.hk_script.specs.Needs.{NeedFits};
+ghost use Rattle.hk_script.specs.Trees.{Tree, IsTreeOf, tree_ticks, tree_words, IsGreatestMade};
+ghost use Rattle.hk_script.specs.Courses.{does, Follows};
 
 /// A text spells one script at most.
 pub fn one_script()
@@ -30,6 +32,30 @@ pub fn printed_again()
 pub fn wider_limits()
     ensures scripts { (narrow wide : Limits) (script : List Statement) → AreWithin wide narrow → IsScript narrow script → IsScript wide script }
     ensures texts { (narrow wide : Limits) (text : List ℕ) (script : List Statement) → AreWithin wide narrow → Spells narrow text script → Spells wide text script }
+{}
+
+/// A script is one tree of blocks laid out, and no other.
+pub fn one_tree()
+    ensures some { (limits : Limits) (script : List Statement) → IsScript limits script → (tree : Tree) × IsTreeOf script tree }
+    ensures one { (script : List Statement) (first second : Tree) → IsTreeOf script first → IsTreeOf script second → first ≡ second }
+{}
+
+/// A script costs what its tree costs, neither less nor more: a sequence the sum of its parts, an `if` one tick and the
+/// dearer of its parts, a `repeat` its block so many times and one test more. Costs are told exactly up to 2^24.
+pub fn costs_of_blocks()
+    ensures ticks { (script : List Statement) (tree : Tree) → IsTreeOf script tree → greatest_ticks script ≡ tree_ticks tree }
+    ensures words { (script : List Statement) (tree : Tree) → IsTreeOf script tree → greatest_words script ≡ tree_words tree }
+    ensures largest { (script : List Statement) → IsGreatestMade script (largest_of script) }
+    ensures told { (cost amount : ℕ) → (told cost ≡ Some amount) ↔ ((cost ≡ amount) × (cost ≤ 16777216)) }
+    ensures untold { (cost : ℕ) → (told cost ≡ None) ↔ (16777216 < cost) }
+{}
+
+/// A walk of a script does what its tree says, whatever the replies: it wants what each statement wants, in order, does
+/// the part of an `if` that the test picks, and the block of a `repeat` so many times, with a test before each turn and a
+/// last one; and then it is at its end.
+pub fn walks_of_blocks()
+    ensures { (limits : Limits) (script : List Statement) (tree : Tree) (job : ℕ) → IsScript limits script → IsTreeOf script tree
+        → Follows script (started job) (does job tree (replicate 8 0)) }
 {}
 
 /// What a walk wants keeps the limits of its script.

@@ -21,7 +21,8 @@ mod walk;
 pub use costs::{MAX_COST, cost, largest, words};
 pub use error::ScriptError;
 pub use laws::{
-    needs_fit, one_script, printed_again, walks_fall, walks_fit, walks_within_cost, wider_limits,
+    costs_of_blocks, needs_fit, one_script, one_tree, printed_again, walks_fall, walks_fit,
+    walks_of_blocks, walks_within_cost, wider_limits,
 };
 pub use parsing::{parse, parse_in};
 pub use printing::print;

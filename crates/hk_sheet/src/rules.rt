@@ -179,7 +179,7 @@ fn are_two(value: &Value) -> bool
 
 /// Whether there are not too many values, and all are ticks of a run of so many.
 fn are_ticks(ticks: u64, values: &[Value]) -> bool
-    ensures { result ≡ (nat_le (length (map view values.now)) MAX_ARRIVALS && list_all (is_in 0 (ticks - 1)) (map view values.now)) }
+    ensures { result ≡ (nat_le (length (map view values.now)) 4096 && list_all (is_in 0 (ticks - 1)) (map view values.now)) }
 {
     values.len() <= MAX_ARRIVALS && are_within(ticks.saturating_sub(1), values)
 }

@@ -122,7 +122,7 @@ pub struct Sheet {
 
 /// How many tasks of a kind count in the geometry.
 fn counted(tasks: usize) -> u8
-    ensures { result ≡ min tasks MAX_COUNTED }
+    ensures { result ≡ min tasks 255 }
 {
     (tasks as u64).min(MAX_COUNTED) as u8
 }

@@ -1,5 +1,5 @@
 -- Words and bytes call for one end, and for one text.
-use Rattle.std.proofs.Common.{◌≡◌, ◌≢◌, ℕ, ◌<◌, ◌≤◌, ◌⊎◌, inl, inr, true, List, ◌++◌, length, Result, Ok, Err, refl, sym, ap, ◌∙◌, subst, arith, slice_index, String, Global}
+use Rattle.std.proofs.Common.{◌≡◌, ◌≢◌, ℕ, ◌-◌, ◌<◌, ◌≤◌, ◌⊎◌, inl, inr, true, List, ◌++◌, length, Result, Ok, Err, refl, sym, ap, ◌∙◌, subst, arith, slice_index, String, Global}
 use Rattle.std.proofs.lemmas.Bool.{both_ways}
 use Rattle.std.proofs.lemmas.Grind.{same_number_lists}
 use Rattle.std.specs.Prelude.{unwrap_or}
@@ -7,6 +7,7 @@ use Rattle.toml.specs.Data.{Members}
 use Rattle.hk_io.specs.declared.Status.{Status}
 use Rattle.hk_io.specs.declared.Status.TheVariants as status
 use Rattle.hk_rta.specs.declared.Timing.{Timing}
+use Rattle.hk_rta.specs.Demand.{jitter_at}
 use Rattle.hk_sheet.specs.declared.error.SheetError.{SheetError}
 use Rattle.hk_sheet.specs.declared.error.SheetError.TheVariants as unread
 use Rattle.hk_sheet.specs.declared.sheet.Sheet.{Sheet}
@@ -15,7 +16,7 @@ use Rattle.hk_sheet.specs.Faults.{sheet_of}
 use Rattle.hk_admit.specs.declared.checked.Admitted.{Admitted}
 use Rattle.hk_admit.specs.declared.refused.Refused.{Refused}
 use Rattle.hk_admit.specs.declared.refused.Refused.TheVariants as refused
-use Rattle.hk_admit.specs.Analysis.{timings_of, IsBusy, cycle_events, attempt_events, most_owed}
+use Rattle.hk_admit.specs.Analysis.{timings_of, IsBusy, cycle_work, attempt_events, most_owed}
 use Rattle.hk_admit.specs.Conditions.{AreResponses}
 use Rattle.hk_admit.specs.Refusals.{IsRefusal}
 use Rattle.hk_admit.proofs.Excluded.{admitted_excludes, one_busy}
@@ -131,7 +132,11 @@ one_responses tasks rs qs a b = same_number_lists rs qs (a.whole ∙ sym b.whole
         let inside : k < length tasks = omega (arith, within, w) in
         let r = a.each k inside in
         let q = b.each k inside in
-        omega (arith, r.least (slice_index qs k) q.holds, q.least (slice_index rs k) r.holds)
+        let first = r.least.least (slice_index qs k - jitter_at tasks k) q.least.holds in
+        let second = q.least.least (slice_index rs k - jitter_at tasks k) r.least.holds in
+        let from = r.after_jitter in
+        let since = q.after_jitter in
+        omega (arith, first, second, from, since)
 
 -- a report by the numbers in it
 report_by : Sheet → (work attempt busy debt : ℕ) → (responses : List ℕ) → List ℕ
@@ -149,7 +154,7 @@ same_report a b same =
     let x = a.checked.sound in
     let y = b.checked.sound in
     let sheet = b.checked.sheet in
-    let work : a.checked.work ≡ b.checked.work = x.work_is ∙ ap cycle_events same ∙ sym y.work_is in
+    let work : a.checked.work ≡ b.checked.work = x.work_is ∙ ap cycle_work same ∙ sym y.work_is in
     let attempt : a.checked.attempt ≡ b.checked.attempt = x.attempt_is ∙ ap attempt_events same ∙ sym y.attempt_is in
     let busy : a.checked.busy ≡ b.checked.busy = one_busy sheet a.checked.busy b.checked.busy (subst (λ s. IsBusy s a.checked.busy) same x.busy_is) y.busy_is in
     let debt : a.checked.debt ≡ b.checked.debt = x.debt_is ∙ ap (λ s. most_owed s a.checked.busy) same ∙ ap (most_owed sheet) busy ∙ sym y.debt_is in

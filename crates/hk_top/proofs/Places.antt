@@ -4,7 +4,7 @@ use Rattle.std.proofs.lemmas.Bool.{cond-true, cond-false}
 use Rattle.std.proofs.lemmas.List.{drop_more, drop_all}
 use Rattle.hk_sheet.specs.declared.sheet.High.{High}
 use Rattle.hk_top.specs.declared.run.TaskRun.{TaskRun}
-use Rattle.hk_top.specs.Session.{has_arrived, next_arrival, first_ready, given_to, course_after}
+use Rattle.hk_top.specs.Session.{has_arrived, next_ready, first_ready, given_to, course_after}
 use Rattle.hk_top.specs.Local.{IsOnVariables, AreOnVariables}
 use Rattle.hk_top.specs.Progress.{course_of, IsKept, AreKept, first_due}
 
@@ -27,23 +27,23 @@ later : (n : ℕ) (o : Option ℕ) → from_place n (option_map suc o) ≡ from_
 later n None = refl
 later n (Some k) = ap Some (let e : n + suc k ≡ n + 1 + k = omega arith in e)
 
-due_skip : (tasks rest : List TaskRun) (at : TaskRun) (tick : ℕ) → tasks ≡ at ∷ rest → has_arrived at.arrival tick ≡ false → first_due tasks tick ≡ option_map suc (first_due rest tick)
+due_skip : (tasks rest : List TaskRun) (at : TaskRun) (tick : ℕ) → tasks ≡ at ∷ rest → has_arrived at.ready tick ≡ false → first_due tasks tick ≡ option_map suc (first_due rest tick)
 due_skip tasks rest at tick is not_ready =
-    ap (λ t. first_due t tick) is ∙ cond-false (has_arrived at.arrival tick) (Some 0) (option_map suc (first_due rest tick)) not_ready
+    ap (λ t. first_due t tick) is ∙ cond-false (has_arrived at.ready tick) (Some 0) (option_map suc (first_due rest tick)) not_ready
 
-due_here : (tasks rest : List TaskRun) (at : TaskRun) (tick : ℕ) → tasks ≡ at ∷ rest → has_arrived at.arrival tick ≡ true → first_due tasks tick ≡ Some 0
+due_here : (tasks rest : List TaskRun) (at : TaskRun) (tick : ℕ) → tasks ≡ at ∷ rest → has_arrived at.ready tick ≡ true → first_due tasks tick ≡ Some 0
 due_here tasks rest at tick is ready =
-    ap (λ t. first_due t tick) is ∙ cond-true (has_arrived at.arrival tick) (Some 0) (option_map suc (first_due rest tick)) ready
+    ap (λ t. first_due t tick) is ∙ cond-true (has_arrived at.ready tick) (Some 0) (option_map suc (first_due rest tick)) ready
 
 pub none_before_more : (tasks : List TaskRun) (tick place : ℕ) (d : TaskRun) → place < length tasks → NoneBefore tasks tick place
-    → has_arrived (get_or tasks place d).arrival tick ≡ false → NoneBefore tasks tick (place + 1)
+    → has_arrived (get_or tasks place d).ready tick ≡ false → NoneBefore tasks tick (place + 1)
 none_before_more tasks tick place d within before not_ready =
     before
     ∙ ap (from_place place) (due_skip (drop place tasks) (drop (place + 1) tasks) (get_or tasks place d) tick (drop_more tasks place d within) not_ready)
     ∙ later place (first_due (drop (place + 1) tasks) tick)
 
 pub first_here : (tasks : List TaskRun) (tick place : ℕ) (d : TaskRun) → place < length tasks → NoneBefore tasks tick place
-    → has_arrived (get_or tasks place d).arrival tick ≡ true → Some place ≡ first_due tasks tick
+    → has_arrived (get_or tasks place d).ready tick ≡ true → Some place ≡ first_due tasks tick
 first_here tasks tick place d within before ready =
     let e : place ≡ place + 0 = omega arith in
     ap Some e
@@ -74,6 +74,7 @@ kept_at n (h ∷ hs) (e ∷ es) (suc place) d r k within = kept_at n hs es place
 later_kept : (n : ℕ) (h : High) (e : TaskRun) → IsKept n h e → IsKept (n + 1) h e
 later_kept n h e k = let j = k.jobs_few in let s = k.spent_few in record {
   arrival = k.arrival;
+  ready = k.ready;
   fits = k.fits;
   within = k.within;
   jobs_few = omega (arith, j);
@@ -111,8 +112,8 @@ due_is_ready n [] [] tick k = refl
 due_is_ready n [] (e ∷ es) tick k = absurd k
 due_is_ready n (h ∷ hs) [] tick k = absurd k
 due_is_ready n (h ∷ hs) (e ∷ es) tick k =
-    ap (λ a. cond (has_arrived a tick) (Some 0) (option_map suc (first_due es tick))) (k.0.arrival)
-    ∙ ap (λ o. cond (has_arrived (next_arrival h (course_of e)) tick) (Some 0) (option_map suc o)) (due_is_ready n hs es tick k.1)
+    ap (λ a. cond (has_arrived a tick) (Some 0) (option_map suc (first_due es tick))) (k.0.ready)
+    ∙ ap (λ o. cond (has_arrived (next_ready h (course_of e)) tick) (Some 0) (option_map suc o)) (due_is_ready n hs es tick k.1)
 
 pub due_within : (es : List TaskRun) (tick place : ℕ) → Some place ≡ first_due es tick → place < length es
 due_within es tick place e = below es (first_due es tick) refl place e
@@ -123,7 +124,7 @@ due_within es tick place e = below es (first_due es tick) refl place e
 
     all : (es : List TaskRun) → IfSome (first_due es tick) (λ k. k < length es)
     all [] = tt
-    all (e ∷ es) = elim (has_arrived e.arrival tick) as (λ b. IfSome (cond b (Some 0) (option_map suc (first_due es tick))) (λ k. k < length (e ∷ es))) [
+    all (e ∷ es) = elim (has_arrived e.ready tick) as (λ b. IfSome (cond b (Some 0) (option_map suc (first_due es tick))) (λ k. k < length (e ∷ es))) [
       | true ↦ (let z : 0 < suc (length es) = omega arith in z)
       | false ↦ inner es (first_due es tick) (all es) e
     ]

@@ -3,7 +3,6 @@ use Rattle.std.proofs.Common.{◌≡◌, ℕ, zero, suc, ◌<◌, ◌≤◌, Lis
 use Rattle.std.proofs.lemmas.Slice.Zip.{get_or-zip, length-zip}
 use Rattle.hk_sheet.specs.declared.sheet.High.{High}
 use Rattle.hk_sheet.specs.declared.sheet.Low.{Low}
-use Rattle.hk_sheet.specs.declared.sheet.TheConstants.{MAX_NAME}
 use Rattle.hk_top.specs.declared.run.TaskRun.{TaskRun}
 use Rattle.hk_top.specs.Local.{AreNamed, AreLowNamed}
 use Rattle.hk_top.specs.Progress.{course_of}
@@ -14,12 +13,12 @@ use Rattle.hk_top.specs.Text.{high_line, low_line, done_line}
 pub zip_length : {A B : Type 0} (xs : List A) (ys : List B) → length ys ≡ length xs → length (zip xs ys) ≡ length xs
 zip_length xs ys same = let z = length-zip xs ys in omega (arith, z, same)
 
-pub named_at : (tasks : List High) (i : ℕ) (d : High) → AreNamed tasks → i < length tasks → length (get_or tasks i d).name ≤ MAX_NAME
+pub named_at : (tasks : List High) (i : ℕ) (d : High) → AreNamed tasks → i < length tasks → length (get_or tasks i d).name ≤ 16
 named_at [] i d all within = absurd (omega (arith, within))
 named_at (t ∷ ts) zero d all within = all.0
 named_at (t ∷ ts) (suc i) d all within = named_at ts i d all.1 (omega (arith, within))
 
-pub low_named_at : (tasks : List Low) (i : ℕ) (d : Low) → AreLowNamed tasks → i < length tasks → length (get_or tasks i d).name ≤ MAX_NAME
+pub low_named_at : (tasks : List Low) (i : ℕ) (d : Low) → AreLowNamed tasks → i < length tasks → length (get_or tasks i d).name ≤ 16
 low_named_at [] i d all within = absurd (omega (arith, within))
 low_named_at (t ∷ ts) zero d all within = all.0
 low_named_at (t ∷ ts) (suc i) d all within = low_named_at ts i d all.1 (omega (arith, within))

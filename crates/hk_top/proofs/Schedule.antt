@@ -1,5 +1,5 @@
 -- A run keeps to the schedule of the high jobs alone, and to the response times.
-use Rattle.std.proofs.Common.{◌≡◌, ℕ, zero, suc, ◌+◌, ◌-◌, ◌<◌, ◌≤◌, ◌↔◌, List, length, map, Some, sym, subst, ap, ◌∙◌, arith, inl, inr}
+use Rattle.std.proofs.Common.{◌≡◌, ℕ, zero, suc, ◌+◌, ◌-◌, ◌<◌, ◌≤◌, ◌↔◌, ◌⊎◌, List, length, map, Some, sym, subst, ap, ◌∙◌, arith, inl, inr}
 use Rattle.std.proofs.lemmas.Bool.{cases_lt, cases_order}
 use Rattle.std.proofs.lemmas.List.{length-map, get_or-map}
 use Rattle.std.specs.Prelude.{slice_index}
@@ -14,10 +14,11 @@ use Rattle.hk_plan.proofs.Had.{had_more, tick_for_cases, tick_for_other}
 use Rattle.hk_sheet.specs.declared.sheet.High.{High}
 use Rattle.hk_sheet.specs.declared.sheet.Sheet.{Sheet}
 use Rattle.hk_sheet.specs.Valid.{IsSheet}
-use Rattle.hk_top.specs.Jobs.{rows, place_of, jobs_of, course_of, JobEndsAt, KeepsSchedule}
+use Rattle.hk_top.specs.Jobs.{rows, place_of, jobs_of, arrives_at, course_of, JobEndsAt, KeepsSchedule}
 use Rattle.hk_top.specs.Local.{AreOnVariables}
-use Rattle.hk_top.proofs.ScheduleKept.{IsInCost, Stands, stands, gets_is_under_way, high_is, row_task, row_length, row_apart}
-use Rattle.hk_top.proofs.ScheduleRows.{no_high, high_at, row_is, job_at, place_from}
+use Rattle.hk_top.proofs.ScheduleArrivals.{delay-le}
+use Rattle.hk_top.proofs.ScheduleKept.{IsInCost, Stands, stands, gets_is_under_way, high_is, row_task, row_length, row_ready, jobs_apart}
+use Rattle.hk_top.proofs.ScheduleRows.{no_high, high_at, row_is, JobAt, job_at, place_from}
 
 -- the times of high tasks, in their order
 abbrev pub times_of : List High → List Timing
@@ -124,36 +125,70 @@ module _ (sheet : Sheet) (valid : IsSheet sheet) (tasks : AreOnVariables sheet.h
         place = subst (λ m. k ≡ place_of sheet m j.job) same j.place;
       }
 
-  keeps_timing : (i : ℕ) → i < count → KeepsTiming (rows sheet) i (high_at sheet.high i).timing
+  -- the moment at which the job of a row arrives
+  origin_by : (k : ℕ) → (k < length (rows sheet)) ⊎ (length (rows sheet) ≤ k) → ℕ
+  origin_by k (inl lt) = let j = job_at sheet k lt in arrives_at sheet j.task j.job
+  origin_by k (inr past) = 0
+
+  abbrev origin : ℕ → ℕ
+  origin k = origin_by k (cases_lt k (length (rows sheet)))
+
+  -- the job of a place that was found is the one that stands there
+  same_job : (i j : ℕ) → i < count → j < jobs_of sheet i → (o : JobAt sheet (place_of sheet i j)) → arrives_at sheet o.task o.job ≡ arrives_at sheet i j
+  same_job i j lt listed o =
+      let here : place_of sheet i j ≡ place_of sheet o.task o.job = o.place in
+      let task : o.task ≡ i = sym (row_task sheet valid tasks costs o.task o.job o.within o.listed) ∙ ap (task_of (rows sheet)) (sym here) ∙ row_task sheet valid tasks costs i j lt listed in
+      let there : place_of sheet o.task o.job ≡ place_of sheet i o.job = ap (λ m. place_of sheet m o.job) task in
+      let job : o.job ≡ j = omega (arith, here, there, place_from sheet i j, place_from sheet i o.job) in
+      ap (λ m. arrives_at sheet m o.job) task ∙ ap (arrives_at sheet i) job
+
+  origin_is : (i j : ℕ) → i < count → j < jobs_of sheet i → origin (place_of sheet i j) ≡ arrives_at sheet i j
+  unfolding origin_by
+  origin_is i j lt listed = by_place (cases_lt (place_of sheet i j) (length (rows sheet)))
+    where
+      by_place : (s : (place_of sheet i j < length (rows sheet)) ⊎ (length (rows sheet) ≤ place_of sheet i j)) → origin_by (place_of sheet i j) s ≡ arrives_at sheet i j
+      by_place (inl in_list) = same_job i j lt listed (job_at sheet (place_of sheet i j) in_list)
+      by_place (inr past) = absurd (let within = (row_is sheet i j lt listed).within in omega (arith, within, past))
+
+  keeps_timing : (i : ℕ) → i < count → KeepsTiming (rows sheet) origin i (high_at sheet.high i).timing
   keeps_timing i lt = record {
     period_some = let some = (high_is sheet valid tasks costs i lt).timing.period.at_least in omega (arith, some);
     ticks_some = λ k in_list own. let r = own_row i k in_list own in subst (λ p. 1 ≤ ticks_of (rows sheet) p) (sym r.place) (takes_some i r.job lt r.listed);
     ticks_few = λ k in_list own.
         let r = own_row i k in_list own in
         subst (λ p. ticks_of (rows sheet) p ≤ (high_at sheet.high i).timing.cost) (sym r.place) (row_length sheet valid tasks costs i r.job lt r.listed).few;
+    from_origin = λ k in_list own.
+        let r = own_row i k in_list own in
+        subst (λ p. origin p ≤ arrival_of (rows sheet) p) (sym r.place)
+        (omega (arith, origin_is i r.job lt r.listed, row_ready sheet valid tasks costs i r.job lt r.listed));
+    in_jitter = λ k in_list own.
+        let r = own_row i k in_list own in
+        subst (λ p. arrival_of (rows sheet) p ≤ origin p + (high_at sheet.high i).timing.jitter) (sym r.place)
+        (omega (arith, origin_is i r.job lt r.listed, row_ready sheet valid tasks costs i r.job lt r.listed, delay-le (high_at sheet.high i) r.job));
     apart = λ a b less in_list own its.
         let r = own_row i a (omega (arith, less, in_list)) own in
         let q = own_row i b in_list its in
         let first = r.place in
         let second = q.place in
         let below : r.job < q.job = omega (arith, less, first, second, place_from sheet i r.job, place_from sheet i q.job) in
-        let far = row_apart sheet valid tasks costs i r.job q.job lt below q.listed in
-        let here : arrival_of (rows sheet) a ≡ arrival_of (rows sheet) (place_of sheet i r.job) = ap (arrival_of (rows sheet)) first in
-        let there : arrival_of (rows sheet) b ≡ arrival_of (rows sheet) (place_of sheet i q.job) = ap (arrival_of (rows sheet)) second in
+        let far = jobs_apart sheet valid tasks costs i r.job q.job lt below q.listed in
+        let here : origin a ≡ arrives_at sheet i r.job = ap origin first ∙ origin_is i r.job lt r.listed in
+        let there : origin b ≡ arrives_at sheet i q.job = ap origin second ∙ origin_is i q.job lt q.listed in
         omega (arith, far, here, there);
   }
 
   module _ (responses : List ℕ) (each : (i : ℕ) → i < length sheet.high → Response (times_of sheet.high) i (slice_index responses i))
       (in_time : (i : ℕ) → i < length sheet.high → slice_index responses i ≤ deadline_at (times_of sheet.high) i) where
-    within : (i j : ℕ) → i < count → j < jobs_of sheet i → EndsWithin (rows sheet) (place_of sheet i j) (slice_index responses i)
+    within : (i j : ℕ) → i < count → j < jobs_of sheet i → EndsWithin (rows sheet) (place_of sheet i j) (arrives_at sheet i j) (slice_index responses i)
     within i j lt listed =
         let all : i < length (times_of sheet.high) = omega (arith, lt, length-map sheet.high (λ (task : High). task.timing)) in
         let time = time_is i lt in
         let short : (high_at sheet.high i).timing.deadline ≤ (high_at sheet.high i).timing.period = (high_is sheet valid tasks costs i lt).timing.deadline.at_most in
-        response_bounds (rows sheet) (times_of sheet.high) i (slice_index responses i) all
-        (λ m le. let in_list : m < count = omega (arith, le, lt) in subst (KeepsTiming (rows sheet) m) (sym (time_is m in_list)) (keeps_timing m in_list))
+        subst (λ moment. EndsWithin (rows sheet) (place_of sheet i j) moment (slice_index responses i)) (origin_is i j lt listed)
+        (response_bounds (rows sheet) origin (times_of sheet.high) i (slice_index responses i) all
+        (λ m le. let in_list : m < count = omega (arith, le, lt) in subst (KeepsTiming (rows sheet) origin m) (sym (time_is m in_list)) (keeps_timing m in_list))
         (subst (λ (t : Timing). t.deadline ≤ t.period) (sym time) short)
-        (each i lt) (in_time i lt) (place_of sheet i j) (row_is sheet i j lt listed).within (row_task sheet valid tasks costs i j lt listed)
+        (each i lt) (in_time i lt) (place_of sheet i j) (row_is sheet i j lt listed).within (row_task sheet valid tasks costs i j lt listed))
 
     all_kept : KeepsSchedule sheet responses
     all_kept = record {

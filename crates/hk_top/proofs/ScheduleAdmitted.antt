@@ -7,14 +7,14 @@ use Rattle.std.specs.List.{list_any, AllByRecursion}
 use Rattle.hk_script.specs.Cost.{told, greatest_ticks}
 use Rattle.hk_script.specs.declared.costs.TheConstants.{MAX_COST}
 use Rattle.hk_sheet.specs.declared.sheet.High.{High}
-use Rattle.hk_sheet.specs.Valid.{IsHigh}
 use Rattle.hk_admit.specs.declared.checked.Admitted.{Admitted}
 use Rattle.hk_admit.specs.Conditions.{exceeds, is_too_long}
 use Rattle.hk_top.specs.Jobs.{KeepsSchedule}
-use Rattle.hk_top.specs.Local.{uses_heap, AreOnVariables}
+use Rattle.hk_top.specs.Local.{uses_heap}
 use Rattle.hk_top.specs.Tool.{is_unbuilt}
 use Rattle.hk_top.proofs.Schedule.{times_of, keeps_schedule}
 use Rattle.hk_top.proofs.ScheduleKept.{IsInCost}
+use Rattle.hk_top.proofs.SheetLemmas.{on_variables}
 
 -- what is told and doesn't exceed a number is at most that number
 not_exceeded : (need declared : ℕ) → exceeds (told need) declared ≡ false → need ≤ declared
@@ -31,13 +31,6 @@ costs_from (task ∷ rest) fits =
     let parts = or_parts (is_too_long task) (list_any is_too_long rest) fits in
     (not_exceeded (greatest_ticks task.script) task.timing.cost parts.0, costs_from rest parts.1)
 
--- tasks of which none has a statement on the heap
-pub variables_from : (ticks : ℕ) (tasks : List High) → AllByRecursion (IsHigh ticks) tasks → list_any (λ (task : High). uses_heap task.script) tasks ≡ false → AreOnVariables tasks
-variables_from ticks [] are none = tt
-variables_from ticks (task ∷ rest) are none =
-    let parts = or_parts (uses_heap task.script) (list_any (λ (t : High). uses_heap t.script) rest) none in
-    (record { script = are.0.script; local = parts.0 }, variables_from ticks rest are.1 parts.1)
-
 -- The law: a sheet that is admitted and whose run is built keeps to its schedule
 pub admitted_keeps_schedule : (admitted : Admitted) → is_unbuilt admitted.checked.sheet ≡ false → KeepsSchedule admitted.checked.sheet admitted.responses
 admitted_keeps_schedule admitted built =
@@ -45,6 +38,6 @@ admitted_keeps_schedule admitted built =
     let valid = admitted.checked.sound.readable in
     let none = (or_parts (nat_lt 0 (length sheet.low)) (list_any (λ (task : High). uses_heap task.script) sheet.high) built).1 in
     let listed : (i : ℕ) → i < length sheet.high → i < length (times_of sheet.high) = λ i lt. (omega (arith, lt, length-map sheet.high (λ (task : High). task.timing))) in
-    keeps_schedule sheet admitted.responses valid (variables_from sheet.ticks sheet.high valid.high none)
+    keeps_schedule sheet admitted.responses valid (on_variables sheet.ticks sheet.heap sheet.high valid.high none)
     (costs_from sheet.high admitted.checked.sound.declared.ticks)
     (λ i lt. admitted.in_time.each i (listed i lt)) (λ i lt. admitted.in_time.in_time i (listed i lt))

@@ -8,13 +8,14 @@ use Rattle.hk_plan.proofs.Had.{each_tick_follows_order, had_more, had_none, tick
 use Rattle.hk_script.specs.Cost.{greatest_ticks}
 use Rattle.hk_sheet.specs.declared.sheet.High.{High}
 use Rattle.hk_sheet.specs.declared.sheet.Sheet.{Sheet}
+use Rattle.hk_sheet.specs.Arrivals.{delay_of}
 use Rattle.hk_sheet.specs.Valid.{IsHigh, IsSheet}
 use Rattle.hk_top.specs.Session.{Standing, Course, at_start, is_over, ticked, is_ready, next_job, course_after, turn_at}
-use Rattle.hk_top.specs.Jobs.{standing_after, length_of, rows, place_of, jobs_of, course_of}
+use Rattle.hk_top.specs.Jobs.{standing_after, length_of, rows, place_of, jobs_of, arrives_at, course_of}
 use Rattle.hk_top.specs.Local.{IsOnVariables, AreOnVariables}
-use Rattle.hk_top.proofs.ScheduleArrivals.{come_from, come-true, arrivals_apart}
+use Rattle.hk_top.proofs.ScheduleArrivals.{IsOut, out_from, out-true, delay-le, arrivals_apart}
 use Rattle.hk_top.proofs.ScheduleLengths.{length_is}
-use Rattle.hk_top.proofs.ScheduleRows.{no_high, high_at, arrivals_at, count_is, row_is, JobAt, job_at, place_from}
+use Rattle.hk_top.proofs.ScheduleRows.{no_high, high_at, arrivals_at, arrives_is, count_is, row_is, JobAt, job_at, place_from}
 use Rattle.hk_top.proofs.ScheduleTurns.{course_first, NoTurn, GetsTurn, turn_is, course_idle, course_given, course_other}
 
 -- what holds of each element holds of the one at a place
@@ -46,8 +47,8 @@ module _ (sheet : Sheet) (valid : IsSheet sheet) (tasks : AreOnVariables sheet.h
   on : (i : ℕ) → i < count → IsOnVariables (task i)
   on i lt = all_at IsOnVariables sheet.high i no_high tasks lt
 
-  pub high_is : (i : ℕ) → i < count → IsHigh sheet.ticks (high_at sheet.high i)
-  high_is i lt = all_at (IsHigh sheet.ticks) sheet.high i no_high valid.high lt
+  pub high_is : (i : ℕ) → i < count → IsHigh sheet.ticks sheet.heap (high_at sheet.high i)
+  high_is i lt = all_at (IsHigh sheet.ticks sheet.heap) sheet.high i no_high valid.high lt
 
   in_cost : (i : ℕ) → i < count → IsInCost (task i)
   in_cost i lt = all_at IsInCost sheet.high i no_high costs lt
@@ -72,7 +73,7 @@ module _ (sheet : Sheet) (valid : IsSheet sheet) (tasks : AreOnVariables sheet.h
   pub row_task : (i j : ℕ) → i < length sheet.high → j < jobs_of sheet i → task_of (rows sheet) (place_of sheet i j) ≡ i
   row_task i j lt listed = ap (λ r. r.task) (row_is sheet i j lt listed).row
 
-  pub row_arrival : (i j : ℕ) → i < length sheet.high → j < jobs_of sheet i → arrival_of (rows sheet) (place_of sheet i j) ≡ get_or (arrivals_at sheet.high sheet.ticks i) j 0
+  pub row_arrival : (i j : ℕ) → i < length sheet.high → j < jobs_of sheet i → arrival_of (rows sheet) (place_of sheet i j) ≡ get_or (arrivals_at sheet.high sheet.ticks i) j 0 + delay_of (high_at sheet.high i) j
   row_arrival i j lt listed = ap (λ r. r.arrival) (row_is sheet i j lt listed).row
 
   row_ticks : (i j : ℕ) → i < count → j < jobs i → needs (spot i j) ≡ length_of (task i).script (task i).timing.cost j
@@ -93,11 +94,23 @@ module _ (sheet : Sheet) (valid : IsSheet sheet) (tasks : AreOnVariables sheet.h
       subst (HasLength i j) (sym (row_ticks i j lt listed)) (record { some = l.some; few = l.few; over = l.over; going = l.going })
 
   -- the jobs of a task arrive in their order, a period apart
-  pub row_apart : (i j m : ℕ) → i < length sheet.high → j < m → m < jobs_of sheet i
-      → arrival_of (rows sheet) (place_of sheet i j) + (high_at sheet.high i).timing.period ≤ arrival_of (rows sheet) (place_of sheet i m)
-  row_apart i j m lt below listed =
+  pub jobs_apart : (i j m : ℕ) → i < length sheet.high → j < m → m < jobs_of sheet i
+      → arrives_at sheet i j + (high_at sheet.high i).timing.period ≤ arrives_at sheet i m
+  jobs_apart i j m lt below listed =
       let apart = arrivals_apart sheet.ticks (task i).timing.period (task i).arrivals j m (high_is i lt).arrivals below (omega (arith, listed, count_is sheet i lt)) in
-      omega (arith, apart, row_arrival i j lt (omega (arith, below, listed)), row_arrival i m lt listed)
+      omega (arith, apart, arrives_is sheet i j lt, arrives_is sheet i m lt)
+
+  -- each becomes ready at its arrival, or at most the jitter after it
+  pub row_ready : (i j : ℕ) → i < length sheet.high → j < jobs_of sheet i → arrival_of (rows sheet) (place_of sheet i j) ≡ arrives_at sheet i j + delay_of (high_at sheet.high i) j
+  row_ready i j lt listed = omega (arith, row_arrival i j lt listed, arrives_is sheet i j lt)
+
+  -- so they become ready in their order
+  row_rises : (i j m : ℕ) → i < count → j < m → m < jobs i → arrival_of all_rows (spot i j) ≤ arrival_of all_rows (spot i m)
+  row_rises i j m lt below listed =
+      let timing = (high_is i lt).timing in
+      let short : (task i).timing.deadline ≤ (task i).timing.period = timing.deadline.at_most in
+      let few : (task i).timing.jitter < (task i).timing.deadline = timing.jitter in
+      omega (arith, jobs_apart i j m lt below listed, row_ready i j lt (omega (arith, below, listed)), row_ready i m lt listed, delay-le (task i) j, short, few)
 
   -- WHERE A TASK STANDS, where this is its course
 
@@ -115,7 +128,7 @@ module _ (sheet : Sheet) (valid : IsSheet sheet) (tasks : AreOnVariables sheet.h
         | inl same ↦ due (omega (arith, same)) (let a = ready.arrived in let e = ap (λ m. arrival_of all_rows (spot i m)) same in omega (arith, a, e))
         | inr other ↦ elim other [
           | inl less ↦ let u = ready.unended in let d = s.done j less in absurd (omega (arith, u, d))
-          | inr more ↦ due (omega (arith, more)) (let a = ready.arrived in omega (arith, a, row_apart i c.job j lt more listed))
+          | inr more ↦ due (omega (arith, more)) (let a = ready.arrived in omega (arith, a, row_rises i c.job j lt more listed))
         ]
       ]
     where
@@ -123,9 +136,9 @@ module _ (sheet : Sheet) (valid : IsSheet sheet) (tasks : AreOnVariables sheet.h
       due le come =
           let in_list : c.job < jobs i = omega (arith, le, listed) in
           let few = valid.ticks.at_most in
-          both_ways (is_ready (task i) c t) not_ready (come-true sheet.ticks (task i).timing.period (task i).arrivals c.job t (high_is i lt).arrivals before (omega (arith, few)) (record {
+          both_ways (is_ready (task i) c t) not_ready (out-true sheet.ticks (task i).timing.period (task i) c.job t (high_is i lt).arrivals before (omega (arith, few)) (record {
             listed = omega (arith, in_list, count_is sheet i lt);
-            come = omega (arith, come, row_arrival i c.job lt in_list);
+            out = omega (arith, come, row_arrival i c.job lt in_list);
           }))
 
   -- the job under way of a task that is ready
@@ -135,9 +148,9 @@ module _ (sheet : Sheet) (valid : IsSheet sheet) (tasks : AreOnVariables sheet.h
 
   is_due : (t i : ℕ) (c : Course) → t < sheet.ticks → i < count → Stands t i c → is_ready (task i) c t ≡ true → IsDue t i c
   is_due t i c before lt s ready =
-      let come = come_from sheet.ticks (task i).timing.period (task i).arrivals c.job t (high_is i lt).arrivals before ready in
+      let come = out_from sheet.ticks (task i).timing.period (task i) c.job t (high_is i lt).arrivals before ready in
       let in_list = come.listed in
-      let by_then = come.come in
+      let by_then = come.out in
       let listed : c.job < jobs i = omega (arith, in_list, count_is sheet i lt) in
       record {
         listed = listed;
@@ -326,7 +339,7 @@ module _ (sheet : Sheet) (valid : IsSheet sheet) (tasks : AreOnVariables sheet.h
               let arrived = goes.ready.arrived in
               let ready : IsReady all_rows t (spot i c.job) = record {
                 within = row_within i c.job lt in_list;
-                arrived = omega (arith, arrived, row_apart i c.job j lt less listed);
+                arrived = omega (arith, arrived, row_rises i c.job j lt less listed);
                 unended = s.going in_list;
               } in
               let its = row_task i c.job lt in_list in

@@ -11,6 +11,7 @@ use Rattle.hk_script.specs.declared.statement.Statement.TheVariants as statement
 use Rattle.hk_script.specs.declared.statement.Test.TheVariants as test
 use Rattle.hk_script.specs.declared.walk.Need.{Need}
 use Rattle.hk_script.specs.declared.walk.Walk.{Walk}
+use Rattle.hk_script.specs.Limits.{limits_of}
 use Rattle.hk_script.specs.Blocks.{IsScript}
 use Rattle.hk_script.specs.Cost.{greatest_ticks}
 use Rattle.hk_script.specs.Runs.{need_ticks, taken_by, taken, AreReplies}
@@ -66,37 +67,37 @@ find_first met a (suc m) = elim (cases_Bool (met a)) [
 abbrev TakesTick : Need → Type 0
 TakesTick n = 0 < need_ticks n
 
-in_some : (w : Walk) (s : Statement) → IsStatement s → IfSome (need_in w s) TakesTick
-in_some w (statement.Work n) is = omega arith
-in_some w (statement.Set v n) is = omega arith
-in_some w (statement.Copy v u) is = omega arith
-in_some w (statement.Add v u) is = omega arith
-in_some w (statement.Sub v u) is = omega arith
-in_some w (statement.Job v) is = omega arith
-in_some w (statement.Out v) is = omega arith
-in_some w (statement.Get v reg field) is = omega arith
-in_some w (statement.Put reg field v) is = omega arith
-in_some w (statement.Load dest reg field) is = omega arith
-in_some w (statement.Store reg field from) is = omega arith
-in_some w (statement.Move dest from) is = omega arith
-in_some w (statement.Clear dest) is = omega arith
-in_some w (statement.New dest shape) is = omega arith
-in_some w (statement.If (test.Less left right)) is = omega arith
-in_some w (statement.If (test.Equal left right)) is = omega arith
-in_some w (statement.If (test.Null reg)) is = omega arith
-in_some w (statement.If (test.Same left right)) is = omega arith
-in_some w statement.Else is = tt
-in_some w (statement.Repeat n) is = omega arith
-in_some w statement.End is = tt
+in_some : (fields registers : ℕ) (w : Walk) (s : Statement) → IsStatement (limits_of fields registers) s → IfSome (need_in w s) TakesTick
+in_some fields registers w (statement.Work n) is = omega arith
+in_some fields registers w (statement.Set v n) is = omega arith
+in_some fields registers w (statement.Copy v u) is = omega arith
+in_some fields registers w (statement.Add v u) is = omega arith
+in_some fields registers w (statement.Sub v u) is = omega arith
+in_some fields registers w (statement.Job v) is = omega arith
+in_some fields registers w (statement.Out v) is = omega arith
+in_some fields registers w (statement.Get v reg field) is = omega arith
+in_some fields registers w (statement.Put reg field v) is = omega arith
+in_some fields registers w (statement.Load dest reg field) is = omega arith
+in_some fields registers w (statement.Store reg field from) is = omega arith
+in_some fields registers w (statement.Move dest from) is = omega arith
+in_some fields registers w (statement.Clear dest) is = omega arith
+in_some fields registers w (statement.New dest shape) is = omega arith
+in_some fields registers w (statement.If (test.Less left right)) is = omega arith
+in_some fields registers w (statement.If (test.Equal left right)) is = omega arith
+in_some fields registers w (statement.If (test.Null reg)) is = omega arith
+in_some fields registers w (statement.If (test.Same left right)) is = omega arith
+in_some fields registers w statement.Else is = tt
+in_some fields registers w (statement.Repeat n) is = omega arith
+in_some fields registers w statement.End is = tt
 
-at_some : (w : Walk) (script : List Statement) (place : ℕ) → AllByRecursion IsStatement script → IfSome (need_at w (slice_get script place)) TakesTick
-at_some w [] place all = tt
-at_some w (s ∷ rest) zero all = in_some w s all.0
-at_some w (s ∷ rest) (suc place) all = at_some w rest place all.1
+at_some : (fields registers : ℕ) (w : Walk) (script : List Statement) (place : ℕ) → AllByRecursion (IsStatement (limits_of fields registers)) script → IfSome (need_at w (slice_get script place)) TakesTick
+at_some fields registers w [] place all = tt
+at_some fields registers w (s ∷ rest) zero all = in_some fields registers w s all.0
+at_some fields registers w (s ∷ rest) (suc place) all = at_some fields registers w rest place all.1
 
-takes_tick : (script : List Statement) (w : Walk) (n : Need) → IsScript script → need_of script w ≡ Some n → 0 < need_ticks n
+takes_tick : (fields registers : ℕ) (script : List Statement) (w : Walk) (n : Need) → IsScript (limits_of fields registers) script → need_of script w ≡ Some n → 0 < need_ticks n
 unfolding need_of
-takes_tick script w n is e = subst (λ o. IfSome o TakesTick) e (at_some w script w.place is.each)
+takes_tick fields registers script w n is e = subst (λ o. IfSome o TakesTick) e (at_some fields registers w script w.place is.each)
 
 -- A WALK AFTER REPLIES, AND AFTER ONE MORE
 
@@ -155,7 +156,7 @@ module _ (task : High) (on : IsOnVariables task) (job : ℕ) where
         walk = walked_more task.script (started job) rs NoValue ∙ ap (λ w. walk_after task.script w NoValue) r.walk;
         ticks = omega (arith, taken_more task.script (started job) rs NoValue, more, going, ticks, all);
         fits = keeps_fitting task.script at.walk NoValue on.script r.fits lt;
-        going = λ y is. takes_tick task.script (walk_after task.script at.walk NoValue) y on.script is;
+        going = λ y is. takes_tick on.fields on.registers task.script (walk_after task.script at.walk NoValue) y on.script is;
       }
 
   one_tick : (n : ℕ) (at : Standing) (o : Option Need) → Reached task.script job n at → at.walk.place < length task.script → need_of task.script at.walk ≡ o → Reached task.script job (n + 1) (ticked_in task.script at o)
@@ -196,7 +197,7 @@ module _ (task : High) (on : IsOnVariables task) (job : ℕ) where
     walk = walked_none task.script (started job);
     ticks = refl;
     fits = started_fits task.script job on.script;
-    going = λ y is. takes_tick task.script (started job) y on.script is;
+    going = λ y is. takes_tick on.fields on.registers task.script (started job) y on.script is;
   }
   reached (suc n) before =
       let r = reached n (λ m lt. before m (omega arith)) in

@@ -8,12 +8,13 @@ use Rattle.hk_plan.specs.declared.Row.{Row}
 use Rattle.hk_plan.specs.Alone.{no_row}
 use Rattle.hk_sheet.specs.declared.arrivals.Arrivals.TheVariants as arrivals
 use Rattle.hk_sheet.specs.declared.sheet.High.{High}
+use Rattle.hk_sheet.specs.Arrivals.{delay_of}
 use Rattle.hk_sheet.specs.declared.sheet.Sheet.{Sheet}
-use Rattle.hk_top.specs.Jobs.{length_of, arrivals_before, rows_from, rows_of, rows, place_of, jobs_of}
+use Rattle.hk_top.specs.Jobs.{length_of, arrivals_before, rows_from, rows_of, rows, place_of, jobs_of, arrives_at}
 
 -- a high task without jobs, which stands for a place where there is none
 abbrev pub no_high : High
-no_high = record { name = []; timing = no_timing; words = 0; arrivals = arrivals.List []; script = [] }
+no_high = record { name = []; timing = no_timing; words = 0; lag = 0; arrivals = arrivals.List []; script = [] }
 
 -- the high task at a place
 abbrev pub high_at : List High → ℕ → High
@@ -26,7 +27,7 @@ arrivals_at tasks horizon i = arrivals_before horizon (high_at tasks i).arrivals
 -- the row of a job of a task that is listed at a place
 abbrev pub row_for : (place : ℕ) → High → (horizon job : ℕ) → Row
 row_for place task horizon job =
-    record { task = place; arrival = get_or (arrivals_before horizon task.arrivals) job 0; ticks = length_of task.script task.timing.cost job }
+    record { task = place; arrival = get_or (arrivals_before horizon task.arrivals) job 0 + delay_of task job; ticks = length_of task.script task.timing.cost job }
 
 -- THE ROWS OF ONE TASK
 
@@ -35,11 +36,11 @@ from_length p task job [] = refl
 from_length p task job (tick ∷ rest) = ap suc (from_length p task (job + 1) rest)
 
 from_at : (p : ℕ) (task : High) (job : ℕ) (ticks : List ℕ) (j n : ℕ) → j < length ticks → job + j ≡ n
-    → get_or (rows_from p task job ticks) j no_row ≡ record { task = p; arrival = get_or ticks j 0; ticks = length_of task.script task.timing.cost n }
+    → get_or (rows_from p task job ticks) j no_row ≡ record { task = p; arrival = get_or ticks j 0 + delay_of task n; ticks = length_of task.script task.timing.cost n }
 from_at p task job [] j n lt is = absurd (omega (arith, lt))
 from_at p task job (tick ∷ rest) zero n lt is =
     let e : job ≡ n = omega (arith, is) in
-    ap (λ k. record { task = p; arrival = tick; ticks = length_of task.script task.timing.cost k }) e
+    ap (λ k. record { task = p; arrival = tick + delay_of task k; ticks = length_of task.script task.timing.cost k }) e
 from_at p task job (tick ∷ rest) (suc j) n lt is = from_at p task (job + 1) rest j n (omega (arith, lt)) (omega (arith, is))
 
 -- THE ROWS OF ALL TASKS
@@ -119,6 +120,10 @@ located p (task ∷ tasks) horizon k lt =
 pub count_is : (sheet : Sheet) (i : ℕ) → i < length sheet.high → jobs_of sheet i ≡ length (arrivals_at sheet.high sheet.ticks i)
 unfolding jobs_of
 count_is sheet i lt = ap (λ ts. length ts) (get_or-map (λ (task : High). arrivals_before sheet.ticks task.arrivals) sheet.high i no_high [] lt)
+
+pub arrives_is : (sheet : Sheet) (i j : ℕ) → i < length sheet.high → arrives_at sheet i j ≡ get_or (arrivals_at sheet.high sheet.ticks i) j 0
+unfolding arrives_at
+arrives_is sheet i j lt = ap (λ ts. get_or ts j 0) (get_or-map (λ (task : High). arrivals_before sheet.ticks task.arrivals) sheet.high i no_high [] lt)
 
 -- the row of a job at its place
 pub record IsRow (sheet : Sheet) (i j : ℕ) : Type 0 where

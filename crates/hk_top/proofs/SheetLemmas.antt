@@ -3,10 +3,10 @@ use Rattle.std.proofs.Common.{◌≡◌, ℕ, ◌≤◌, Bool, true, false, ◌&
 use Rattle.std.proofs.lemmas.Bool.{both_ways}
 use Rattle.std.specs.Prelude.{nat_lt, nat_le}
 use Rattle.std.specs.List.{list_any, AllByRecursion}
+use Rattle.hk_sheet.specs.declared.sheet.HeapKeys.{HeapKeys}
 use Rattle.hk_sheet.specs.declared.sheet.High.{High}
 use Rattle.hk_sheet.specs.declared.sheet.Low.{Low}
 use Rattle.hk_sheet.specs.declared.sheet.Sheet.{Sheet}
-use Rattle.hk_sheet.specs.declared.sheet.TheConstants.{MAX_NAME}
 use Rattle.hk_sheet.specs.Faults.{is_name}
 use Rattle.hk_sheet.specs.Valid.{IsHigh, IsLow, IsSheet}
 use Rattle.hk_top.specs.Local.{uses_heap, AreOnVariables, AreNamed, AreLowNamed, IsRunnable}
@@ -18,36 +18,36 @@ and_last true b e = e
 and_last false b e = absurd (both_ways false refl e)
 
 -- a name is short
-short_name : (name : List ℕ) → is_name name ≡ true → length name ≤ MAX_NAME
+short_name : (name : List ℕ) → is_name name ≡ true → length name ≤ 16
 short_name [] is = omega arith
 short_name (first ∷ rest) is =
-    let last : nat_le (length (first ∷ rest)) MAX_NAME ≡ true = and_last _ (nat_le (length (first ∷ rest)) MAX_NAME) (and_last _ _ is) in
+    let last : nat_le (length (first ∷ rest)) 16 ≡ true = and_last _ (nat_le (length (first ∷ rest)) 16) (and_last _ _ is) in
     grind (arith, last)
 
-named : (ticks : ℕ) (tasks : List High) → AllByRecursion (IsHigh ticks) tasks → AreNamed tasks
-named ticks [] all = tt
-named ticks (t ∷ ts) all = (short_name t.name all.0.name, named ticks ts all.1)
+named : (ticks : ℕ) (heap : HeapKeys) (tasks : List High) → AllByRecursion (IsHigh ticks heap) tasks → AreNamed tasks
+named ticks heap [] all = tt
+named ticks heap (t ∷ ts) all = (short_name t.name all.0.name, named ticks heap ts all.1)
 
-low_named : (ticks : ℕ) (tasks : List Low) → AllByRecursion (IsLow ticks) tasks → AreLowNamed tasks
-low_named ticks [] all = tt
-low_named ticks (t ∷ ts) all = (short_name t.name all.0.name, low_named ticks ts all.1)
+low_named : (ticks : ℕ) (heap : HeapKeys) (tasks : List Low) → AllByRecursion (IsLow ticks heap) tasks → AreLowNamed tasks
+low_named ticks heap [] all = tt
+low_named ticks heap (t ∷ ts) all = (short_name t.name all.0.name, low_named ticks heap ts all.1)
 
 pub sheet_named : (sheet : Sheet) (tasks : List High) → IsSheet sheet → tasks ≡ sheet.high → AreNamed tasks
-sheet_named sheet tasks is same = subst AreNamed (sym same) (named sheet.ticks sheet.high is.high)
+sheet_named sheet tasks is same = subst AreNamed (sym same) (named sheet.ticks sheet.heap sheet.high is.high)
 
 pub sheet_low_named : (sheet : Sheet) (tasks : List Low) → IsSheet sheet → tasks ≡ sheet.low → AreLowNamed tasks
-sheet_low_named sheet tasks is same = subst AreLowNamed (sym same) (low_named sheet.ticks sheet.low is.low)
+sheet_low_named sheet tasks is same = subst AreLowNamed (sym same) (low_named sheet.ticks sheet.heap sheet.low is.low)
 
-on_variables : (ticks : ℕ) (tasks : List High) → AllByRecursion (IsHigh ticks) tasks → list_any (λ (task : High). uses_heap task.script) tasks ≡ false → AreOnVariables tasks
-on_variables ticks [] all none = tt
-on_variables ticks (t ∷ ts) all none =
+pub on_variables : (ticks : ℕ) (heap : HeapKeys) (tasks : List High) → AllByRecursion (IsHigh ticks heap) tasks → list_any (λ (task : High). uses_heap task.script) tasks ≡ false → AreOnVariables tasks
+on_variables ticks heap [] all none = tt
+on_variables ticks heap (t ∷ ts) all none =
     let rest = list_any (λ (task : High). uses_heap task.script) ts in
-    (record { script = all.0.script; local = or_left (uses_heap t.script) rest none }, on_variables ticks ts all.1 (or_right (uses_heap t.script) rest none))
+    (record { fields = heap.fields; registers = heap.registers; script = all.0.script; local = or_left (uses_heap t.script) rest none }, on_variables ticks heap ts all.1 (or_right (uses_heap t.script) rest none))
 
 -- a sheet that can be read, and whose run is built
 pub runnable : (sheet : Sheet) → IsSheet sheet → is_unbuilt sheet ≡ false → IsRunnable sheet
 runnable sheet is built = record {
-  tasks = on_variables sheet.ticks sheet.high is.high (or_right (nat_lt 0 (length sheet.low)) (list_any (λ (task : High). uses_heap task.script) sheet.high) built);
+  tasks = on_variables sheet.ticks sheet.heap sheet.high is.high (or_right (nat_lt 0 (length sheet.low)) (list_any (λ (task : High). uses_heap task.script) sheet.high) built);
   names = sheet_named sheet sheet.high is refl;
   few = is.ticks.at_most;
 }

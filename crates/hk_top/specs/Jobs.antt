@@ -3,12 +3,13 @@ use Rattle.std.specs.Prelude.{◌≡◌, ℕ, zero, suc, ◌+◌, ◌-◌, ◌*�
 use Rattle.std.specs.List.{range_with_len}
 use Rattle.hk_rta.specs.Demand.{starts_in}
 use Rattle.hk_plan.specs.declared.Row.{Row}
-use Rattle.hk_plan.specs.Alone.{arrival_of, EndsAt}
+use Rattle.hk_plan.specs.Alone.{EndsAt}
 use Rattle.hk_plan.specs.Bounds.{EndsWithin}
 use Rattle.hk_script.specs.declared.statement.Statement.{Statement}
 use Rattle.hk_sheet.specs.declared.arrivals.Arrivals.{Arrivals}
 use Rattle.hk_sheet.specs.declared.arrivals.Arrivals.TheVariants.{Every}
 use Rattle.hk_sheet.specs.declared.arrivals.Arrivals.TheVariants as arrivals
+use Rattle.hk_sheet.specs.Arrivals.{delay_of}
 use Rattle.hk_sheet.specs.declared.sheet.High.{High}
 use Rattle.hk_sheet.specs.declared.sheet.Sheet.{Sheet}
 use Rattle.hk_top.specs.Session.{Standing, at_start, is_over, ticked, Course, no_course, state}
@@ -28,11 +29,12 @@ abbrev pub arrivals_before : (horizon : ℕ) → Arrivals → List ℕ
 arrivals_before horizon (Every first step) = map (λ job. first + job * step) (range_with_len 0 (starts_in (horizon - first) step))
 arrivals_before horizon (arrivals.List ticks) = filter (λ tick. nat_lt tick horizon) ticks
 
--- the rows of a task's jobs, from a job on, that arrive at these ticks
+-- the rows of a task's jobs, from a job on, that arrive at these ticks; a row is there from the moment at which its job becomes
+-- ready
 abbrev pub rows_from : (place : ℕ) → High → (job : ℕ) → List ℕ → List Row
 rows_from place task job [] = []
 rows_from place task job (arrival ∷ rest) =
-    record { task = place; arrival = arrival; ticks = length_of task.script task.timing.cost job } ∷ rows_from place task (job + 1) rest
+    record { task = place; arrival = arrival + delay_of task job; ticks = length_of task.script task.timing.cost job } ∷ rows_from place task (job + 1) rest
 
 -- the rows of all tasks from the one at a place on, in the order of the sheet
 abbrev pub rows_of : (place : ℕ) → List High → (horizon : ℕ) → List Row
@@ -51,6 +53,11 @@ place_of sheet place job = length (rows_of 0 (take place sheet.high) sheet.ticks
 unfoldable pub jobs_of : Sheet → (place : ℕ) → ℕ
 jobs_of sheet place = length (slice_index_or (map (λ (task : High). arrivals_before sheet.ticks task.arrivals) sheet.high) place [])
 
+-- when a job of the task at a place arrives
+unfoldable pub arrives_at : Sheet → (place job : ℕ) → ℕ
+arrives_at sheet place job =
+    slice_index_or (slice_index_or (map (λ (task : High). arrivals_before sheet.ticks task.arrivals) sheet.high) place []) job 0
+
 -- where the task at a place stands after so many ticks
 abbrev pub course_of : Sheet → (ticks place : ℕ) → Course
 course_of sheet ticks place = slice_index_or (state sheet ticks).courses place no_course
@@ -62,12 +69,12 @@ pub record JobEndsAt (sheet : Sheet) (place job moment : ℕ) : Type 0 where
   pub after : (course_of sheet moment place).job ≡ job + 1
 
 -- The run keeps to the schedule of the high jobs alone, and to the response times: each job ends exactly when that schedule
--- ends it, and within its task's response time; and where that leaves room before the horizon, it has ended by then
+-- ends it, and within its task's response time of its arrival; and where that leaves room before the horizon, it has ended by then
 pub record KeepsSchedule (sheet : Sheet) (responses : List ℕ) : Type 0 where
   pub ends : (place job moment : ℕ) → place < length sheet.high → job < jobs_of sheet place → moment ≤ sheet.ticks
       → JobEndsAt sheet place job moment ↔ EndsAt (rows sheet) (place_of sheet place job) moment
   pub within : (place job : ℕ) → place < length sheet.high → job < jobs_of sheet place
-      → EndsWithin (rows sheet) (place_of sheet place job) (slice_index_or responses place 0)
+      → EndsWithin (rows sheet) (place_of sheet place job) (arrives_at sheet place job) (slice_index_or responses place 0)
   pub counted : (place job : ℕ) → place < length sheet.high → job < jobs_of sheet place
-      → arrival_of (rows sheet) (place_of sheet place job) + slice_index_or responses place 0 ≤ sheet.ticks
+      → arrives_at sheet place job + slice_index_or responses place 0 ≤ sheet.ticks
       → job < (course_of sheet sheet.ticks place).job

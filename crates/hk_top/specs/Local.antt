@@ -1,5 +1,5 @@
 -- Scripts that work on variables alone.
-use Rattle.std.specs.Prelude.{◌≡◌, ◌≤◌, Bool, true, false, List, length}
+use Rattle.std.specs.Prelude.{◌≡◌, ℕ, ◌≤◌, Bool, true, false, List, length}
 use Rattle.std.specs.List.{list_any, AllByRecursion}
 use Rattle.hk_script.specs.declared.statement.Statement.{Statement}
 use Rattle.hk_script.specs.declared.statement.Statement.TheVariants as statement
@@ -7,11 +7,11 @@ use Rattle.hk_script.specs.declared.statement.Test.{Test}
 use Rattle.hk_script.specs.declared.statement.Test.TheVariants as test
 use Rattle.hk_script.specs.declared.walk.Need.{Need}
 use Rattle.hk_script.specs.declared.walk.Need.TheVariants as need
+use Rattle.hk_script.specs.Limits.{limits_of}
 use Rattle.hk_script.specs.Blocks.{IsScript}
 use Rattle.hk_sheet.specs.declared.sheet.High.{High}
 use Rattle.hk_sheet.specs.declared.sheet.Low.{Low}
 use Rattle.hk_sheet.specs.declared.sheet.Sheet.{Sheet}
-use Rattle.hk_sheet.specs.declared.sheet.TheConstants.{MAX_NAME, MAX_TICKS}
 
 -- a test asks the heap
 abbrev pub test_is_on_heap : Test → Bool
@@ -46,7 +46,9 @@ IsLocal (need.Ask call) = ⊥
 
 -- a high task whose script works on variables alone
 pub record IsOnVariables (task : High) : Type 0 where
-  pub script : IsScript task.script
+  pub fields : ℕ
+  pub registers : ℕ
+  pub script : IsScript (limits_of fields registers) task.script
   pub local : uses_heap task.script ≡ false
 
 -- each task is such a one
@@ -55,13 +57,13 @@ AreOnVariables tasks = AllByRecursion IsOnVariables tasks
 
 -- the name of each task fits a line
 abbrev pub AreNamed : List High → Type 0
-AreNamed tasks = AllByRecursion (λ (task : High). length task.name ≤ MAX_NAME) tasks
+AreNamed tasks = AllByRecursion (λ (task : High). length task.name ≤ 16) tasks
 
 abbrev pub AreLowNamed : List Low → Type 0
-AreLowNamed tasks = AllByRecursion (λ (task : Low). length task.name ≤ MAX_NAME) tasks
+AreLowNamed tasks = AllByRecursion (λ (task : Low). length task.name ≤ 16) tasks
 
 -- a sheet whose run is built
 pub record IsRunnable (sheet : Sheet) : Type 0 where
   pub tasks : AreOnVariables sheet.high
   pub names : AreNamed sheet.high
-  pub few : sheet.ticks ≤ MAX_TICKS
+  pub few : sheet.ticks ≤ 16777216

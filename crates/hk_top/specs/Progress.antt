@@ -5,7 +5,7 @@ use Rattle.hk_script.specs.Walks.{Fits}
 use Rattle.hk_sheet.specs.declared.arrivals.Arrivals.TheVariants as arrivals
 use Rattle.hk_sheet.specs.declared.sheet.High.{High}
 use Rattle.hk_sheet.specs.declared.sheet.Sheet.{Sheet}
-use Rattle.hk_sheet.specs.Arrivals.{arrival_of}
+use Rattle.hk_sheet.specs.Arrivals.{arrival_of, ready_of}
 use Rattle.hk_top.specs.declared.run.Output.{Output}
 use Rattle.hk_top.specs.declared.run.Run.{Run}
 use Rattle.hk_top.specs.declared.run.TaskRun.{TaskRun}
@@ -13,7 +13,7 @@ use Rattle.hk_top.specs.Session.{Course, Session, no_course, has_arrived, output
 
 -- a high task that has no script, which stands for a place where there is none
 abbrev pub no_task : High
-no_task = record { name = []; timing = no_timing; words = 0; arrivals = arrivals.List []; script = [] }
+no_task = record { name = []; timing = no_timing; words = 0; lag = 0; arrivals = arrivals.List []; script = [] }
 
 -- what a task has come to
 abbrev pub course_of : TaskRun → Course
@@ -23,9 +23,11 @@ course_of at = record { job = at.job; at = record { walk = at.walk; spent = at.s
 abbrev pub session_of : Run → Session
 session_of run = record { courses = map course_of run.tasks.items; idle = run.idle }
 
--- a task within a run of at most so many ticks: the arrival that is kept is that of its job, which isn't over
+-- a task within a run of at most so many ticks: the arrival and the ready moment that are kept are those of its job, which
+-- isn't over
 pub record IsKept (ticks : ℕ) (task : High) (at : TaskRun) : Type 0 where
   pub arrival : at.arrival ≡ arrival_of task.arrivals at.job
+  pub ready : at.ready ≡ ready_of task at.job
   pub fits : Fits task.script at.walk
   pub within : at.walk.place < length task.script
   pub jobs_few : at.job ≤ ticks
@@ -64,4 +66,4 @@ output_at sheet tick = output_in sheet.high (state sheet tick).courses (turn_at 
 -- the place of the first task that is ready at a tick
 abbrev pub first_due : List TaskRun → (tick : ℕ) → Option ℕ
 first_due [] tick = None
-first_due (at ∷ rest) tick = if has_arrived at.arrival tick then Some 0 else option_map suc (first_due rest tick)
+first_due (at ∷ rest) tick = if has_arrived at.ready tick then Some 0 else option_map suc (first_due rest tick)

@@ -30,6 +30,7 @@ geometry_word geometry.Large = codes "large"
 geometry_word geometry.Reserve = codes "reserve"
 geometry_word geometry.Tasks = codes "tasks"
 geometry_word geometry.Board = codes "board"
+geometry_word geometry.Registers = codes "registers"
 
 -- what is wrong with a script, and in which line
 abbrev pub script_words : ScriptError → List (List ℕ)

@@ -10,7 +10,7 @@ use Rattle.hk_script.specs.Walks.{started, need_of, walk_after}
 use Rattle.hk_script.specs.Runs.{need_ticks}
 use Rattle.hk_sheet.specs.declared.sheet.High.{High}
 use Rattle.hk_sheet.specs.declared.sheet.Sheet.{Sheet}
-use Rattle.hk_sheet.specs.Arrivals.{arrival_of}
+use Rattle.hk_sheet.specs.Arrivals.{arrival_of, ready_of}
 
 -- A JOB. Where a job stands: its walk, and the ticks that it has had of the statement at which the walk is.
 pub record Standing : Type 0 where
@@ -60,13 +60,18 @@ no_course = record { job = 0; at = at_start 0; latest = 0 }
 abbrev pub next_arrival : High → Course → Option ℕ
 next_arrival task course = arrival_of task.arrivals course.job
 
--- the task has a job that has arrived by a tick and isn't ended
+-- the moment at which that job becomes ready
+abbrev pub next_ready : High → Course → Option ℕ
+next_ready task course = ready_of task course.job
+
+-- a moment has come by a tick
 abbrev pub has_arrived : Option ℕ → ℕ → Bool
 has_arrived None tick = false
 has_arrived (Some arrival) tick = nat_le arrival tick
 
+-- the task has a job that has become ready by a tick and isn't ended
 abbrev pub is_ready : High → Course → ℕ → Bool
-is_ready task course tick = has_arrived (next_arrival task course) tick
+is_ready task course tick = has_arrived (next_ready task course) tick
 
 -- how long a job that arrived at a moment has been there after a tick
 abbrev pub stay : Option ℕ → ℕ → ℕ

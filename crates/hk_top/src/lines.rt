@@ -2,7 +2,6 @@
 ghost use Rattle.std.specs.Prelude.{◌≡◌, ◌+◌, ◌≤◌, length};
 ghost use Rattle.hk_io.specs.Line.{with_word, with_number, with_end};
 ghost use Rattle.hk_io.specs.Limits.{longest_line};
-ghost use Rattle.hk_sheet.specs.declared.sheet.TheConstants.{MAX_NAME};
 ghost use Rattle.hk_top.specs.Text.{heap_line, high_line, low_line, out_line, done_line, cycles_line, end_line};
 
 use hk_io::Line;
@@ -55,7 +54,7 @@ pub fn heap_line(work: u64, attempt: u64, busy: u64, debt: u64) -> Line
 /// A high task's response time and deadline, in ticks.
 #[tactic(auto, unfolding(crate::specs::Text::high_line))]
 pub fn high_line(name: &[u8], response: u64, deadline: u64) -> Line
-    requires { length name.now ≤ MAX_NAME }
+    requires { length name.now ≤ 16 }
     ensures { result ≡ high_line name.now response deadline }
 {
     let mut line = Line::new();
@@ -72,7 +71,7 @@ pub fn high_line(name: &[u8], response: u64, deadline: u64) -> Line
 /// A low task.
 #[tactic(auto, unfolding(crate::specs::Text::low_line))]
 pub fn low_line(name: &[u8]) -> Line
-    requires { length name.now ≤ MAX_NAME }
+    requires { length name.now ≤ 16 }
     ensures { result ≡ low_line name.now }
 {
     let mut line = Line::new();
@@ -85,7 +84,7 @@ pub fn low_line(name: &[u8]) -> Line
 /// What a task put out at a tick.
 #[tactic(auto, unfolding(crate::specs::Text::out_line))]
 pub fn out_line(tick: u64, name: &[u8], value: u64) -> Line
-    requires { length name.now ≤ MAX_NAME }
+    requires { length name.now ≤ 16 }
     ensures { result ≡ out_line tick name.now value }
 {
     let mut line = Line::new();
@@ -100,7 +99,7 @@ pub fn out_line(tick: u64, name: &[u8], value: u64) -> Line
 /// How many of a task's jobs ended, and the most ticks that one of them took from its arrival.
 #[tactic(auto, unfolding(crate::specs::Text::done_line))]
 pub fn done_line(name: &[u8], jobs: u64, latest: u64) -> Line
-    requires { length name.now ≤ MAX_NAME }
+    requires { length name.now ≤ 16 }
     ensures { result ≡ done_line name.now jobs latest }
 {
     let mut line = Line::new();

@@ -62,6 +62,7 @@ fn geometry_word(error: GeoError) -> &'static str
         GeoError::Reserve => "reserve",
         GeoError::Tasks => "tasks",
         GeoError::Board => "board",
+        GeoError::Registers => "registers",
     }
 }
 
@@ -75,7 +76,12 @@ pub fn put_sheet_error<K: Sink>(sink: &mut K, error: &SheetError) -> Result<(), 
         SheetError::Unknown(key) => put_line(sink, &[b"sheet", b"unknown", &key.items]),
         SheetError::Kind(key) => put_line(sink, &[b"sheet", b"kind", &key.items]),
         SheetError::Range(key) => put_line(sink, &[b"sheet", b"range", &key.items]),
-        SheetError::Name(index) => { put_line(sink, &[b"sheet", b"name", digits(*index).bytes()]) }
+        SheetError::Name(index) => {
+            put_line(
+                sink,
+                &[b"sheet", b"name", digits(u64::from(*index)).bytes()],
+            )
+        }
         SheetError::Arrivals {
             task,
             place,
@@ -87,7 +93,7 @@ pub fn put_sheet_error<K: Sink>(sink: &mut K, error: &SheetError) -> Result<(), 
                 b"sheet",
                 b"arrivals",
                 &task.items,
-                digits(*place).bytes(),
+                digits(u64::from(*place)).bytes(),
                 digits(*earlier).bytes(),
                 digits(*later).bytes(),
             ],

@@ -4,7 +4,6 @@ ghost use Rattle.std.specs.Io.KnownBytes.{Appends};
 ghost use Rattle.hk_io.specs.Bytes.{AppendsPrefix, AppendsFront};
 ghost use Rattle.hk_io.specs.Faults.{HasCause};
 ghost use Rattle.hk_sheet.specs.Valid.{IsSheet};
-ghost use Rattle.hk_sheet.specs.declared.sheet.TheConstants.{MAX_NAME};
 ghost use Rattle.hk_top.specs.Local.{AreNamed, AreLowNamed, IsRunnable};
 ghost use Rattle.hk_top.specs.Progress.{course_of, IsAt};
 ghost use Rattle.hk_top.specs.Session.{state};

@@ -3,7 +3,6 @@ ghost use Rattle.std.specs.Prelude.{◌≡◌, ◌+◌, ◌<◌, ◌≤◌, true
 ghost use Rattle.hk_script.specs.Runs.{need_ticks};
 ghost use Rattle.hk_script.specs.Walks.{need_of};
 ghost use Rattle.hk_sheet.specs.Arrivals.{arrival_of};
-ghost use Rattle.hk_sheet.specs.declared.sheet.TheConstants.{MAX_TICKS};
 ghost use Rattle.hk_top.specs.Local.{IsLocal, IsOnVariables, AreOnVariables};
 ghost use Rattle.hk_top.specs.Progress.{course_of, IsKept, IsAt, first_due, output_at};
 ghost use Rattle.hk_top.specs.Session.{no_course, has_arrived, passed, gone_on, output_of, output_in, next_job, course_after};
@@ -42,6 +41,8 @@ pub struct TaskRun {
     pub job: u64,
     /// When that job arrives, where there is one.
     arrival: Option<u64>,
+    /// When that job becomes ready, where there is one.
+    ready: Option<u64>,
     /// Where it is in its script.
     walk: Walk,
     /// How many ticks it has had of the statement that it is at.
@@ -91,28 +92,29 @@ impl TaskRun {
         TaskRun {
             job: 0,
             arrival: task.arrivals.at(0),
+            ready: task.ready(0),
             walk: Walk::start(0),
             spent: 0,
             latest: 0,
         }
     }
 
-    /// Whether the task has a job that arrived by a tick and isn't ended.
+    /// Whether the task has a job that became ready by a tick and isn't ended.
     fn is_ready(&self, tick: u64) -> bool
-        ensures { result ≡ has_arrived self.now.arrival tick }
+        ensures { result ≡ has_arrived self.now.ready tick }
     {
-        match self.arrival {
-            Some(arrival) => arrival <= tick,
+        match self.ready {
+            Some(ready) => ready <= tick,
             None => false,
         }
     }
 
-    /// Gives a tick to the task's job, which has arrived, and answers what it puts out.
+    /// Gives a tick to the task's job, which is ready, and answers what it puts out.
     #[tactic(auto, using(crate::proofs::Needs::needs))]
     fn tick(&mut self, task: &High, tick: u64) -> Option<u64>
         requires task { IsOnVariables task.now }
         requires kept { IsKept tick task.now self.old }
-        requires inside { tick < MAX_TICKS }
+        requires inside { tick < 16777216 }
         ensures output { result ≡ output_of task.now.script (course_of self.old).at }
         ensures course { course_of self.new ≡ course_after task.now (course_of self.old) tick }
         ensures kept { IsKept (tick + 1) task.now self.new }
@@ -133,7 +135,7 @@ impl TaskRun {
         requires task { IsOnVariables task.now }
         requires kept { IsKept tick task.now self.old }
         requires local { IsSomeAnd (need_of task.now.script self.old.walk) IsLocal }
-        requires inside { tick < MAX_TICKS }
+        requires inside { tick < 16777216 }
         ensures course { course_of self.new ≡ gone_on task.now (course_of self.old) tick (passed task.now.script (course_of self.old).at) }
         ensures kept { IsKept (tick + 1) task.now self.new }
     {
@@ -150,7 +152,7 @@ impl TaskRun {
         requires task { IsOnVariables task.now }
         requires arrival { self.old.arrival ≡ arrival_of task.now.arrivals self.old.job }
         requires few { self.old.job ≤ tick }
-        requires inside { tick < MAX_TICKS }
+        requires inside { tick < 16777216 }
         ensures course { course_of self.new ≡ next_job task.now (course_of self.old) tick }
         ensures kept { IsKept (tick + 1) task.now self.new }
     {
@@ -160,6 +162,7 @@ impl TaskRun {
         *self = TaskRun {
             job: self.job + 1,
             arrival: task.arrivals.at(self.job + 1),
+            ready: task.ready(self.job + 1),
             walk: Walk::start(self.job + 1),
             spent: 0,
             latest: self.latest,
@@ -185,7 +188,7 @@ impl Run {
     pub fn tick(&mut self, sheet: &Sheet, tick: u64) -> Option<Output>
         requires tasks { AreOnVariables sheet.now.high }
         requires inside { tick < sheet.now.ticks }
-        requires few { sheet.now.ticks ≤ MAX_TICKS }
+        requires few { sheet.now.ticks ≤ 16777216 }
         requires at { IsAt sheet.now tick self.old }
         ensures output { result ≡ output_at sheet.now tick }
         ensures within { IfSome result (λ output. output.place < length sheet.now.high) }

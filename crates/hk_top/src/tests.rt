@@ -3,6 +3,7 @@ mod edits;
 mod orders;
 mod runs;
 mod streams;
+mod versions;
 
 use crate::run_tool;
 use hk_io::{MemSink, MemSource, Status};

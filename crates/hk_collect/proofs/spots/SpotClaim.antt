@@ -3,7 +3,6 @@
 -- cycle.
 use Rattle.std.proofs.Common.{◌≡◌, ◌≢◌, ℕ, ◌+◌, ◌*◌, ◌<◌, ◌≤◌, Bool, true, false, inl, inr, refl, sym, ◌∙◌, ap, subst, arith, Option, Some, None}
 use Rattle.std.proofs.lemmas.Bool.{cases_eq, ltb-true, eqb-true, or_cases, and_parts}
-use Rattle.std.proofs.lemmas.Bool.Decides.{nat_tests}
 use Rattle.std.specs.Prelude.{max, nat_eq, nat_lt, ◌&&◌, if◌then◌else◌}
 use Rattle.hk_words.specs.declared.geometry.Geometry.{Geometry}
 use Rattle.hk_words.specs.Geometry.{tasks, numbers}
@@ -36,6 +35,7 @@ use Rattle.hk_core.proofs.kinds.ReserveSeats.{BearersHaveFields, two_words, shad
 use Rattle.hk_core.proofs.kinds.Link.{CanLink, link_facts}
 use Rattle.hk_collect.proofs.spots.Spots.{SpotFacts, HandFacts, WorkFacts, GoesMarking, hand_facts, with_spot, with_spot_and_hand, hands_changed, shades_kept, work_facts, marking_on}
 use Rattle.hk_collect.proofs.spots.SpotLines.{AtRegister, AtCell, at_register, register_works, frame_trade_works, at_cell, cell_works}
+use Rattle.std.proofs.lemmas.Bool.{ltb-false}
 
 -- THE CLAIMS IN HAND
 
@@ -242,10 +242,7 @@ reserve_on : DealsOn stage.Reserve stage.Tie
 unfolding l.stage_rank l.written_at
 reserve_on = record { before = at_reserve; after = at_tie; rank = refl; of_register = tt; of_cell = tt; unwritten = λ i j e. absurd (cc) }
 
-not_low : (a b : ℕ) → nat_lt a b ≡ false → b ≤ a
-not_low a b e = grind (arith, nat_tests)
-
-no_read_work : {A : Type 0} → l.is_in_work stage.Read ≡ true → A
+pub no_read_work : {A : Type 0} → l.is_in_work stage.Read ≡ true → A
 unfolding l.is_in_work
 no_read_work e = absurd (cc)
 
@@ -253,15 +250,15 @@ no_write_work : {A : Type 0} → l.is_in_work stage.Write ≡ true → A
 unfolding l.is_in_work
 no_write_work e = absurd (cc)
 
-read_rank : l.stage_rank stage.Read ≡ 0
+pub read_rank : l.stage_rank stage.Read ≡ 0
 unfolding l.stage_rank
 read_rank = refl
 
-write_rank : l.stage_rank stage.Write ≡ 4
+pub write_rank : l.stage_rank stage.Write ≡ 4
 unfolding l.stage_rank
 write_rank = refl
 
-loaded_now : (i : ℕ) → l.loaded_at i stage.Write ≡ Some i
+pub loaded_now : (i : ℕ) → l.loaded_at i stage.Write ≡ Some i
 unfolding l.loaded_at
 loaded_now i = refl
 
@@ -312,7 +309,7 @@ module _ (g : Geometry) (z : Spaces) (flight : ℕ → Flight) (t : Spot) (names
             spent = omega arith;
           })
       by_last here past false e =
-          let last : g.registers ≤ r + 1 = not_low (r + 1) g.registers e in
+          let last : g.registers ≤ r + 1 = ltb-false (r + 1) g.registers e in
           let below : r < g.registers = here.register in
           let spent : t.spent ≤ 1 + 4 * r + l.stage_rank now = here.spent in
           let rank : l.stage_rank now ≤ 3 = o.rank in

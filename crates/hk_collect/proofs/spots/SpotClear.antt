@@ -1,6 +1,6 @@
 -- The clearing writes 0 to a word of the old space. Kept objects stand in the current space, so no word of theirs changes, and a
 -- word that is said to be 0 stays so.
-use Rattle.std.proofs.Common.{◌≡◌, ℕ, ◌+◌, ◌*◌, ◌<◌, ◌≤◌, Bool, true, false, inl, inr, refl, sym, ◌∙◌, ap, subst, arith, Option, Some, None}
+use Rattle.std.proofs.Common.{◌≡◌, ℕ, ◌+◌, ◌*◌, ◌<◌, ◌≤◌, true, false, inl, inr, refl, sym, ◌∙◌, ap, subst, arith, Option, None}
 use Rattle.std.proofs.lemmas.Bool.{cases_lt, le-ltb, lt-ltb}
 use Rattle.hk_words.specs.declared.geometry.Geometry.{Geometry}
 use Rattle.hk_words.specs.Geometry.{list_length, space_words}
@@ -12,7 +12,7 @@ use Rattle.hk_core.specs.declared.spot.Spot.{Spot}
 use Rattle.hk_core.specs.declared.spot.Line.{Line}
 use Rattle.hk_core.specs.declared.spot.Line.TheVariants as line
 use Rattle.hk_core.specs.Collect.{old_space, next_list, clear_took}
-use Rattle.hk_core.specs.View.{Words, Names, Contents, size_at, refs_at, nums_at, reference_at}
+use Rattle.hk_core.specs.View.{Words, Names, Contents, reference_at}
 use Rattle.hk_core.specs.Flights.{Hand}
 use Rattle.hk_core.specs.Lines as l
 use Rattle.hk_core.specs.Colours.{Spaces, spaces_of, Shades, shades_of}
@@ -23,6 +23,7 @@ use Rattle.hk_core.proofs.kinds.LoadRead.{some_words}
 use Rattle.hk_collect.proofs.spots.SpotSweepLines.{quiet_line, sweep_spot, kept_current}
 use Rattle.hk_collect.proofs.spots.Spots.{SpotFacts, hands_kept, shades_kept}
 use Rattle.hk_core.proofs.kinds.WriteCell.{ShadesMean, shades_mean}
+use Rattle.hk_core.proofs.Shared.{never_both, refuted, size_borne}
 
 -- what the tables say of a line on which the collector clears the old space, and after that
 pub record ClearingLine (g : Geometry) (t : Spot) (ln : Line) : Type 0 where
@@ -43,17 +44,6 @@ clearing_line g t i = record { quiet = refl; is_busy = refl; sweeps_no_more = re
 pub reset_line : (g : Geometry) (t : Spot) → ClearingLine g t line.Reset
 unfolding l.is_marking l.is_resting l.is_sweeping_or_marking l.sweeping l.written l.marked l.emptied
 reset_line g t = record { quiet = refl; is_busy = refl; sweeps_no_more = refl; sweeps_none = refl; written = refl; marked = refl; emptied = refl; full = λ _ _ _ _ _ h. h; in_step = λ _ _ _ _ _ h. h }
-
-no_such : {A B : Type 0} (o : Option B) (x : B) → o ≡ None → o ≡ Some x → A
-no_such o x none some = absurd (cc)
-
-not_so : {A : Type 0} (b : Bool) → b ≡ false → b ≡ true → A
-not_so b off on = absurd (cc)
-
--- the words of the object that a number bears
-size_borne : (names : Names) (n b : ℕ) → names.bearer n ≡ Some b → size_at names n ≡ 1 + names.refs b + names.nums b
-unfolding size_at refs_at nums_at
-size_borne names n b e = rw e refl
 
 module _ (g : Geometry) (w : Words) (z : Spaces) (sh : Shades) (flight : ℕ → Flight) (begun : ℕ → ℕ) (hand : ℕ → Hand) (t : Spot)
     (names : Names) (contents : Contents) (range : ℕ → Option ℕ) (h : Facts g w z sh flight begun hand t names contents range)
@@ -102,7 +92,7 @@ module _ (g : Geometry) (w : Words) (z : Spaces) (sh : Shades) (flight : ℕ →
         marks_above_are_written = rw marked h.marks_above_are_written;
         moved_stands_in_range = rw busy h.moved_stands_in_range;
         unreserved_is_zero = λ e x b none. zero _ (h.unreserved_is_zero here.is_busy x b none);
-        unused_is_zero = λ e. not_so _ next.is_busy e;
+        unused_is_zero = λ e. refuted _ next.is_busy e;
         cleared_is_zero = λ j b. elim (cases_lt j i) [
           | inl below ↦ zero _ (h.cleared_is_zero j (omega arith))
           | inr last ↦ elim (upd_cases w.cell p 0 (z.old + j)) [ inl (same, u) ↦ u | inr (differ, u) ↦ absurd (differ (omega arith)) ]
@@ -111,13 +101,13 @@ module _ (g : Geometry) (w : Words) (z : Spaces) (sh : Shades) (flight : ℕ →
         ranges_below_moved = h.ranges_below_moved;
         ranges_above_grey = h.ranges_above_grey;
         scan_bounded = rw busy h.scan_bounded;
-        marks_few = λ e. not_so _ next.sweeps_no_more e;
+        marks_few = λ e. refuted _ next.sweeps_no_more e;
         written_numbers = rw written h.written_numbers;
         written_distinct = rw written h.written_distinct;
         written_marked = rw marked h.written_marked;
         written_empty = rw emptied h.written_empty;
         sweep_in_step = next.in_step (list_length g) w.cycle t.entries w.mark (w.entry (next_list w.cycle)) e;
-        swept_marked = λ n k e. no_such _ n next.sweeps_none e;
+        swept_marked = λ n k e. never_both _ n next.sweeps_none e;
         spot_formed = fits;
         settled = h.settled_from_sweep here.quiet;
       })

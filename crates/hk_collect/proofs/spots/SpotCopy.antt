@@ -1,8 +1,7 @@
 -- The collector writes a cell of the object that it moves at the object's new place. The word is one of the range at the scan
 -- offset, behind its link word. No kept object stands there, nor has a New words there, and it is no link word.
-use Rattle.std.proofs.Common.{◌≡◌, ◌≢◌, ◌⊎◌, ℕ, zero, suc, ◌+◌, ◌-◌, ◌*◌, ◌%◌, ◌<◌, ◌≤◌, Bool, true, false, inl, inr, refl, sym, ◌∙◌, ap, subst, arith, Option, Some, None}
+use Rattle.std.proofs.Common.{◌≡◌, ◌≢◌, ◌⊎◌, ℕ, zero, suc, ◌+◌, ◌-◌, ◌*◌, ◌%◌, ◌<◌, ◌≤◌, Bool, true, false, inl, inr, refl, sym, ◌∙◌, ap, subst, arith, Option, Some}
 use Rattle.std.proofs.lemmas.Bool.{both_ways, cases_eq, cases_lt, ltb-true}
-use Rattle.std.proofs.lemmas.Bool.Decides.{nat_tests}
 use Rattle.std.specs.Prelude.{nat_lt, if◌then◌else◌}
 use Rattle.hk_words.specs.declared.geometry.Geometry.{Geometry}
 use Rattle.hk_words.specs.Geometry.{tasks}
@@ -17,7 +16,7 @@ use Rattle.hk_core.specs.declared.spot.Line.TheVariants as line
 use Rattle.hk_core.specs.declared.spot.Stage.TheVariants as stage
 use Rattle.hk_core.specs.Collect.{current_space, moved_to, after_cell}
 use Rattle.hk_core.specs.Step.{new_place, reference_size}
-use Rattle.hk_core.specs.View.{Words, Names, Contents, refs_at, nums_at, size_at, reference_at}
+use Rattle.hk_core.specs.View.{Words, Names, Contents, reference_at}
 use Rattle.hk_core.specs.Flights as f
 use Rattle.hk_core.specs.Flights.{Hand}
 use Rattle.hk_core.specs.Lines as l
@@ -31,16 +30,11 @@ use Rattle.hk_core.proofs.kinds.Reserve.{marking_is_busy}
 use Rattle.hk_core.proofs.kinds.NewRaise.{making_has_room}
 use Rattle.hk_collect.proofs.spots.Spots.{WorkFacts, GoesMarking, work_facts, marking_on, on_spot}
 use Rattle.hk_collect.proofs.spots.SpotLines.{AtItem, InObject, AtCell, at_cell, cell_works, object_trade_works}
-use Rattle.hk_core.proofs.Shared.{size_some}
+use Rattle.hk_core.proofs.Shared.{never_both, size_borne}
+use Rattle.std.proofs.lemmas.Bool.{ltb-false}
+use Rattle.hk_collect.proofs.spots.SpotClaim.{no_read_work, read_rank, write_rank, loaded_now}
 
 -- THE OBJECT THAT IS MOVED
-
-no_range : {A : Type 0} (o : Option ℕ) (n : ℕ) → o ≡ None → o ≡ Some n → A
-no_range o n none some = absurd (cc)
-
-size_borne : (names : Names) (n b : ℕ) → names.bearer n ≡ Some b → size_at names n ≡ 1 + names.refs b + names.nums b
-unfolding size_at refs_at nums_at
-size_borne names n b e = rw e refl
 
 -- the words of a New lie in the area for allocation of a space, so they are no place of the area for evacuation of a space
 new_elsewhere : (live alloc side words i other offset : ℕ) → side < 2 → other < 2 → words + i < alloc → offset < live
@@ -67,9 +61,6 @@ module _ (g : Geometry) (w : Words) (z : Spaces) (sh : Shades) (flight : ℕ →
     (m : ShadesMean g w z sh flight t.line names) (fit : ShapesFit names) (marks : l.is_marking t.line ≡ true) (o : AtItem g w z sh t range) where
   pub busy : l.is_resting t.line ≡ false
   busy = marking_is_busy t.line marks
-
-  pub some_words : (j : ℕ) → 0 < sh.size j
-  some_words j = let e = m.size j in let some = size_some names j in omega arith
 
   -- a number whose place is in the current space isn't grey
   not_grey : (j y : ℕ) → w.place j ≡ z.current + y → y < z.live → sh.grey j ≢ true
@@ -192,7 +183,7 @@ module _ (g : Geometry) (w : Words) (z : Spaces) (sh : Shades) (flight : ℕ →
   not_link : (x j : ℕ) → range x ≡ Some j → z.current + x ≢ z.current + t.scan + 1 + i
   not_link x j there e =
       let size : reference_size t.item ≡ sh.size (layout.reference_number t.item) = own.size in
-      no_range (range x) j (h.ranges_apart t.scan (layout.reference_number t.item) x own.has_range (omega arith) (omega arith)) there
+      never_both (range x) j (h.ranges_apart t.scan (layout.reference_number t.item) x own.has_range (omega arith) (omega arith)) there
 
   copy_links : fact.LinksShown sh.kept names w.place (upd w.cell (z.current + t.scan + 1 + i) v) contents.link
   copy_links j b kept borne k below =
@@ -276,13 +267,6 @@ copied_marks t i = by_last (nat_lt (i + 2) (reference_size t.item))
     by_last true = refl
     by_last false = refl
 
-not_low : (a b : ℕ) → nat_lt a b ≡ false → b ≤ a
-not_low a b e = grind (arith, nat_tests)
-
-no_work : {A : Type 0} → l.is_in_work stage.Read ≡ true → A
-unfolding l.is_in_work
-no_work e = absurd (cc)
-
 none_written : {A : Type 0} (i j : ℕ) → l.written_at i stage.Read ≡ Some j → A
 unfolding l.written_at
 none_written i j e = absurd (cc)
@@ -291,21 +275,9 @@ none_loaded : {A : Type 0} (i j : ℕ) → l.loaded_at i stage.Read ≡ Some j �
 unfolding l.loaded_at
 none_loaded i j e = absurd (cc)
 
-loaded_now : (i : ℕ) → l.loaded_at i stage.Write ≡ Some i
-unfolding l.loaded_at
-loaded_now i = refl
-
 written_now : (i : ℕ) → l.written_at i stage.Write ≡ Some i
 unfolding l.written_at
 written_now i = refl
-
-read_rank : l.stage_rank stage.Read ≡ 0
-unfolding l.stage_rank
-read_rank = refl
-
-write_rank : l.stage_rank stage.Write ≡ 4
-unfolding l.stage_rank
-write_rank = refl
 
 -- the cell that was written is past
 cell_past : (g : Geometry) (w : Words) (z : Spaces) (sh : Shades) (t : Spot) (names : Names) (range : ℕ → Option ℕ) (i : ℕ) → AtCell g w z sh t names range i stage.Write
@@ -343,13 +315,13 @@ copied_works g w z sh flight t names range i o written = by_last (nat_lt (i + 2)
           in_object = cell_past g w z sh t names range i o written;
           cell = omega arith;
           staged = tt;
-          good = λ e. no_work e;
+          good = λ e. no_read_work e;
           claimed = λ j e. none_written (i + 1) j e;
           loaded = λ j e. none_loaded (i + 1) j e;
           spent = omega arith;
         })
     by_last false e =
-        let most : reference_size t.item ≤ i + 2 = not_low (i + 2) (reference_size t.item) e in
+        let most : reference_size t.item ≤ i + 2 = ltb-false (i + 2) (reference_size t.item) e in
         let below : i + 1 < reference_size t.item = o.cell in
         let last : i + 1 ≡ reference_size t.item - 1 = omega arith in
         let spent : t.spent ≤ 1 + 5 * i + l.stage_rank stage.Write = o.spent in

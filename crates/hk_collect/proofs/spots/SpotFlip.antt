@@ -25,11 +25,11 @@ use Rattle.hk_core.proofs.Counts.{count_bounded}
 use Rattle.hk_core.proofs.kinds.LoadRead.{ColoursMean, colours_mean, some_words}
 use Rattle.hk_core.proofs.kinds.NewHeader.{cycle_inside_through, loaded_inside_through}
 use Rattle.hk_core.proofs.kinds.NewRaise.{making_raised}
-use Rattle.hk_core.proofs.Shared.{refuted}
 use Rattle.hk_collect.proofs.spots.SpotSweepCounts.{count_listed}
 use Rattle.hk_collect.proofs.spots.SpotSweepLines.{kept_marked, kept_current, none_reserves}
 use Rattle.hk_collect.proofs.spots.Spots.{hands_kept}
 use Rattle.hk_core.proofs.kinds.WriteCell.{ShadesMean, shades_mean}
+use Rattle.hk_core.proofs.Shared.{never, never_both, never_some, refuted}
 
 -- THE WORDS, THE SPACES AND THE SHADES AFTER THE FLIP
 
@@ -79,15 +79,6 @@ kept_again g cycle held bearer place mark empty n =
 -- words lie in a space wherever the spaces are turned
 turned_current : (z : Spaces) (place size : ℕ) → InCurrent z place size → InOld (turned z) place size
 turned_current z place size o = record { after = o.after; before = o.before }
-
-no_range : {A : Type 0} (o : Option ℕ) (n : ℕ) → o ≡ None → o ≡ Some n → A
-no_range o n none some = absurd (cc)
-
-never : {A : Type 0} → false ≡ true → A
-never e = absurd (cc)
-
-none : {A B : Type 0} (x : B) → None ≡ Some x → A
-none x e = absurd (cc)
 
 room_raised : (x : Flight) → f.has_room x ≡ true → f.has_raised x ≡ true
 unfolding f.has_room
@@ -231,9 +222,9 @@ module _ (g : Geometry) (w : Words) (z : Spaces) (sh : Shades) (flight : ℕ →
         let moved : fact.MovedStandsInRange z' false sh.kept w.place range = λ e n x kept there b. not_in_old n kept (omega arith) (omega arith) in
         let free : fact.FreeIsZero z' sh.kept w.place sh.size w.cell = λ i b o. old_is_zero (z.live + i) (omega arith) in
         let unreserved : fact.UnreservedIsZero z' false sh.size w.cell range = λ e x b o. old_is_zero x (omega arith) in
-        let below : fact.RangesBelowMoved z' (w.cycle + 1) 0 sh.kept w.place w.mark sh.size range = λ x n e b. no_range (range x) n (no_ranges x) e in
-        let grey : fact.RangesAboveGrey 0 sh.kept grey' range = λ x n e b. no_range (range x) n (no_ranges x) e in
-        let linked : fact.RangesLinked z' sh.size w.cell (reference_at names) range = λ x n e b. no_range (range x) n (no_ranges x) e in
+        let below : fact.RangesBelowMoved z' (w.cycle + 1) 0 sh.kept w.place w.mark sh.size range = λ x n e b. never_both (range x) n (no_ranges x) e in
+        let grey : fact.RangesAboveGrey 0 sh.kept grey' range = λ x n e b. never_both (range x) n (no_ranges x) e in
+        let linked : fact.RangesLinked z' sh.size w.cell (reference_at names) range = λ x n e b. never_both (range x) n (no_ranges x) e in
         let scan : fact.ScanBounded z' false 0 w.reserved = λ e. (omega arith, omega arith) in
         let few : fact.MarksFew g (line.Frame 0) (w.cycle + 1) w.reserved w.mark hand = λ e.
         let count : count_below (numbers g) (λ n. nat_eq (w.mark n) (w.cycle + 1)) ≤ list_length g =
@@ -242,7 +233,7 @@ module _ (g : Geometry) (w : Words) (z : Spaces) (sh : Shades) (flight : ℕ →
         omega arith in
         let claims : fact.ClaimsUnreserved g (w.cycle + 1) grey' range hand = λ k item c b e. absurd (none_in_hand k item c b e) in
         let links : fact.ClaimsUnlinked g z' (w.cycle + 1) grey' sh.size w.cell range hand = λ k item c offset b e.
-        let o = h.claims_unlinked k item c offset b e in no_range (range offset) _ (no_ranges offset) o.has_range in
+        let o = h.claims_unlinked k item c offset b e in never_both (range offset) _ (no_ranges offset) o.has_range in
         let unread : fact.UnreadFree g (w.cycle + 1) 0 w.accessors w.place w.version w.mark next = λ j a b. entry_free j b in
         let distinct : fact.UnreadDistinct g 0 next = λ i j a b c. let o = all_written in h.written_distinct i j b (omega arith) in
         let read : fact.OwnEntriesRead g 0 next w.entry flight = λ s j b making a c same.
@@ -320,7 +311,7 @@ module _ (g : Geometry) (w : Words) (z : Spaces) (sh : Shades) (flight : ℕ →
           claims_unreserved = claims;
           claims_unlinked = links;
           grey_waits = λ n b e. absurd (both_ways _ (none_grey n b) e);
-          unlinked_waits = λ x n e. no_range (range x) n (no_ranges x) e;
+          unlinked_waits = λ x n e. never_both (range x) n (no_ranges x) e;
           claims_apart = h.claims_apart;
           unread_free = unread;
           unread_distinct = distinct;
@@ -333,7 +324,7 @@ module _ (g : Geometry) (w : Words) (z : Spaces) (sh : Shades) (flight : ℕ →
           written_marked = written;
           written_empty = empty;
           sweep_in_step = refl;
-          swept_marked = λ n k e. none n e;
+          swept_marked = λ n k e. never_some e;
           news_found_room = room;
           news_clean = h.news_clean;
           news_recent = recent;
@@ -354,19 +345,19 @@ module _ (g : Geometry) (w : Words) (z : Spaces) (sh : Shades) (flight : ℕ →
           entered_white_in_no_black_frame = entered;
           spot_formed = seats;
           frames_blackened = λ s b. absurd (omega arith);
-          frame_attempt_behind = λ s p e. none (s, p) e;
-          registers_passed = λ s p r e. none (s, p) e;
-          register_in_work = λ s r e. none (s, r) e;
-          cell_claimed = λ i e. none i e;
+          frame_attempt_behind = λ s p e. never_some e;
+          registers_passed = λ s p r e. never_some e;
+          register_in_work = λ s r e. never_some e;
+          cell_claimed = λ i e. never_some e;
           scan_at_range = λ e. never e;
           item_is_linked = λ e. never e;
-          object_attempt_behind = λ p e. none p e;
-          cells_passed = λ p i e. none p e;
-          cells_copied = λ p i e. none p e;
-          cell_loaded = λ i e. none i e;
-          pass_meets_grey = λ n e. none n e;
+          object_attempt_behind = λ p e. never_some e;
+          cells_passed = λ p i e. never_some e;
+          cells_copied = λ p i e. never_some e;
+          cell_loaded = λ i e. never_some e;
+          pass_meets_grey = λ n e. never_some e;
           settled_from_sweep = λ e. marks_not e;
-          spent_bounded = λ n e. none n e;
+          spent_bounded = λ n e. never_some e;
         }
       where
         marks_not : {A : Type 0} → true ≡ false → A

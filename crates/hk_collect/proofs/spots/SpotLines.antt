@@ -16,6 +16,7 @@ use Rattle.hk_core.specs.Lines as l
 use Rattle.hk_core.specs.Colours.{Spaces, Shades, IsGood, IsNullOrMarked}
 use Rattle.hk_core.specs.Facts.{FrameBehind, ObjectBehind, IsSettled}
 use Rattle.hk_collect.proofs.spots.Spots.{WorkFacts}
+use Rattle.hk_core.proofs.Shared.{never, never_some}
 
 -- THE RECORDS
 
@@ -90,12 +91,6 @@ pub record AtPass (g : Geometry) (w : Words) (sh : Shades) (flight : ℕ → Fli
 
 -- FROM WORKFACTS, AND BACK
 
-never : {A : Type 0} → false ≡ true → A
-never e = absurd (cc)
-
-none : {A B : Type 0} (x : B) → None ≡ Some x → A
-none x e = absurd (cc)
-
 is_some : {B : Type 0} (P : B → Type 0) (x y : B) → Some x ≡ Some y → P x → P y
 is_some P x y e p = let same : x ≡ y = cc in subst P same p
 
@@ -117,18 +112,18 @@ module _ (g : Geometry) (w : Words) (z : Spaces) (sh : Shades) (flight : ℕ →
     cell_good = λ e. never e;
     line_fits = o.seat;
     frames_blackened = o.blackened;
-    frame_attempt_behind = λ k p e. none (k, p) e;
-    registers_passed = λ k p r e. none (k, p) e;
-    register_in_work = λ k r e. none (k, r) e;
-    cell_claimed = λ i e. none i e;
+    frame_attempt_behind = λ k p e. never_some e;
+    registers_passed = λ k p r e. never_some e;
+    register_in_work = λ k r e. never_some e;
+    cell_claimed = λ i e. never_some e;
     scan_at_range = λ e. never e;
     item_is_linked = λ e. never e;
-    object_attempt_behind = λ p e. none p e;
-    cells_passed = λ p i e. none p e;
-    cells_copied = λ p i e. none p e;
-    cell_loaded = λ i e. none i e;
-    pass_meets_grey = λ n e. none n e;
-    spent_bounded = λ m e. none m e;
+    object_attempt_behind = λ p e. never_some e;
+    cells_passed = λ p i e. never_some e;
+    cells_copied = λ p i e. never_some e;
+    cell_loaded = λ i e. never_some e;
+    pass_meets_grey = λ n e. never_some e;
+    spent_bounded = λ m e. never_some e;
   }
 
   pub at_register : (s r : ℕ) (stage : Stage) → WorkFacts g w z sh flight t names range (line.Register s r stage) → AtRegister g w sh t names s r stage
@@ -158,14 +153,14 @@ module _ (g : Geometry) (w : Words) (z : Spaces) (sh : Shades) (flight : ℕ →
         subst (λ k. w.frame_version k ≡ layout.frame_version t.first → q < p → IsNullOrMarked w.cycle w.mark (w.register k q)) same.0
         (subst (λ p. w.frame_version s ≡ layout.frame_version t.first → q < p → IsNullOrMarked w.cycle w.mark (w.register s q)) same.1 (o.in_frame.passed q));
     register_in_work = λ k q e. by_stage (l.is_in_work stage) refl k q e;
-    cell_claimed = λ i e. none i e;
+    cell_claimed = λ i e. never_some e;
     scan_at_range = λ e. never e;
     item_is_linked = λ e. never e;
-    object_attempt_behind = λ p e. none p e;
-    cells_passed = λ p i e. none p e;
-    cells_copied = λ p i e. none p e;
-    cell_loaded = λ i e. none i e;
-    pass_meets_grey = λ n e. none n e;
+    object_attempt_behind = λ p e. never_some e;
+    cells_passed = λ p i e. never_some e;
+    cells_copied = λ p i e. never_some e;
+    cell_loaded = λ i e. never_some e;
+    pass_meets_grey = λ n e. never_some e;
     spent_bounded = λ m e. is_most _ m t.spent e o.spent;
   }
     where
@@ -175,7 +170,7 @@ module _ (g : Geometry) (w : Words) (z : Spaces) (sh : Shades) (flight : ℕ →
           let same = attempt_at s r k q e in
           subst (λ k. w.frame_version k ≡ layout.frame_version t.first → (w.register k q ≡ 0) ⊎ (w.register k q ≡ t.cell)) same.0
           (subst (λ q. w.frame_version s ≡ layout.frame_version t.first → (w.register s q ≡ 0) ⊎ (w.register s q ≡ t.cell)) same.1 (o.in_work works))
-      by_stage false works k q e = none (k, q) e
+      by_stage false works k q e = never_some e
 
   pub at_frame_trade : (s : ℕ) → WorkFacts g w z sh flight t names range (line.FrameTrade s) → AtFrameTrade g w sh t s
   unfolding l.frames_done l.frame_attempt l.most_spent
@@ -199,15 +194,15 @@ module _ (g : Geometry) (w : Words) (z : Spaces) (sh : Shades) (flight : ℕ →
     registers_passed = λ k p q e. let same = attempt_at s g.registers k p e in
         subst (λ k. w.frame_version k ≡ layout.frame_version t.first → q < p → IsNullOrMarked w.cycle w.mark (w.register k q)) same.0
         (subst (λ p. w.frame_version s ≡ layout.frame_version t.first → q < p → IsNullOrMarked w.cycle w.mark (w.register s q)) same.1 (o.in_frame.passed q));
-    register_in_work = λ k r e. none (k, r) e;
-    cell_claimed = λ i e. none i e;
+    register_in_work = λ k r e. never_some e;
+    cell_claimed = λ i e. never_some e;
     scan_at_range = λ e. never e;
     item_is_linked = λ e. never e;
-    object_attempt_behind = λ p e. none p e;
-    cells_passed = λ p i e. none p e;
-    cells_copied = λ p i e. none p e;
-    cell_loaded = λ i e. none i e;
-    pass_meets_grey = λ n e. none n e;
+    object_attempt_behind = λ p e. never_some e;
+    cells_passed = λ p i e. never_some e;
+    cells_copied = λ p i e. never_some e;
+    cell_loaded = λ i e. never_some e;
+    pass_meets_grey = λ n e. never_some e;
     spent_bounded = λ m e. is_most _ m t.spent e o.spent;
   }
 
@@ -221,18 +216,18 @@ module _ (g : Geometry) (w : Words) (z : Spaces) (sh : Shades) (flight : ℕ →
     cell_good = λ e. never e;
     line_fits = tt;
     frames_blackened = o;
-    frame_attempt_behind = λ k p e. none (k, p) e;
-    registers_passed = λ k p r e. none (k, p) e;
-    register_in_work = λ k r e. none (k, r) e;
-    cell_claimed = λ i e. none i e;
+    frame_attempt_behind = λ k p e. never_some e;
+    registers_passed = λ k p r e. never_some e;
+    register_in_work = λ k r e. never_some e;
+    cell_claimed = λ i e. never_some e;
     scan_at_range = λ e. never e;
     item_is_linked = λ e. never e;
-    object_attempt_behind = λ p e. none p e;
-    cells_passed = λ p i e. none p e;
-    cells_copied = λ p i e. none p e;
-    cell_loaded = λ i e. none i e;
-    pass_meets_grey = λ n e. none n e;
-    spent_bounded = λ m e. none m e;
+    object_attempt_behind = λ p e. never_some e;
+    cells_passed = λ p i e. never_some e;
+    cells_copied = λ p i e. never_some e;
+    cell_loaded = λ i e. never_some e;
+    pass_meets_grey = λ n e. never_some e;
+    spent_bounded = λ m e. never_some e;
   }
 
   pub at_link : WorkFacts g w z sh flight t names range line.Link → AtRange g z sh t range
@@ -245,18 +240,18 @@ module _ (g : Geometry) (w : Words) (z : Spaces) (sh : Shades) (flight : ℕ →
     cell_good = λ e. never e;
     line_fits = tt;
     frames_blackened = o.all_black;
-    frame_attempt_behind = λ k p e. none (k, p) e;
-    registers_passed = λ k p r e. none (k, p) e;
-    register_in_work = λ k r e. none (k, r) e;
-    cell_claimed = λ i e. none i e;
+    frame_attempt_behind = λ k p e. never_some e;
+    registers_passed = λ k p r e. never_some e;
+    register_in_work = λ k r e. never_some e;
+    cell_claimed = λ i e. never_some e;
     scan_at_range = λ e. o.found;
     item_is_linked = λ e. never e;
-    object_attempt_behind = λ p e. none p e;
-    cells_passed = λ p i e. none p e;
-    cells_copied = λ p i e. none p e;
-    cell_loaded = λ i e. none i e;
-    pass_meets_grey = λ n e. none n e;
-    spent_bounded = λ m e. none m e;
+    object_attempt_behind = λ p e. never_some e;
+    cells_passed = λ p i e. never_some e;
+    cells_copied = λ p i e. never_some e;
+    cell_loaded = λ i e. never_some e;
+    pass_meets_grey = λ n e. never_some e;
+    spent_bounded = λ m e. never_some e;
   }
 
   pub at_look : WorkFacts g w z sh flight t names range line.Look → AtItem g w z sh t range
@@ -269,18 +264,18 @@ module _ (g : Geometry) (w : Words) (z : Spaces) (sh : Shades) (flight : ℕ →
     cell_good = λ e. never e;
     line_fits = tt;
     frames_blackened = o.at_range.all_black;
-    frame_attempt_behind = λ k p e. none (k, p) e;
-    registers_passed = λ k p r e. none (k, p) e;
-    register_in_work = λ k r e. none (k, r) e;
-    cell_claimed = λ i e. none i e;
+    frame_attempt_behind = λ k p e. never_some e;
+    registers_passed = λ k p r e. never_some e;
+    register_in_work = λ k r e. never_some e;
+    cell_claimed = λ i e. never_some e;
     scan_at_range = λ e. o.at_range.found;
     item_is_linked = λ e. (o.some, o.linked);
-    object_attempt_behind = λ p e. none p e;
-    cells_passed = λ p i e. none p e;
-    cells_copied = λ p i e. none p e;
-    cell_loaded = λ i e. none i e;
-    pass_meets_grey = λ n e. none n e;
-    spent_bounded = λ m e. none m e;
+    object_attempt_behind = λ p e. never_some e;
+    cells_passed = λ p i e. never_some e;
+    cells_copied = λ p i e. never_some e;
+    cell_loaded = λ i e. never_some e;
+    pass_meets_grey = λ n e. never_some e;
+    spent_bounded = λ m e. never_some e;
   }
 
   pub at_cell : (i : ℕ) (stage : Stage) → WorkFacts g w z sh flight t names range (line.Cell i stage) → AtCell g w z sh t names range i stage
@@ -306,9 +301,9 @@ module _ (g : Geometry) (w : Words) (z : Spaces) (sh : Shades) (flight : ℕ →
     cell_good = o.good;
     line_fits = (o.cell, o.staged);
     frames_blackened = o.in_object.at_item.at_range.all_black;
-    frame_attempt_behind = λ k p e. none (k, p) e;
-    registers_passed = λ k p r e. none (k, p) e;
-    register_in_work = λ k r e. none (k, r) e;
+    frame_attempt_behind = λ k p e. never_some e;
+    registers_passed = λ k p r e. never_some e;
+    register_in_work = λ k r e. never_some e;
     cell_claimed = o.claimed;
     scan_at_range = λ e. o.in_object.at_item.at_range.found;
     item_is_linked = λ e. (o.in_object.at_item.some, o.in_object.at_item.linked);
@@ -318,7 +313,7 @@ module _ (g : Geometry) (w : Words) (z : Spaces) (sh : Shades) (flight : ℕ →
     cells_copied = λ p j e. is_some (λ p. w.version (layout.reference_number t.item) ≡ layout.header_version t.first → j < p
         → w.cell (z.current + t.scan + 1 + j) ≡ w.cell (layout.header_place t.first + 1 + j)) i p e (o.in_object.copied j);
     cell_loaded = o.loaded;
-    pass_meets_grey = λ n e. none n e;
+    pass_meets_grey = λ n e. never_some e;
     spent_bounded = λ m e. is_most _ m t.spent e o.spent;
   }
 
@@ -340,10 +335,10 @@ module _ (g : Geometry) (w : Words) (z : Spaces) (sh : Shades) (flight : ℕ →
     cell_good = λ e. never e;
     line_fits = tt;
     frames_blackened = o.in_object.at_item.at_range.all_black;
-    frame_attempt_behind = λ k p e. none (k, p) e;
-    registers_passed = λ k p r e. none (k, p) e;
-    register_in_work = λ k r e. none (k, r) e;
-    cell_claimed = λ i e. none i e;
+    frame_attempt_behind = λ k p e. never_some e;
+    registers_passed = λ k p r e. never_some e;
+    register_in_work = λ k r e. never_some e;
+    cell_claimed = λ i e. never_some e;
     scan_at_range = λ e. o.in_object.at_item.at_range.found;
     item_is_linked = λ e. (o.in_object.at_item.some, o.in_object.at_item.linked);
     object_attempt_behind = λ p e. o.in_object.behind;
@@ -351,8 +346,8 @@ module _ (g : Geometry) (w : Words) (z : Spaces) (sh : Shades) (flight : ℕ →
         → IsNullOrMarked w.cycle w.mark (w.cell (layout.header_place t.first + 1 + j))) (reference_size t.item - 1) p e (o.in_object.passed j);
     cells_copied = λ p j e. is_some (λ p. w.version (layout.reference_number t.item) ≡ layout.header_version t.first → j < p
         → w.cell (z.current + t.scan + 1 + j) ≡ w.cell (layout.header_place t.first + 1 + j)) (reference_size t.item - 1) p e (o.in_object.copied j);
-    cell_loaded = λ i e. none i e;
-    pass_meets_grey = λ n e. none n e;
+    cell_loaded = λ i e. never_some e;
+    pass_meets_grey = λ n e. never_some e;
     spent_bounded = λ m e. is_most _ m t.spent e o.spent;
   }
 
@@ -366,18 +361,18 @@ module _ (g : Geometry) (w : Words) (z : Spaces) (sh : Shades) (flight : ℕ →
     cell_good = λ e. never e;
     line_fits = o.number;
     frames_blackened = o.all_black;
-    frame_attempt_behind = λ k p e. none (k, p) e;
-    registers_passed = λ k p r e. none (k, p) e;
-    register_in_work = λ k r e. none (k, r) e;
-    cell_claimed = λ i e. none i e;
+    frame_attempt_behind = λ k p e. never_some e;
+    registers_passed = λ k p r e. never_some e;
+    register_in_work = λ k r e. never_some e;
+    cell_claimed = λ i e. never_some e;
     scan_at_range = λ e. never e;
     item_is_linked = λ e. never e;
-    object_attempt_behind = λ p e. none p e;
-    cells_passed = λ p i e. none p e;
-    cells_copied = λ p i e. none p e;
-    cell_loaded = λ i e. none i e;
+    object_attempt_behind = λ p e. never_some e;
+    cells_passed = λ p i e. never_some e;
+    cells_copied = λ p i e. never_some e;
+    cell_loaded = λ i e. never_some e;
     pass_meets_grey = λ m e. is_some (λ n. ((m : ℕ) × (n ≤ m) × (m < numbers g) × (sh.grey m ≡ true)) ⊎ IsSettled g w.cycle sh.white sh.grey w.register flight) n m e o.meets;
-    spent_bounded = λ m e. none m e;
+    spent_bounded = λ m e. never_some e;
   }
 
   pub at_pass_head : (n : ℕ) → WorkFacts g w z sh flight t names range (line.PassHead n) → AtPass g w sh flight n
@@ -390,16 +385,16 @@ module _ (g : Geometry) (w : Words) (z : Spaces) (sh : Shades) (flight : ℕ →
     cell_good = λ e. never e;
     line_fits = o.number;
     frames_blackened = o.all_black;
-    frame_attempt_behind = λ k p e. none (k, p) e;
-    registers_passed = λ k p r e. none (k, p) e;
-    register_in_work = λ k r e. none (k, r) e;
-    cell_claimed = λ i e. none i e;
+    frame_attempt_behind = λ k p e. never_some e;
+    registers_passed = λ k p r e. never_some e;
+    register_in_work = λ k r e. never_some e;
+    cell_claimed = λ i e. never_some e;
     scan_at_range = λ e. never e;
     item_is_linked = λ e. never e;
-    object_attempt_behind = λ p e. none p e;
-    cells_passed = λ p i e. none p e;
-    cells_copied = λ p i e. none p e;
-    cell_loaded = λ i e. none i e;
+    object_attempt_behind = λ p e. never_some e;
+    cells_passed = λ p i e. never_some e;
+    cells_copied = λ p i e. never_some e;
+    cell_loaded = λ i e. never_some e;
     pass_meets_grey = λ m e. is_some (λ n. ((m : ℕ) × (n ≤ m) × (m < numbers g) × (sh.grey m ≡ true)) ⊎ IsSettled g w.cycle sh.white sh.grey w.register flight) n m e o.meets;
-    spent_bounded = λ m e. none m e;
+    spent_bounded = λ m e. never_some e;
   }

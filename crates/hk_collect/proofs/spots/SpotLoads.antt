@@ -19,6 +19,7 @@ use Rattle.hk_core.specs.Facts.{FrameBehind}
 use Rattle.hk_core.specs.Lawful.{FactsOf, hands_of}
 use Rattle.hk_collect.proofs.spots.Spots.{WorkFacts, on_spot, work_facts, marking_on}
 use Rattle.hk_collect.proofs.spots.SpotLines.{AtFrame, InFrame, AtRegister, AtFrameTrade, at_frame, at_register, at_frame_trade, frame_works, register_works, frame_trade_works}
+use Rattle.hk_core.proofs.Shared.{never}
 
 -- GOING ON
 
@@ -57,9 +58,6 @@ module _ (g : Geometry) (w : Words) (flight : ℕ → Flight) (begun : ℕ → �
 pub took_at : (g : Geometry) (t : Spot) (ln : Line) (old : ℕ) → t.line ≡ ln → spot_took g t old ≡ took_at_line g t old ln
 unfolding spot_took
 took_at g t ln old at = ap (took_at_line g t old) at
-
-never : {A : Type 0} → false ≡ true → A
-never e = absurd (cc)
 
 -- THE FRAMES
 

@@ -1,8 +1,8 @@
 -- The collector loads the header and the cells of the object that is moved, and loses an exchange of the header. A cell is
 -- good also where the header isn't the loaded one any more: the object is kept, and stands where the loaded header says.
-use Rattle.std.proofs.Common.{◌≡◌, ◌≢◌, ℕ, ◌+◌, ◌*◌, ◌<◌, ◌≤◌, Bool, true, false, inl, inr, refl, sym, ◌∙◌, ap, arith, Option, Some, None}
+use Rattle.std.proofs.Common.{◌≡◌, ◌≢◌, ℕ, ◌+◌, ◌*◌, ◌<◌, ◌≤◌, Bool, true, false, inl, inr, refl, sym, ◌∙◌, ap, arith, Option, Some}
 use Rattle.std.proofs.lemmas.Bool.{cases_Bool, eqb-true, eqb-false, ltb-true, ltb-false, lt-ltb, and_parts, and_from, not_from_false}
-use Rattle.std.specs.Prelude.{nat_eq, nat_lt, not, ◌&&◌, is_some, if◌then◌else◌}
+use Rattle.std.specs.Prelude.{nat_eq, nat_lt, not, ◌&&◌, if◌then◌else◌}
 use Rattle.hk_words.specs.declared.geometry.Geometry.{Geometry}
 use Rattle.hk_words.specs.Layout as layout
 use Rattle.hk_core.specs.declared.flight.Flight.{Flight}
@@ -23,21 +23,8 @@ use Rattle.hk_core.proofs.kinds.WriteCell.{reference_parts, size_of_reference}
 use Rattle.hk_core.proofs.kinds.ReserveSeats.{BearersHaveFields, two_words}
 use Rattle.hk_collect.proofs.spots.SpotLines.{AtItem, InObject, AtCell, AtObjectTrade, at_look, at_cell, at_object_trade, look_works, cell_works}
 use Rattle.hk_collect.proofs.spots.SpotLoads.{work_at, goes_on, took_at}
-use Rattle.hk_core.proofs.Shared.{refuted}
-
-never : {A : Type 0} → false ≡ true → A
-never e = absurd (cc)
-
-none : {A B : Type 0} (x : B) → None ≡ Some x → A
-none x e = absurd (cc)
-
-a_birth : (o : Option ℕ) → is_some o ≡ true → (b : ℕ) × (o ≡ Some b)
-a_birth None some = absurd (cc)
-a_birth (Some b) some = (b, refl)
-
-refs_borne : (names : Names) (n b : ℕ) → names.bearer n ≡ Some b → refs_at names n ≡ names.refs b
-unfolding refs_at
-refs_borne names n b e = rw e refl
+use Rattle.hk_core.proofs.Shared.{never, never_some, refuted}
+use Rattle.hk_collect.proofs.Small.{a_birth, refs_borne}
 
 -- THE OBJECT THAT IS MOVED
 
@@ -147,8 +134,8 @@ module _ (g : Geometry) (w : Words) (flight : ℕ → Flight) (begun : ℕ → �
             cell = omega arith;
             staged = tt;
             good = λ e. never e;
-            claimed = λ j e. none j e;
-            loaded = λ j e. none j e;
+            claimed = λ j e. never_some e;
+            loaded = λ j e. never_some e;
             spent = omega arith;
           }))
 
@@ -219,7 +206,7 @@ module _ (g : Geometry) (w : Words) (flight : ℕ → Flight) (begun : ℕ → �
             cell = o.cell;
             staged = tt;
             good = λ e. good;
-            claimed = λ j e. none j e;
+            claimed = λ j e. never_some e;
             loaded = λ j e same. let here : i ≡ j = cc in ap (λ j. w.cell (moved_from t + 1 + j)) here;
             spent = omega arith;
           }))

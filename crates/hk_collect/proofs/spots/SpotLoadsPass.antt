@@ -15,7 +15,6 @@ use Rattle.hk_core.specs.Collect.{spot_took, took_at_line, pass_took, pass_head_
 use Rattle.hk_core.specs.View.{Words, Names, Contents}
 use Rattle.hk_core.specs.Lines as l
 use Rattle.hk_core.specs.Colours.{spaces_of, Shades, shades_of}
-use Rattle.hk_core.specs.Facts.{IsSettled}
 use Rattle.hk_core.specs.Lawful.{FactsOf}
 use Rattle.hk_core.proofs.Shared.{refuted}
 use Rattle.hk_core.proofs.kinds.WriteCell.{IsGreyIn, shades_mean}
@@ -38,17 +37,6 @@ module _ (g : Geometry) (w : Words) (sh : Shades) (flight : ℕ → Flight) (n :
       | inr settled ↦ inr settled
     ];
   }
-
-  -- where it is the last one, the state is settled
-  pub settled_at_end : n + 1 ≡ numbers g → IsSettled g w.cycle sh.white sh.grey w.register flight
-  settled_at_end last = elim o.meets [
-    | inl found ↦
-        let from : n ≤ found.0 = found.1 in
-        let below : found.0 < numbers g = found.2 in
-        let here : found.0 ≡ n = omega arith in
-        refuted (sh.grey found.0) (ap sh.grey here ∙ not_grey) found.3
-    | inr settled ↦ settled
-  ]
 
 module _ (g : Geometry) (w : Words) (flight : ℕ → Flight) (begun : ℕ → ℕ) (t : Spot) (names : Names) (contents : Contents) (range : ℕ → Option ℕ) where
   -- a number whose mark isn't the cycle isn't grey
@@ -157,18 +145,3 @@ module _ (g : Geometry) (w : Words) (flight : ℕ → Flight) (begun : ℕ → �
         by_test true stays next e = refuted (is_old g t old) moved stays
         by_test false new true e = to_next (inr at) (moved_not_grey n old h place moved) more
         by_test false new false e = refuted (nat_lt (n + 1) (numbers g)) e (lt-ltb (n + 1) (numbers g) more)
-
-    -- where the last number is past, the state is settled
-    pub settled_after_mark : t.line ≡ line.Pass n → w.mark n ≢ w.cycle → n + 1 ≡ numbers g
-        → IsSettled g w.cycle (shades_of g w flight t.line names).white (shades_of g w flight t.line names).grey w.register flight
-    settled_after_mark at differs last =
-        let sh = shades_of g w flight t.line names in
-        settled_at_end g w sh flight n (at_pass g w (spaces_of g w.cycle) sh flight t names range n (work_at g w flight begun t names contents range (line.Pass n) at h))
-        (unmarked_not_grey n differs) last
-
-    pub settled_after_header : (old : ℕ) → t.line ≡ line.PassHead n → layout.header_place old ≡ w.place n → is_old g t old ≡ false → n + 1 ≡ numbers g
-        → IsSettled g w.cycle (shades_of g w flight t.line names).white (shades_of g w flight t.line names).grey w.register flight
-    settled_after_header old at place moved last =
-        let sh = shades_of g w flight t.line names in
-        settled_at_end g w sh flight n (at_pass_head g w (spaces_of g w.cycle) sh flight t names range n (work_at g w flight begun t names contents range (line.PassHead n) at h))
-        (moved_not_grey n old h place moved) last

@@ -21,7 +21,7 @@ use Rattle.hk_core.specs.declared.spot.Line.TheVariants as line
 use Rattle.hk_core.specs.Collect.{current_space, next_list, moved_to, moved_number}
 use Rattle.hk_core.specs.Counts.{count_below}
 use Rattle.hk_core.specs.Step.{new_place, reference_size}
-use Rattle.hk_core.specs.View.{Words, Names, Contents, shown, refs_at, nums_at, size_at, reference_at}
+use Rattle.hk_core.specs.View.{Words, Names, Contents, shown, refs_at, size_at, reference_at}
 use Rattle.hk_core.specs.Flights as f
 use Rattle.hk_core.specs.Flights.{Hand}
 use Rattle.hk_core.specs.Lines as l
@@ -35,11 +35,12 @@ use Rattle.hk_core.proofs.kinds.Seats.{NewsFacts, own_not_kept, headless_not_kep
 use Rattle.hk_core.proofs.kinds.Read.{ShapesFit}
 use Rattle.hk_core.proofs.kinds.WriteCell.{ShadesMean, SpacesApart, IsGreyIn, IsMoving, shades_mean, reference_parts}
 use Rattle.hk_core.proofs.kinds.LoadRead.{ColoursMean, colours_mean, kept_number, shown_birth}
-use Rattle.hk_core.proofs.Shared.{size_some}
 use Rattle.hk_core.proofs.kinds.NewRaise.{making_has_room}
 use Rattle.hk_collect.proofs.spots.Spots.{WorkFacts, GoesMarking, hands_kept, shades_kept, work_facts, marking_on, on_spot}
-use Rattle.hk_collect.proofs.spots.SpotLines.{AtItem, AtObjectTrade, at_object_trade, look_works, scan_works}
+use Rattle.hk_collect.proofs.spots.SpotLines.{AtItem, AtObjectTrade, at_object_trade, scan_works}
 use Rattle.hk_collect.proofs.spots.SpotCopy.{IsSpaceOf, spaces_are, moving, item_shows, item_grey}
+use Rattle.hk_core.proofs.Shared.{never, never_both, never_false, size_borne, size_some}
+use Rattle.hk_collect.proofs.Small.{refs_borne}
 
 -- CALLS INSIDE AN OBJECT
 
@@ -89,28 +90,11 @@ is_inside_of x n inside e = and_from _ _ inside (eq-eqb _ _ e)
 
 -- WORDS AND PLACES
 
-no_range : {A : Type 0} (o : Option ℕ) (n : ℕ) → o ≡ None → o ≡ Some n → A
-no_range o n none some = absurd (cc)
-
 one_number : (o : Option ℕ) (m n : ℕ) → o ≡ Some m → o ≡ Some n → m ≡ n
 one_number o m n a b = cc
 
-never : {A : Type 0} → false ≡ true → A
-never e = absurd (cc)
-
-marks_on : {A : Type 0} → true ≡ false → A
-marks_on e = absurd (cc)
-
 none_there : {B : Type 0} (n : ℕ) → None ≡ Some n → B
 none_there n e = absurd (cc)
-
-size_borne : (names : Names) (n b : ℕ) → names.bearer n ≡ Some b → size_at names n ≡ 1 + names.refs b + names.nums b
-unfolding size_at refs_at nums_at
-size_borne names n b e = rw e refl
-
-refs_borne : (names : Names) (n b : ℕ) → names.bearer n ≡ Some b → refs_at names n ≡ names.refs b
-unfolding refs_at
-refs_borne names n b e = rw e refl
 
 -- the words of a New are in the area for allocation of a space
 new_apart : (live alloc side words size other offset len : ℕ) → side < 2 → other < 2 → words + size ≤ alloc → offset + len ≤ live
@@ -346,7 +330,7 @@ module _ (g : Geometry) (w : Words) (z : Spaces) (sh : Shades) (flight : ℕ →
           let other : j ≢ n = λ e. differ (own_range x (there ∙ ap Some e)) in
           let ends : x + sh.size j ≤ scan = old.ends in
           record { is_kept = old.is_kept; is_claimed = old.is_claimed; stands = other_place j other ∙ old.stands; ends = omega arith }
-      | inr above ↦ no_range (range x) j (h.ranges_apart scan n x o.has_range (omega arith) lower) there
+      | inr above ↦ never_both (range x) j (h.ranges_apart scan n x o.has_range (omega arith) lower) there
     ]
   ]
 
@@ -431,7 +415,7 @@ module _ (g : Geometry) (w : Words) (z : Spaces) (sh : Shades) (flight : ℕ →
     where
       by_link : IsNullOrKept sh.kept names (contents.link b i) → w.cell (w.place n + 1 + i) ≡ layout.pack_reference (names.number child) (names.refs child) (names.nums child)
           → IsNullOrMarked w.cycle w.mark (w.cell (w.place n + 1 + i)) → sh.white (names.number child) ≡ false
-      by_link (inl none) shows past = no_range (contents.link b i) child none there
+      by_link (inl none) shows past = never_both (contents.link b i) child none there
       by_link (inr (birth, is, kept)) shows past =
           let same : birth ≡ child = one_number (contents.link b i) birth child is there in
           let number = kept_number g w (held_by g flight) line.Scan names sh m.kept child (w.cell (w.place n + 1 + i)) (rw (← same) kept) shows in
@@ -482,7 +466,7 @@ module _ (g : Geometry) (w : Words) (z : Spaces) (sh : Shades) (flight : ℕ →
         | inl (_, u) ↦ never (sym u ∙ e)
         | inr (_, u) ↦ h.grey_waits k below (sym u ∙ e)
       ] in
-      let k7 : fact.SettledFromSweep line.Scan (fact.IsSettled g w.cycle sh.white (upd sh.grey n false) w.register flight) = λ e. marks_on e in
+      let k7 : fact.SettledFromSweep line.Scan (fact.IsSettled g w.cycle sh.white (upd sh.grey n false) w.register flight) = λ e. never_false e in
       assumption
 
 -- WHAT MANY FACTS READ
@@ -560,17 +544,9 @@ trade_marks : (ln : Line) → ln ≡ line.ObjectTrade → l.is_marking ln ≡ tr
 unfolding l.is_marking
 trade_marks ln e = ap l.is_marking e
 
-look_marks : l.is_marking line.Look ≡ true
-unfolding l.is_marking
-look_marks = refl
-
 scan_marks : l.is_marking line.Scan ≡ true
 unfolding l.is_marking
 scan_marks = refl
-
-lost_hand : (t : Spot) → t.line ≡ line.ObjectTrade → l.hand_of_spot (record t { line = line.Look }) ≡ l.hand_of_spot t
-unfolding l.hand_of_spot l.hand_at_line
-lost_hand t e = sym (ap (l.hand_at_line t) e)
 
 left_hand : (t : Spot) → t.line ≡ line.ObjectTrade → l.hand_of_spot (scanning t t.scan) ≡ l.hand_of_spot t
 unfolding l.hand_of_spot l.hand_at_line
@@ -604,23 +580,6 @@ module _ (g : Geometry) (w : Words) (flight : ℕ → Flight) (begun : ℕ → �
       let z = spaces_of g w.cycle in
       let sh = shades_of g w flight t.line names in
       at_object_trade g w z sh flight t names range (work_facts g w z sh flight begun (hands_of g flight t) t names contents range h line.ObjectTrade at)
-
-  -- where another word is there, the attempt was in vain
-  pub object_trade_lost : FactsOf g w flight begun (record t { line = line.Look }) names contents range
-  object_trade_lost =
-      let z = spaces_of g w.cycle in
-      let sh = shades_of g w flight t.line names in
-      let other = record t { line = line.Look } in
-      let item : AtItem g w z sh t range = trading.in_object.at_item in
-      let goes : GoesMarking t other = record { from = trade_marks t.line at; to = look_marks; cycle = refl; scan = refl; entries = refl } in
-      let works : WorkFacts g w z sh flight other names range line.Look =
-      look_works g w z sh flight other names range (record {
-        at_range = record { all_black = item.at_range.all_black; found = item.at_range.found };
-        some = item.some;
-        linked = item.linked;
-      }) in
-      on_spot g w flight begun t other names contents range (lost_hand t at) (goes.to ∙ sym goes.from) h
-      (marking_on g w z sh flight begun (hands_of g flight t) t names contents range h other goes works)
 
   left_to_scan : FactsOf g w flight begun (scanning t t.scan) names contents range
   left_to_scan =

@@ -1,6 +1,6 @@
 -- The end of the cycle: no word is reserved any more, and the collector rests. Each range belongs to a kept object that stands in
 -- it, so the words of the area for evacuation that lie in no kept object are those that lie in no range.
-use Rattle.std.proofs.Common.{◌≡◌, ℕ, ◌+◌, ◌<◌, ◌≤◌, true, false, refl, sym, ◌∙◌, ap, subst, arith, Option, Some, None}
+use Rattle.std.proofs.Common.{◌≡◌, ℕ, ◌+◌, ◌<◌, ◌≤◌, refl, sym, ◌∙◌, ap, subst, arith, Option, Some, None}
 use Rattle.std.proofs.lemmas.Bool.{both_ways}
 use Rattle.hk_words.specs.declared.geometry.Geometry.{Geometry}
 use Rattle.hk_words.specs.Geometry.{list_length, space_words}
@@ -19,16 +19,11 @@ use Rattle.hk_collect.proofs.spots.SpotClear.{ClearingLine, reset_line}
 use Rattle.hk_collect.proofs.spots.SpotSweepLines.{sweep_spot, range_moved}
 use Rattle.hk_collect.proofs.spots.Spots.{SpotFacts, hands_kept, shades_kept}
 use Rattle.hk_core.proofs.kinds.WriteCell.{ShadesMean, shades_mean}
+use Rattle.hk_core.proofs.Shared.{never_false, never_some}
 
 -- no range
 abbrev pub no_ranges : ℕ → Option ℕ
 no_ranges x = None
-
-never : {A : Type 0} → true ≡ false → A
-never e = absurd (cc)
-
-none : {A : Type 0} (n : ℕ) → None ≡ Some n → A
-none n e = absurd (cc)
 
 module _ (g : Geometry) (w : Words) (z : Spaces) (sh : Shades) (flight : ℕ → Flight) (begun : ℕ → ℕ) (hand : ℕ → Hand) (t : Spot)
     (names : Names) (contents : Contents) (range : ℕ → Option ℕ) (h : Facts g w z sh flight begun hand t names contents range)
@@ -57,8 +52,8 @@ module _ (g : Geometry) (w : Words) (z : Spaces) (sh : Shades) (flight : ℕ →
       sweep_spot g w' z sh flight hand t' names no_ranges refl (record {
         spot_knows_cycle = h.spot_knows_cycle;
         marks_above_are_written = λ n within above. let o = h.marks_above_are_written n within above in let b : o.0 < l.marked g t t.line = o.1 in (o.0, omega arith, o.2);
-        moved_stands_in_range = λ e. never e;
-        unreserved_is_zero = λ e. never e;
+        moved_stands_in_range = λ e. never_false e;
+        unreserved_is_zero = λ e. never_false e;
         unused_is_zero = λ rests x b free. h.unreserved_is_zero here.is_busy x b (λ y n there fits covers.
             let o = stands y n there in
             let place : w.place n ≡ z.current + y = o.stands in
@@ -67,16 +62,16 @@ module _ (g : Geometry) (w : Words) (z : Spaces) (sh : Shades) (flight : ℕ →
             free n o.is_kept (record { after = omega arith; before = omega arith }));
         cleared_is_zero = λ j b. h.cleared_is_zero j (omega arith);
         nothing_reserved_at_rest = λ e. refl;
-        ranges_below_moved = λ x n e. none n e;
-        ranges_above_grey = λ x n e. none n e;
-        scan_bounded = λ e. never e;
+        ranges_below_moved = λ x n e. never_some e;
+        ranges_above_grey = λ x n e. never_some e;
+        scan_bounded = λ e. never_false e;
         marks_few = λ e. absurd (cc);
         written_numbers = λ j b. h.written_numbers j (omega arith);
         written_distinct = λ j k a b. h.written_distinct j k a (omega arith);
         written_marked = λ j b. h.written_marked j (omega arith);
         written_empty = λ j b. h.written_empty j (omega arith);
         sweep_in_step = tt;
-        swept_marked = λ n k e. none n e;
+        swept_marked = λ n k e. never_some e;
         spot_formed = tt;
         settled = h.settled_from_sweep here.quiet;
       })
@@ -84,21 +79,21 @@ module _ (g : Geometry) (w : Words) (z : Spaces) (sh : Shades) (flight : ℕ →
   pub reset_facts : Facts g w' z sh flight begun hand t' names contents no_ranges
   reset_facts =
       let spot : SpotFacts g w' z sh flight hand t' names no_ranges = its_spot in
-      let within : fact.RangesWithin 0 sh.size no_ranges = λ x n e. none n e in
-      let join : fact.RangesJoin 0 sh.size no_ranges = λ x n e. none n e in
+      let within : fact.RangesWithin 0 sh.size no_ranges = λ x n e. never_some e in
+      let join : fact.RangesJoin 0 sh.size no_ranges = λ x n e. never_some e in
       let first : fact.FirstRange 0 no_ranges = λ b. absurd (omega arith) in
-      let apart : fact.RangesApart sh.size no_ranges = λ x n y e. none n e in
-      let one_each : fact.OneRangeEach no_ranges = λ x y n e. none n e in
-      let linked : fact.RangesLinked z sh.size w.cell (reference_at names) no_ranges = λ x n e. none n e in
+      let apart : fact.RangesApart sh.size no_ranges = λ x n y e. never_some e in
+      let one_each : fact.OneRangeEach no_ranges = λ x y n e. never_some e in
+      let linked : fact.RangesLinked z sh.size w.cell (reference_at names) no_ranges = λ x n e. never_some e in
       let unreserved : fact.ClaimsUnreserved g w.cycle sh.grey no_ranges hand = λ k item c b e.
       let o = h.claims_unreserved k item c b e in
-      record { some = o.some; of_cycle = o.of_cycle; is_grey = o.is_grey; unreserved = λ x there. none _ there } in
+      record { some = o.some; of_cycle = o.of_cycle; is_grey = o.is_grey; unreserved = λ x there. never_some there } in
       let unlinked : fact.ClaimsUnlinked g z w.cycle sh.grey sh.size w.cell no_ranges hand = λ k item c offset b e.
       let o = h.claims_unlinked k item c offset b e in
       let moved = stands offset _ o.has_range in
       absurd (both_ways _ ((h.settled_from_sweep here.quiet).none_grey _ (m.kept _ moved.is_kept).within) o.is_grey) in
       let grey : fact.GreyWaits g sh.grey no_ranges hand = λ n b e. absurd (both_ways _ ((h.settled_from_sweep here.quiet).none_grey n b) e) in
-      let waits : fact.UnlinkedWaits g z sh.size w.cell no_ranges hand = λ x n e. none n e in
+      let waits : fact.UnlinkedWaits g z sh.size w.cell no_ranges hand = λ x n e. never_some e in
       assumption
 
 -- all facts hold after the reset

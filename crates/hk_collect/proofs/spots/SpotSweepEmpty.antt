@@ -31,13 +31,11 @@ use Rattle.hk_collect.proofs.spots.SpotSweepLines.{sweep_spot, kept_marked, quie
 use Rattle.hk_collect.proofs.spots.SpotSweepRead.{GoesSweeping, goes_to_number, goes_to_clear, room_for}
 use Rattle.hk_collect.proofs.spots.Spots.{SpotFacts, hands_kept}
 use Rattle.hk_core.proofs.kinds.WriteCell.{ShadesMean, shades_mean}
+use Rattle.hk_core.proofs.Shared.{refuted}
 
 -- the words after the header of a number was emptied
 abbrev pub emptied_words : Words → ℕ → Words
 emptied_words w n = record w { accessors = upd w.accessors n 0; place = upd w.place n 0; version = upd w.version n 0 }
-
-not_so : {A : Type 0} (b : Bool) → b ≡ false → b ≡ true → A
-not_so b off on = absurd (cc)
 
 -- a call that is inside an object goes through it
 inside_names : (x : Flight) (k : ℕ) → f.is_inside x k ≡ true → (f.in_object x ≡ true) × (layout.reference_number x.entered ≡ k)
@@ -141,9 +139,9 @@ module _ (g : Geometry) (w : Words) (z : Spaces) (sh : Shades) (flight : ℕ →
               (q.0, omega arith, q.2);
           moved_stands_in_range = λ e k x kept there. h.moved_stands_in_range busy k x kept (sym (placed k kept) ∙ there);
           unreserved_is_zero = λ e. h.unreserved_is_zero busy;
-          unused_is_zero = λ e. not_so _ o.is_busy e;
+          unused_is_zero = λ e. refuted _ o.is_busy e;
           cleared_is_zero = λ i below. absurd (omega arith);
-          nothing_reserved_at_rest = λ e. not_so _ o.is_busy e;
+          nothing_reserved_at_rest = λ e. refuted _ o.is_busy e;
           ranges_below_moved = λ x k there below.
               let q = h.ranges_below_moved x k there below in
               record { is_kept = q.is_kept; is_claimed = q.is_claimed; stands = placed k q.is_kept ∙ q.stands; ends = q.ends };

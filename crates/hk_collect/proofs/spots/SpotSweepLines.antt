@@ -31,6 +31,7 @@ use Rattle.hk_core.proofs.kinds.WriteCell.{ShadesMean, fresh_when_done}
 use Rattle.hk_core.proofs.kinds.LoadRead.{some_words}
 use Rattle.hk_collect.proofs.spots.Spots.{SpotFacts}
 use Rattle.hk_collect.proofs.spots.SpotSweepCounts.{count_none}
+use Rattle.hk_core.proofs.Shared.{never_both, never_false, refuted}
 
 -- LINES
 
@@ -49,22 +50,19 @@ pub record QuietLine (g : Geometry) (t : Spot) (ln : Line) : Type 0 where
   pub unspent : l.most_spent g t ln ≡ None
   pub no_hand : l.hand_at_line t ln ≡ no_claim
 
-marks_not : {A : Type 0} → true ≡ false → A
-marks_not e = absurd (cc)
-
 pub quiet_line : (g : Geometry) (t : Spot) (ln : Line) → l.is_marking ln ≡ false → QuietLine g t ln
 unfolding l.is_marking l.has_reference l.frames_done l.frame_attempt l.register_in_work l.cell_to_write l.is_at_range l.has_item l.object_attempt l.cell_loaded l.passing l.most_spent l.hand_at_line
 quiet_line g t line.Rest e = record { no_reference = refl; no_frames = refl; no_frame_attempt = refl; no_register = refl; no_write = refl; at_no_range = refl; no_item = refl; no_object_attempt = refl; no_cell = refl; not_passing = refl; unspent = refl; no_hand = refl }
-quiet_line g t (line.Frame s) e = marks_not e
-quiet_line g t (line.Register s r stage) e = marks_not e
-quiet_line g t (line.FrameTrade s) e = marks_not e
-quiet_line g t line.Scan e = marks_not e
-quiet_line g t line.Link e = marks_not e
-quiet_line g t line.Look e = marks_not e
-quiet_line g t (line.Cell i stage) e = marks_not e
-quiet_line g t line.ObjectTrade e = marks_not e
-quiet_line g t (line.Pass n) e = marks_not e
-quiet_line g t (line.PassHead n) e = marks_not e
+quiet_line g t (line.Frame s) e = never_false e
+quiet_line g t (line.Register s r stage) e = never_false e
+quiet_line g t (line.FrameTrade s) e = never_false e
+quiet_line g t line.Scan e = never_false e
+quiet_line g t line.Link e = never_false e
+quiet_line g t line.Look e = never_false e
+quiet_line g t (line.Cell i stage) e = never_false e
+quiet_line g t line.ObjectTrade e = never_false e
+quiet_line g t (line.Pass n) e = never_false e
+quiet_line g t (line.PassHead n) e = never_false e
 quiet_line g t (line.Sweep n stage) e = record { no_reference = refl; no_frames = refl; no_frame_attempt = refl; no_register = refl; no_write = refl; at_no_range = refl; no_item = refl; no_object_attempt = refl; no_cell = refl; not_passing = refl; unspent = refl; no_hand = refl }
 quiet_line g t (line.Clear i) e = record { no_reference = refl; no_frames = refl; no_frame_attempt = refl; no_register = refl; no_write = refl; at_no_range = refl; no_item = refl; no_object_attempt = refl; no_cell = refl; not_passing = refl; unspent = refl; no_hand = refl }
 quiet_line g t line.Reset e = record { no_reference = refl; no_frames = refl; no_frame_attempt = refl; no_register = refl; no_write = refl; at_no_range = refl; no_item = refl; no_object_attempt = refl; no_cell = refl; not_passing = refl; unspent = refl; no_hand = refl }
@@ -91,13 +89,6 @@ pub record SweepFacts (g : Geometry) (w : Words) (z : Spaces) (sh : Shades) (fli
   pub spot_formed : fact.SpotFormed g t
   pub settled : IsSettled g w.cycle sh.white sh.grey w.register flight
 
--- there is none, where a table says so
-no_such : {A B : Type 0} (o : Option B) (x : B) → o ≡ None → o ≡ Some x → A
-no_such o x none some = absurd (cc)
-
-not_so : {A : Type 0} (b : Bool) → b ≡ false → b ≡ true → A
-not_so b off on = absurd (both_ways b off on)
-
 -- they give all facts that read the spot
 pub sweep_spot : (g : Geometry) (w : Words) (z : Spaces) (sh : Shades) (flight : ℕ → Flight) (hand : ℕ → Hand) (t : Spot) (names : Names) (range : ℕ → Option ℕ)
     → l.is_marking t.line ≡ false → SweepFacts g w z sh flight hand t range → SpotFacts g w z sh flight hand t names range
@@ -106,7 +97,7 @@ sweep_spot g w z sh flight hand t names range quiet o =
     record {
       spot_knows_cycle = o.spot_knows_cycle;
       marks_above_are_written = o.marks_above_are_written;
-      cell_good = λ e. not_so _ q.no_reference e;
+      cell_good = λ e. refuted _ q.no_reference e;
       moved_stands_in_range = o.moved_stands_in_range;
       unreserved_is_zero = o.unreserved_is_zero;
       unused_is_zero = o.unused_is_zero;
@@ -124,19 +115,19 @@ sweep_spot g w z sh flight hand t names range quiet o =
       swept_marked = o.swept_marked;
       spot_formed = o.spot_formed;
       frames_blackened = λ s b. let none = q.no_frames in absurd (omega arith);
-      frame_attempt_behind = λ s p e. no_such _ (s, p) q.no_frame_attempt e;
-      registers_passed = λ s p r e. no_such _ (s, p) q.no_frame_attempt e;
-      register_in_work = λ s r e. no_such _ (s, r) q.no_register e;
-      cell_claimed = λ i e. no_such _ i q.no_write e;
-      scan_at_range = λ e. not_so _ q.at_no_range e;
-      item_is_linked = λ e. not_so _ q.no_item e;
-      object_attempt_behind = λ p e. no_such _ p q.no_object_attempt e;
-      cells_passed = λ p i e. no_such _ p q.no_object_attempt e;
-      cells_copied = λ p i e. no_such _ p q.no_object_attempt e;
-      cell_loaded = λ i e. no_such _ i q.no_cell e;
-      pass_meets_grey = λ n e. no_such _ n q.not_passing e;
+      frame_attempt_behind = λ s p e. never_both _ (s, p) q.no_frame_attempt e;
+      registers_passed = λ s p r e. never_both _ (s, p) q.no_frame_attempt e;
+      register_in_work = λ s r e. never_both _ (s, r) q.no_register e;
+      cell_claimed = λ i e. never_both _ i q.no_write e;
+      scan_at_range = λ e. refuted _ q.at_no_range e;
+      item_is_linked = λ e. refuted _ q.no_item e;
+      object_attempt_behind = λ p e. never_both _ p q.no_object_attempt e;
+      cells_passed = λ p i e. never_both _ p q.no_object_attempt e;
+      cells_copied = λ p i e. never_both _ p q.no_object_attempt e;
+      cell_loaded = λ i e. never_both _ i q.no_cell e;
+      pass_meets_grey = λ n e. never_both _ n q.not_passing e;
       settled_from_sweep = λ e. o.settled;
-      spent_bounded = λ m e. no_such _ m q.unspent e;
+      spent_bounded = λ m e. never_both _ m q.unspent e;
     }
 
 -- WHAT A SETTLED STATE SAYS
@@ -155,7 +146,7 @@ module _ (g : Geometry) (w : Words) (z : Spaces) (sh : Shades) (flight : ℕ →
         | inl old ↦
             let after : z.old ≤ w.place n = old.after in
             let before : w.place n + sh.size n ≤ z.old + (z.live + z.alloc) = old.before in
-            not_so (sh.grey n) ((h.settled_from_sweep quiet).none_grey n (m.kept n kept).within)
+            refuted (sh.grey n) ((h.settled_from_sweep quiet).none_grey n (m.kept n kept).within)
             (m.is_grey n (record { of_cycle = kept_marked n kept; after = after; before = omega arith }))
         | inr new ↦ new
       ]
@@ -167,7 +158,7 @@ module _ (g : Geometry) (w : Words) (z : Spaces) (sh : Shades) (flight : ℕ →
         | inl below ↦ h.ranges_below_moved x n there below
         | inr above ↦
             let o = h.ranges_above_grey x n there above in
-            not_so (sh.grey n) ((h.settled_from_sweep quiet).none_grey n (m.kept n o.0).within) o.1
+            refuted (sh.grey n) ((h.settled_from_sweep quiet).none_grey n (m.kept n o.0).within) o.1
       ]
 
 -- a call that has still to reserve has an item: a Load has read it, and a Store copies it from a register

@@ -1,6 +1,6 @@
 -- The sweep marks the number that it has put on the list for the next cycle. The number isn't kept, nor is it one of the unread
 -- rest or of a New; it isn't white any more, and no other shade changes.
-use Rattle.std.proofs.Common.{◌≡◌, ℕ, ◌+◌, ◌-◌, ◌<◌, ◌≤◌, Bool, true, false, inl, inr, refl, sym, ◌∙◌, ap, subst, arith, Option, Some}
+use Rattle.std.proofs.Common.{◌≡◌, ℕ, ◌+◌, ◌-◌, ◌<◌, ◌≤◌, Bool, true, false, inl, inr, refl, sym, ◌∙◌, ap, subst, arith, Option}
 use Rattle.std.proofs.lemmas.Bool.{cases_lt, and_right, ne_eqb, le-ltb}
 use Rattle.std.specs.Prelude.{nat_eq, nat_lt, not, ◌&&◌, ◌||◌, is_some}
 use Rattle.hk_words.specs.declared.geometry.Geometry.{Geometry}
@@ -28,12 +28,8 @@ use Rattle.hk_core.proofs.kinds.NewRaise.{making_raised}
 use Rattle.hk_collect.proofs.spots.SpotSweepLines.{sweep_spot, kept_marked}
 use Rattle.hk_collect.proofs.spots.Spots.{SpotFacts, hands_kept}
 use Rattle.hk_core.proofs.kinds.WriteCell.{ShadesMean, shades_mean}
-
-never : {A : Type 0} → true ≡ false → A
-never e = absurd (cc)
-
-is_at : (x y : ℕ) → Some x ≡ Some y → x ≡ y
-is_at x y e = cc
+use Rattle.hk_core.proofs.Shared.{never_false}
+use Rattle.hk_collect.proofs.Small.{is_at}
 
 module _ (g : Geometry) (w : Words) (z : Spaces) (sh : Shades) (flight : ℕ → Flight) (begun : ℕ → ℕ) (hand : ℕ → Hand) (t : Spot)
     (names : Names) (contents : Contents) (range : ℕ → Option ℕ) (h : Facts g w z sh flight begun hand t names contents range)
@@ -124,9 +120,9 @@ module _ (g : Geometry) (w : Words) (z : Spaces) (sh : Shades) (flight : ℕ →
         ];
         moved_stands_in_range = λ e. h.moved_stands_in_range busy;
         unreserved_is_zero = λ e. h.unreserved_is_zero busy;
-        unused_is_zero = λ e. never (sym e);
+        unused_is_zero = λ e. never_false (sym e);
         cleared_is_zero = λ i d. absurd (omega arith);
-        nothing_reserved_at_rest = λ e. never (sym e);
+        nothing_reserved_at_rest = λ e. never_false (sym e);
         ranges_below_moved = λ x k there below.
             let o = h.ranges_below_moved x k there below in
             record { is_kept = o.is_kept; is_claimed = kept_unmarked k o.is_kept ∙ o.is_claimed; stands = o.stands; ends = o.ends };

@@ -1,7 +1,7 @@
 -- The sweep loads the mark of a number. Where it is below the cycle, the number is written as the next entry; else the sweep goes
 -- on to the next number. There is one as long as the list isn't full: numbers that are marked for the next cycle are on the list,
 -- and those marked for this one are few, since in a settled state all that is reserved was scanned.
-use Rattle.std.proofs.Common.{◌≡◌, ◌≢◌, ℕ, ◌+◌, ◌-◌, ◌*◌, ◌<◌, ◌≤◌, Bool, true, false, inl, inr, refl, sym, ◌∙◌, ap, subst, arith, Option, Some, None}
+use Rattle.std.proofs.Common.{◌≡◌, ◌≢◌, ℕ, ◌+◌, ◌-◌, ◌*◌, ◌<◌, ◌≤◌, false, inl, inr, refl, sym, ◌∙◌, ap, subst, arith, Option}
 use Rattle.std.proofs.lemmas.Bool.{cases_lt, ltb-true, lt-ltb, le-ltb, eq-eqb}
 use Rattle.std.specs.Prelude.{nat_eq, nat_lt}
 use Rattle.hk_words.specs.declared.geometry.Geometry.{Geometry}
@@ -27,6 +27,8 @@ use Rattle.hk_collect.proofs.spots.SpotSweepCounts.{count_listed, count_covers}
 use Rattle.hk_collect.proofs.spots.SpotSweepLines.{sweep_spot, quiet_line, none_reserves, none_counted}
 use Rattle.hk_collect.proofs.spots.Spots.{SpotFacts, on_spot}
 use Rattle.hk_core.proofs.kinds.WriteCell.{ShadesMean, shades_mean}
+use Rattle.hk_core.proofs.Shared.{never_some, refuted}
+use Rattle.hk_collect.proofs.Small.{is_at}
 
 -- THE SWEEP FINDS ENOUGH
 
@@ -86,12 +88,6 @@ pub record GoesSweeping (g : Geometry) (w : Words) (t : Spot) (ln : Line) : Type
   pub fits : l.LineFits g (record t { line = ln }) ln
   pub swept : fact.SweptMarked w.cycle w.mark ln
 
-is_at : (x y : ℕ) → Some x ≡ Some y → x ≡ y
-is_at x y e = cc
-
-no_number : {A : Type 0} (n : ℕ) → None ≡ Some n → A
-no_number n e = absurd (cc)
-
 module _ (g : Geometry) (w : Words) (t : Spot) where
   -- on to a number, to load its mark
   pub goes_to_number : (n : ℕ) → n < numbers g → t.entries < list_length g → ((k : ℕ) → k < n → w.cycle ≤ w.mark k) → GoesSweeping g w t (line.Sweep n stage.Read)
@@ -137,13 +133,10 @@ module _ (g : Geometry) (w : Words) (t : Spot) where
         cleared = refl;
         in_step = full;
         fits = omega arith;
-        swept = λ k j e. no_number k e;
+        swept = λ k j e. never_some e;
       }
 
 -- THE LOAD
-
-not_so : {A : Type 0} (b : Bool) → b ≡ false → b ≡ true → A
-not_so b off on = absurd (cc)
 
 module _ (g : Geometry) (w : Words) (z : Spaces) (sh : Shades) (flight : ℕ → Flight) (begun : ℕ → ℕ) (hand : ℕ → Hand) (t : Spot)
     (names : Names) (contents : Contents) (range : ℕ → Option ℕ) (h : Facts g w z sh flight begun hand t names contents range)
@@ -168,9 +161,9 @@ module _ (g : Geometry) (w : Words) (z : Spaces) (sh : Shades) (flight : ℕ →
             (q.0, omega arith, q.2);
         moved_stands_in_range = λ e. h.moved_stands_in_range busy;
         unreserved_is_zero = λ e. h.unreserved_is_zero busy;
-        unused_is_zero = λ e. not_so _ o.is_busy e;
+        unused_is_zero = λ e. refuted _ o.is_busy e;
         cleared_is_zero = λ i below. absurd (omega arith);
-        nothing_reserved_at_rest = λ e. not_so _ o.is_busy e;
+        nothing_reserved_at_rest = λ e. refuted _ o.is_busy e;
         ranges_below_moved = h.ranges_below_moved;
         ranges_above_grey = h.ranges_above_grey;
         scan_bounded = λ e. h.scan_bounded busy;

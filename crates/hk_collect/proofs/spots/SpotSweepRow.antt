@@ -1,11 +1,11 @@
 -- The collector's events from the end of the pass to the flip, of a row: all facts hold of the row and the spot after the event of
 -- each of these lines. The two loads of the pass stand here whole, with what they do at the last number.
-use Rattle.std.proofs.Common.{◌≡◌, ℕ, ◌+◌, ◌*◌, ◌%◌, ◌<◌, ◌≤◌, false, List, length, inl, inr, refl, sym, ◌∙◌, ap, subst, arith, Option, Some, None}
-use Rattle.std.proofs.lemmas.Bool.{cases_Bool, cases_eq, cases_lt, eq-eqb, ne_eqb, le-ltb}
+use Rattle.std.proofs.Common.{◌≡◌, ℕ, ◌+◌, ◌*◌, ◌%◌, ◌<◌, ◌≤◌, List, length, inl, inr, refl, sym, ◌∙◌, ap, subst, arith, Option, Some}
+use Rattle.std.proofs.lemmas.Bool.{cases_eq}
 use Rattle.hk_words.specs.declared.geometry.Geometry.{Geometry}
 use Rattle.hk_words.specs.Geometry.{numbers, list_length, space_words, row_length}
 use Rattle.hk_words.specs.Layout as layout
-use Rattle.hk_words.specs.Row.{w0_at, w1_at, header_at, mark_at, entry_at, space_at, place_at, word_of}
+use Rattle.hk_words.specs.Row.{w0_at, w1_at, header_at, mark_at, entry_at, space_at, place_at}
 use Rattle.hk_words.specs.Row.Slot.{W0, W1, Header, Mark, Entry}
 use Rattle.hk_model.specs.View.{upd, upd2}
 use Rattle.hk_core.specs.declared.event.Event.{Event}
@@ -15,24 +15,22 @@ use Rattle.hk_core.specs.declared.spot.Spot.{Spot}
 use Rattle.hk_core.specs.declared.spot.Line.{Line}
 use Rattle.hk_core.specs.declared.spot.Line.TheVariants as line
 use Rattle.hk_core.specs.declared.spot.Stage.TheVariants as stage
-use Rattle.hk_core.specs.Collect.{old_space, next_list, last_cycle, is_in_space, is_old}
-use Rattle.hk_core.specs.Collect.{spot_event, event_at_line, rest_event, pass_event, pass_head_event, sweep_event, clear_event, reset_event}
-use Rattle.hk_core.specs.Collect.{spot_took, took_at_line, rest_took, pass_took, pass_head_took, sweep_took, clear_took}
+use Rattle.hk_core.specs.Collect.{old_space, next_list}
+use Rattle.hk_core.specs.Collect.{spot_event, event_at_line, sweep_event, clear_event, reset_event}
+use Rattle.hk_core.specs.Collect.{spot_took, took_at_line, sweep_took, clear_took}
 use Rattle.hk_core.specs.Event.{fired, fired_if, learnt}
 use Rattle.hk_core.specs.View.{Words, Names, Contents, raw, words_of, decoded}
 use Rattle.hk_core.specs.Lines as l
 use Rattle.hk_core.specs.Lawful.{FactsOf}
-use Rattle.hk_core.proofs.Columns.{fired_at, fired_if_some, raw-w0, raw-w1, raw-header, raw-mark, raw-entry, raw_header}
+use Rattle.hk_core.proofs.Columns.{fired_at, fired_if_some, raw-w0, raw-w1, raw-header, raw-mark, raw-entry}
 use Rattle.hk_core.proofs.Encode.{decoded-flip, decoded-w1, decoded-entry, decoded-mark, decoded-empty_header}
 use Rattle.hk_collect.proofs.spots.SpotClear.{clear}
-use Rattle.hk_collect.proofs.spots.SpotFlip.{flipped_words, flipped_spot, flip, flip_took}
-use Rattle.hk_collect.proofs.spots.SpotLoadsRow.{AfterEvent, found-mark, found-header, pass_loads_row, pass_head_loads_row}
+use Rattle.hk_collect.proofs.spots.SpotLoadsRow.{AfterEvent, found-mark}
 use Rattle.hk_collect.proofs.spots.SpotReset.{no_ranges, reset}
 use Rattle.hk_collect.proofs.spots.SpotSweepEmpty.{emptied_words, sweep_empties}
 use Rattle.hk_collect.proofs.spots.SpotSweepMark.{sweep_marks}
 use Rattle.hk_collect.proofs.spots.SpotSweepRead.{sweep_reads}
 use Rattle.hk_collect.proofs.spots.SpotSweepWrite.{sweep_writes}
-use Rattle.hk_collect.proofs.spots.SpotToSweep.{pass_to_sweep, pass_head_to_sweep}
 use Rattle.hk_core.proofs.kinds.Words.{words-load, words-write_cell}
 
 -- WHAT THE WORDS OF A ROW SAY AFTER THE EVENT
@@ -74,11 +72,6 @@ module _ (g : Geometry) (row : List ℕ) (whole : length row ≡ row_length g) w
       ∙ ap decoded (raw-header g row n 0 within whole)
       ∙ decoded-empty_header (raw g row) n
 
--- the place in the header of a number
-header_place_of : (g : Geometry) (row : List ℕ) (n : ℕ) → n < numbers g → layout.header_place (word_of g row (Header n)) ≡ (words_of g row).place n
-unfolding words_of decoded
-header_place_of g row n within = ap layout.header_place (sym (raw_header g row n within))
-
 -- the words of a space are words of the row
 pub space_within : (g : Geometry) (cycle i : ℕ) → i < space_words g → (0 < place_at g (cycle % 2) i) × (place_at g (cycle % 2) i ≤ 2 * space_words g)
 space_within g cycle i below = elim (cases_eq (cycle % 2) 0) [
@@ -107,70 +100,6 @@ module _ (g : Geometry) (row : List ℕ) (flight : ℕ → Flight) (begun : ℕ 
       (subst (λ (k : Spot). FactsOf g w flight begun k names contents range) (sym took) h))
 
   module _ (range : ℕ → Option ℕ) (whole : length row ≡ row_length g) (h : FactsOf g (words_of g row) flight begun t names contents range) where
-    -- the flip, and no event in the last cycle
-    pub rest_row : t.line ≡ line.Rest → AfterEvent g row flight begun t names contents range
-    unfolding event_at_line took_at_line rest_event rest_took learnt fired_if
-    rest_row at = elim (cases_lt t.cycle last_cycle) [
-      | inl early ↦
-          let e = event.Swap (w0_at g) (layout.pack_w0 0 0 (t.cycle + 1)) in
-          let is : spot_event g t ≡ Some e = event_at line.Rest at ∙ rw (ne_eqb t.cycle last_cycle (omega arith)) refl in
-          let words : words_of g (fired row e) ≡ flipped_words (words_of g row) =
-          words-flip g row whole (t.cycle + 1) ∙ ap (λ c. record (words_of g row) { used = 0; objects = 0; cycle = c + 1 }) h.spot_knows_cycle in
-          after_event e (flipped_words (words_of g row)) (flipped_spot t) range is words (took_at line.Rest (learnt row (Some e)) at ∙ flip_took t early)
-          (flip g (words_of g row) flight begun t names contents range at early h)
-      | inr late ↦
-          let knows : t.cycle ≡ (words_of g row).cycle = h.spot_knows_cycle in
-          let fits : (words_of g row).cycle ≤ last_cycle = h.cycle_fits in
-          let last : t.cycle ≡ last_cycle = omega arith in
-          let is : spot_event g t ≡ None = event_at line.Rest at ∙ rw (eq-eqb t.cycle last_cycle last) refl in
-          let took : spot_took g t 0 ≡ t = took_at line.Rest 0 at ∙ rw (eq-eqb t.cycle last_cycle last) refl in
-          rw is (subst (λ (k : Spot). FactsOf g (words_of g row) flight begun k names contents range) (sym took) h)
-    ]
-
-    -- the pass loads a mark
-    pub pass_row : (n : ℕ) → t.line ≡ line.Pass n → AfterEvent g row flight begun t names contents range
-    unfolding event_at_line took_at_line pass_event pass_took
-    pass_row n at =
-        let w = words_of g row in
-        let knows : t.cycle ≡ w.cycle = h.spot_knows_cycle in
-        let within : n < numbers g = subst (l.LineFits g t) at h.spot_formed in
-        elim (cases_eq (w.mark n) w.cycle) [
-          | inl marked ↦ pass_loads_row g row flight begun t names contents range h n at (inl marked)
-          | inr other ↦ elim (cases_lt (n + 1) (numbers g)) [
-            | inl more ↦ pass_loads_row g row flight begun t names contents range h n at (inr more)
-            | inr last ↦
-                let e = event.Load (mark_at g n) in
-                let took : took_at_line g t (w.mark n) (line.Pass n) ≡ record t { line = line.Sweep 0 stage.Read } =
-                rw (ne_eqb (w.mark n) t.cycle (λ same. other (same ∙ knows)), le-ltb (n + 1) (numbers g) last) refl in
-                after_event e w (record t { line = line.Sweep 0 stage.Read }) range (event_at (line.Pass n) at) (words-load g row (mark_at g n))
-                (ap (spot_took g t) (found-mark g row n within) ∙ took_at (line.Pass n) (w.mark n) at ∙ took)
-                (pass_to_sweep g w flight begun t names contents range n last h at other)
-          ]
-        ]
-
-    -- the pass loads a header
-    pub pass_head_row : (n : ℕ) → t.line ≡ line.PassHead n → AfterEvent g row flight begun t names contents range
-    unfolding event_at_line took_at_line pass_head_event pass_head_took
-    pass_head_row n at =
-        let w = words_of g row in
-        let head = word_of g row (Header n) in
-        let within : n < numbers g = subst (l.LineFits g t) at h.spot_formed in
-        elim (cases_Bool (is_old g t head)) [
-          | inl grey ↦ pass_head_loads_row g row flight begun t names contents range h n at (inl grey)
-          | inr moved ↦ elim (cases_lt (n + 1) (numbers g)) [
-            | inl more ↦ pass_head_loads_row g row flight begun t names contents range h n at (inr more)
-            | inr last ↦
-                let e = event.Load (header_at g n) in
-                let took : took_at_line g t head (line.PassHead n) ≡ record t { line = line.Sweep 0 stage.Read } = rw (moved, le-ltb (n + 1) (numbers g) last) refl in
-                let elsewhere : is_in_space g (old_space w.cycle) (w.place n) ≡ false =
-                ap (λ c. is_in_space g (old_space c) (w.place n)) (sym h.spot_knows_cycle)
-                ∙ ap (is_in_space g (old_space t.cycle)) (sym (header_place_of g row n within)) ∙ moved in
-                after_event e w (record t { line = line.Sweep 0 stage.Read }) range (event_at (line.PassHead n) at) (words-load g row (header_at g n))
-                (ap (spot_took g t) (found-header g row n) ∙ took_at (line.PassHead n) head at ∙ took)
-                (pass_head_to_sweep g w flight begun t names contents range n last h at elsewhere)
-          ]
-        ]
-
     -- the sweep loads a mark, writes an entry and a mark, and empties a header
     pub sweep_reads_row : (n : ℕ) → t.line ≡ line.Sweep n stage.Read → AfterEvent g row flight begun t names contents range
     unfolding event_at_line took_at_line sweep_event

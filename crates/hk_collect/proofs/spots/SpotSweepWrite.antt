@@ -1,6 +1,6 @@
 -- The sweep writes a number that wasn't claimed as the next entry of the list of the next cycle. No New reads that list, since the
 -- state is settled; and the number isn't among the entries before it, which are marked for the next cycle.
-use Rattle.std.proofs.Common.{◌≡◌, ◌≢◌, ℕ, ◌+◌, ◌%◌, ◌<◌, ◌≤◌, true, false, inl, inr, refl, sym, ◌∙◌, ap, subst, arith, Option, Some}
+use Rattle.std.proofs.Common.{◌≡◌, ◌≢◌, ℕ, ◌+◌, ◌%◌, ◌<◌, ◌≤◌, true, false, inl, inr, refl, sym, ◌∙◌, ap, subst, arith, Option}
 use Rattle.std.proofs.lemmas.Bool.{cases_lt, and_parts, and_from, leb-true, le-leb}
 use Rattle.std.specs.Prelude.{nat_le, not}
 use Rattle.hk_words.specs.declared.geometry.Geometry.{Geometry}
@@ -25,6 +25,8 @@ use Rattle.hk_core.specs.Lawful.{Facts, FactsOf, hands_of}
 use Rattle.hk_core.proofs.kinds.NewRaise.{making_raised}
 use Rattle.hk_collect.proofs.spots.SpotSweepLines.{sweep_spot}
 use Rattle.hk_collect.proofs.spots.Spots.{SpotFacts, hands_kept, shades_kept}
+use Rattle.hk_core.proofs.Shared.{never_false}
+use Rattle.hk_collect.proofs.Small.{is_at}
 
 -- a New that has loaded its entry makes an object
 numbered_at : (call : Call) (place : ℕ) → f.is_new_at 5 6 call place ≡ true → f.is_new_at 4 6 call place ≡ true
@@ -43,12 +45,6 @@ numbered_at (call.IsNull reg) place e = e
 numbered_makes : (v : Flight) → f.has_number v ≡ true → f.is_making v ≡ true
 unfolding f.has_number f.is_making
 numbered_makes v e = let p = and_parts (f.is_new_at 5 6 v.call v.place) (not v.full) e in and_from _ _ (numbered_at v.call v.place p.0) p.1
-
-never : {A : Type 0} → true ≡ false → A
-never e = absurd (cc)
-
-is_at : (x y : ℕ) → Some x ≡ Some y → x ≡ y
-is_at x y e = cc
 
 module _ (g : Geometry) (w : Words) (z : Spaces) (sh : Shades) (flight : ℕ → Flight) (begun : ℕ → ℕ) (hand : ℕ → Hand) (t : Spot)
     (names : Names) (contents : Contents) (range : ℕ → Option ℕ) (h : Facts g w z sh flight begun hand t names contents range)
@@ -134,9 +130,9 @@ module _ (g : Geometry) (w : Words) (z : Spaces) (sh : Shades) (flight : ℕ →
             (o.0, omega arith, old_entry o.0 (omega arith) ∙ o.2);
         moved_stands_in_range = λ e. h.moved_stands_in_range busy;
         unreserved_is_zero = λ e. h.unreserved_is_zero busy;
-        unused_is_zero = λ e. never (sym e);
+        unused_is_zero = λ e. never_false (sym e);
         cleared_is_zero = λ i d. absurd (omega arith);
-        nothing_reserved_at_rest = λ e. never (sym e);
+        nothing_reserved_at_rest = λ e. never_false (sym e);
         ranges_below_moved = h.ranges_below_moved;
         ranges_above_grey = h.ranges_above_grey;
         scan_bounded = λ e. h.scan_bounded busy;

@@ -23,11 +23,11 @@ use Rattle.hk_core.specs.Facts as fact
 use Rattle.hk_core.specs.Facts.{IsSettled, IsMoved}
 use Rattle.hk_core.specs.Lawful.{Facts, FactsOf, hands_of}
 use Rattle.hk_core.proofs.kinds.LoadRead.{ColoursMean, colours_mean, kept_number, settled_black, shown_birth, some_words}
-use Rattle.hk_core.proofs.Shared.{refuted}
 use Rattle.hk_core.proofs.kinds.Seats.{IsKept, kept_parts}
 use Rattle.hk_collect.proofs.spots.SpotSweepLines.{sweep_spot}
 use Rattle.hk_collect.proofs.spots.Spots.{SpotFacts, MarkingLine, marking_line, hands_kept}
 use Rattle.hk_core.proofs.kinds.WriteCell.{IsGreyIn, ShadesMean, shades_mean, fresh_when_done}
+use Rattle.hk_core.proofs.Shared.{never, refuted}
 
 -- REFERENCES
 
@@ -85,9 +85,6 @@ shown_no_white white x reg word item dark = elim (cases_Bool (f.holds_back x reg
   | inl e ↦ rw e (item e)
   | inr e ↦ rw e dark
 ]
-
-never : {A : Type 0} → false ≡ true → A
-never e = absurd (cc)
 
 -- ALL FACTS
 

@@ -29,6 +29,7 @@ use Rattle.hk_core.proofs.Update.{upd_cases}
 use Rattle.hk_core.proofs.kinds.LoadRead.{ColoursMean, colours_mean}
 use Rattle.hk_collect.proofs.spots.Spots.{WorkFacts, GoesMarking, work_facts, marking_on, on_spot}
 use Rattle.hk_collect.proofs.spots.SpotLines.{AtFrame, AtFrameTrade, at_frame, frame_works, at_frame_trade, scan_works}
+use Rattle.std.proofs.lemmas.Bool.{ltb-false}
 
 -- CALLS INSIDE THE FRAME
 
@@ -221,9 +222,6 @@ after_marks g s = by_last (nat_lt (s + 1) (tasks g))
     by_last true = refl
     by_last false = refl
 
-not_low : (a b : ℕ) → nat_lt a b ≡ false → b ≤ a
-not_low a b e = grind (arith, nat_tests)
-
 -- the seat of a frame word that stands as it was loaded has no call inside its frame
 nobody_inside : (inside : Bool) (accessors : ℕ) → accessors ≡ (if inside then 1 else 0) → accessors ≡ 0 → inside ≡ false
 nobody_inside true accessors e none = absurd (omega arith)
@@ -265,7 +263,7 @@ module _ (g : Geometry) (w : Words) (flight : ℕ → Flight) (begun : ℕ → �
       by_last : (z : Spaces) (sh : Shades) (other : Spot) → s < tasks g → ((k : ℕ) → k < s + 1 → sh.black_frame k ≡ true) → (more : Bool) → nat_lt (s + 1) (tasks g) ≡ more
           → WorkFacts g w z sh flight other names range (if more then line.Frame (s + 1) else line.Scan)
       by_last z sh other seat done true e = frame_works g w z sh flight other names range (s + 1) (record { seat = ltb-true _ _ e; blackened = done })
-      by_last z sh other seat done false e = let last : tasks g ≤ s + 1 = not_low (s + 1) (tasks g) e in scan_works g w z sh flight other names range (λ k below. done k (omega arith))
+      by_last z sh other seat done false e = let last : tasks g ≤ s + 1 = ltb-false (s + 1) (tasks g) e in scan_works g w z sh flight other names range (λ k below. done k (omega arith))
 
 -- all facts hold after the exchange of a frame word that is the one that the attempt loaded: the frame is black
 pub frame_traded : (g : Geometry) (w : Words) (flight : ℕ → Flight) (begun : ℕ → ℕ) (t : Spot) (names : Names) (contents : Contents) (range : ℕ → Option ℕ) (s : ℕ)

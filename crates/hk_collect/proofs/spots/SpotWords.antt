@@ -9,14 +9,14 @@ use Rattle.hk_words.specs.Layout as layout
 use Rattle.hk_words.specs.Row.{Slot, InRow, index_of, word_of, with_word, w0_at, w1_at, header_at, mark_at, frame_at, register_at, entry_at}
 use Rattle.hk_words.specs.Row.Slot.{W0, W1, Header, Mark, Frame, Register, Entry}
 use Rattle.hk_words.proofs.RowLaws.{index_below}
-use Rattle.hk_model.specs.View.{upd, upd2}
+use Rattle.hk_model.specs.View.{upd}
 use Rattle.hk_core.specs.declared.event.Event.{Event}
 use Rattle.hk_core.specs.declared.event.Event.TheVariants as event
 use Rattle.hk_core.specs.Event.{CanFire, AmountFits, fired, learnt, old_of}
 use Rattle.hk_core.specs.Event as events
 use Rattle.hk_core.specs.View.{words_of, raw, decoded}
-use Rattle.hk_core.proofs.Columns.{fired_at, old_at, raw-w0, raw-w1, raw-header, raw-mark, raw-frame, raw-entry, raw_w1, raw_mark, raw_header, raw_frame}
-use Rattle.hk_core.proofs.Encode.{decoded-flip, decoded-w1, decoded-mark, decoded-entry, decoded-empty_header, decoded-move_object, decoded-blacken_frame}
+use Rattle.hk_core.proofs.Columns.{fired_at, old_at, raw-w0, raw-header, raw-frame, raw_w1, raw_mark, raw_header, raw_frame}
+use Rattle.hk_core.proofs.Encode.{decoded-flip, decoded-move_object, decoded-blacken_frame}
 
 module _ (g : Geometry) (row : List ℕ) (whole : length row ≡ row_length g) where
   -- EVENTS THAT MAY BE FIRED
@@ -100,40 +100,6 @@ module _ (g : Geometry) (row : List ℕ) (whole : length row ≡ row_length g) w
       ∙ ap (λ (r : ℕ). decoded (raw g (with_word g row (Header n) r))) (trades word first (layout.header_moved first place) same ∙ ap (λ (r : ℕ). layout.header_moved r place) (sym same))
       ∙ ap decoded (raw-header g row n (layout.header_moved word place) fits whole)
       ∙ rw (← raw_header g row n fits) (decoded-move_object (raw g row) n place few)
-
-  -- the sweep: a list entry, a mark, and an empty header
-  pub words-write_entry : (l j v : ℕ) → l < 2 → j < list_length g
-      → words_of g (fired row (event.Write (entry_at g l j) v)) ≡ record (words_of g row) { entry = upd2 (words_of g row).entry l j v }
-  unfolding words_of
-  words-write_entry l j v list index =
-      ap (λ (r : List ℕ). decoded (raw g r)) (fired_at g row (event.Write (entry_at g l j) v) (Entry l j) refl)
-      ∙ ap decoded (raw-entry g row l j v list index whole)
-      ∙ decoded-entry (raw g row) l j v
-
-  pub words-write_mark : (n v : ℕ) → n < numbers g
-      → words_of g (fired row (event.Write (mark_at g n) v)) ≡ record (words_of g row) { mark = upd (words_of g row).mark n v }
-  unfolding words_of
-  words-write_mark n v fits =
-      ap (λ (r : List ℕ). decoded (raw g r)) (fired_at g row (event.Write (mark_at g n) v) (Mark n) refl)
-      ∙ ap decoded (raw-mark g row n v fits whole)
-      ∙ decoded-mark (raw g row) n v
-
-  pub words-empty_header : (n : ℕ) → n < numbers g
-      → words_of g (fired row (event.Write (header_at g n) 0))
-      ≡ record (words_of g row) { accessors = upd (words_of g row).accessors n 0; place = upd (words_of g row).place n 0; version = upd (words_of g row).version n 0 }
-  unfolding words_of
-  words-empty_header n fits =
-      ap (λ (r : List ℕ). decoded (raw g r)) (fired_at g row (event.Write (header_at g n) 0) (Header n) refl)
-      ∙ ap decoded (raw-header g row n 0 fits whole)
-      ∙ decoded-empty_header (raw g row) n
-
-  -- the reset
-  pub words-reset : words_of g (fired row (event.Write (w1_at g) 0)) ≡ record (words_of g row) { reserved = 0 }
-  unfolding words_of
-  words-reset =
-      ap (λ (r : List ℕ). decoded (raw g r)) (fired_at g row (event.Write (w1_at g) 0) W1 refl)
-      ∙ ap decoded (raw-w1 g row 0 whole)
-      ∙ decoded-w1 (raw g row) 0
 
 -- WHAT AN EVENT FINDS
 

@@ -25,6 +25,7 @@ use Rattle.hk_core.specs.Facts as fact
 use Rattle.hk_core.specs.Facts.{FrameBehind, ObjectBehind, IsSettled}
 use Rattle.hk_core.specs.Lawful.{Facts, FactsOf, hands_of}
 use Rattle.hk_core.proofs.Update.{upd_cases}
+use Rattle.hk_core.proofs.Shared.{never}
 
 -- THE FACTS THAT READ THE SPOT
 
@@ -74,9 +75,6 @@ pub record HandFacts (g : Geometry) (w : Words) (z : Spaces) (sh : Shades) (hand
 
 module _ (g : Geometry) (w : Words) (z : Spaces) (sh : Shades) (flight : ℕ → Flight) (begun : ℕ → ℕ) (hand : ℕ → Hand) (t : Spot)
     (names : Names) (contents : Contents) (range : ℕ → Option ℕ) (h : Facts g w z sh flight begun hand t names contents range) where
-  pub spot_facts : SpotFacts g w z sh flight hand t names range
-  spot_facts = assumption
-
   pub hand_facts : HandFacts g w z sh hand range
   hand_facts = assumption
 
@@ -143,9 +141,6 @@ pub record MarkingLine (g : Geometry) (t : Spot) (ln : Line) : Type 0 where
   pub cleared : l.cleared g ln ≡ 0
   pub no_entries : (length cycle entries : ℕ) (mark next : ℕ → ℕ) → l.InStep length cycle entries mark next ln → entries ≡ 0
   pub in_step : (length cycle entries : ℕ) (mark next : ℕ → ℕ) → entries ≡ 0 → l.InStep length cycle entries mark next ln
-
-never : {A : Type 0} → false ≡ true → A
-never e = absurd (cc)
 
 pub marking_line : (g : Geometry) (t : Spot) (ln : Line) → l.is_marking ln ≡ true → MarkingLine g t ln
 unfolding l.is_marking l.is_resting l.is_sweeping_or_marking l.sweeping l.written l.marked l.emptied l.cleared

@@ -1,4 +1,0 @@
-use Rattle.heap_mix.proofs.machine.Machine.begin.Goals as goal
-
-pub invariant_of-self : goal.invariant_of-self
-invariant_of-self c = let lawful = c.self.invariant in (lawful.0, c.begin.ensures.lawful lawful.0 lawful.1)

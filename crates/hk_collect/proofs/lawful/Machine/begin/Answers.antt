@@ -1,4 +1,0 @@
-use Rattle.hk_collect.proofs.lawful.Machine.begin.Goals as goal
-
-pub invariant_of-self : goal.invariant_of-self
-invariant_of-self g c = let lawful = c.self.invariant in (lawful.0, c.begin.ensures.lawful lawful.0 lawful.1)

@@ -1,0 +1,6 @@
+//! Tests of the collector, on heaps of one owner.
+mod aids;
+mod answers;
+mod cycles;
+mod measured;
+mod replies;

@@ -1,0 +1,13 @@
+mod Digits
+mod Arguments
+mod Shapes
+mod Lines
+mod Calls
+mod Spelled
+mod Runs
+mod Flown
+mod PlainReplies
+mod Openings
+mod Judging
+mod OneVerdict
+mod ToolLemmas

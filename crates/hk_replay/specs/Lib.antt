@@ -1,0 +1,11 @@
+pub mod Text
+pub mod Shapes
+pub mod Spelling
+pub mod Reading
+pub mod Answers
+pub mod PlainReplies
+pub mod Log
+pub mod Judged
+pub mod Printing
+pub mod Making
+pub mod Tool

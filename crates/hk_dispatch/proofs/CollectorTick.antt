@@ -22,58 +22,28 @@ use Rattle.hk_core.specs.Collect.{next_collected, work_by_collector, last_cycle}
 use Rattle.hk_core.specs.Lines.{cleared}
 use Rattle.hk_core.specs.Lawful.{Lawful}
 use Rattle.hk_core.specs.Run.{Action, Running, collect, act}
-use Rattle.hk_collect.specs.Measure.{in_attempt, NoneInFlight, WaitsForNobody}
+use Rattle.hk_collect.specs.Cycles.{IsWorked}
+use Rattle.hk_collect.specs.Measure.{NoneInFlight, WaitsForNobody}
+use Rattle.hk_collect.specs.Pays.{HeapKept, ObjectsWithin, IsAttemptBound, Pays, met_still}
+use Rattle.hk_collect.specs.Taken.{used_in}
 use Rattle.hk_collect.specs.Used.{Trace, trace_act, trace_opening, traced, is_flip}
-use Rattle.hk_collect.specs.Works.{IsWorn}
-use Rattle.hk_collect.proofs.Causes.{has_causes}
+use Rattle.hk_collect.proofs.Cycles.{event_works, few_events_never_wear}
+use Rattle.hk_collect.proofs.Pays.{collector_pays}
 use Rattle.hk_sheet.specs.declared.sheet.Sheet.{Sheet}
 use Rattle.hk_admit.specs.Analysis.{some_makes, attempt_events, largest_object}
 use Rattle.hk_dispatch.specs.Moment.{Moment, core_of, history_of, used_at}
-use Rattle.hk_dispatch.specs.Ticks.{lost_in, over_in, after_event}
-use Rattle.hk_dispatch.specs.Kept.{HeapKept, ObjectsWithin, IsWorked}
-use Rattle.hk_dispatch.proofs.heap.Cycles.{event_works}
-use Rattle.hk_dispatch.proofs.heap.Taken.{used_in}
-use Rattle.hk_dispatch.proofs.heap.HeapPart.{IsAttemptBound, Pays, collector_pays}
+use Rattle.hk_dispatch.specs.Ticks.{over_in, after_event}
+use Rattle.hk_dispatch.proofs.Tracing.{traced_event}
 
 -- THE RUN
 
--- a run with one more action
-pub run_more : (g : Geometry) (r : Trace) (a : Action) → (actions : List Action) × (r ≡ traced g actions) → (actions : List Action) × (trace_act r a ≡ traced g actions)
-unfolding traced
-run_more g r a run = (run.0 ++ a ∷ [], ap (λ (s : Trace). trace_act s a) run.1 ∙ sym (fold_push trace_act (trace_opening g) run.0 a))
-
--- the event is the collector's, whether or not it is the flip
-collected : (r : Trace) → (trace_act r collect).running ≡ act r.running collect
-unfolding trace_act
-collected r = elim (cases_Bool (is_flip (work_by_collector r.running.core))) [ inl yes' ↦ rw yes' refl | inr no' ↦ rw no' refl ]
-
 pub core_collected : (m : Moment) → core_of (after_event m) ≡ next_collected (core_of m)
 unfolding after_event act
-core_collected m = ap (λ (r : Running). r.core) (collected m.trace)
+core_collected m = ap (λ (r : Running). r.core) (traced_event m.trace)
 
 pub history_collected : (m : Moment) → history_of (after_event m) ≡ history_of m
 unfolding after_event act
-history_collected m = ap (λ (r : Running). r.history) (collected m.trace)
-
--- CYCLES ENOUGH
-
--- a collector that has done no more events than a run has ticks isn't worn
-never_worn : (g : Geometry) (t : Spot) (events : ℕ) → IsWorked g t events → events ≤ 2 ^ 24 → t.line ≡ line.Rest → t.cycle ≢ last_cycle
-unfolding cleared
-never_worn g t events w few rest last =
-    let at : cleared g t.line ≡ space_words g = ap (cleared g) rest in
-    let fits = g.board_fits in
-    let enough = g.alloc_enough in
-    let space : 17 ≤ space_words g = omega (arith, fits, enough) in
-    let all : t.cycle * space_words g ≡ last_cycle * space_words g = ap (λ n. n * space_words g) last in
-    let most : last_cycle * 17 ≤ last_cycle * space_words g = mul-le-mul_left last_cycle space in
-    omega (arith, at, w, few, all, most, space, last)
-
-module _ (m : Moment) (events_few : m.events ≤ 2 ^ 24) (worked : IsWorked (core_of m).geometry (core_of m).spot m.events) where
-  pub not_worn : work_by_collector (core_of m) ≢ Worn
-  not_worn e =
-      let w : IsWorn (core_of m) = (has_causes (core_of m)).worn.0 e in
-      never_worn (core_of m).geometry (core_of m).spot m.events worked events_few w.rests w.last
+history_collected m = ap (λ (r : Running). r.history) (traced_event m.trace)
 
 -- THE BOUND OF AN ATTEMPT, where something is made
 
@@ -87,11 +57,6 @@ attempt_bound g sheet attempt registers is makes =
 over_none : (w : Work) (words : ℕ) → over_in w ≡ None → w ≢ LiveOver words
 over_none w words none e = absurd (let f : ◌≡◌ {A = Option ℕ} (Some words) None = ap over_in (sym e) ∙ none in cc)
 
--- the words used, as W0 has them
-used_same : (c : State) → w0_words (word_of c.geometry c.row W0) ≡ used_in c
-unfolding words_of decoded raw
-used_same c = refl
-
 -- THE TICK
 
 module _ (rate attempt most : ℕ) (m : Moment) (met_now : Bool) (h : HeapKept rate (core_of m) (history_of m) m.useful m.debt (used_at m) met_now)
@@ -103,19 +68,17 @@ module _ (rate attempt most : ℕ) (m : Moment) (met_now : Bool) (h : HeapKept r
 
   -- what the tick pays
   pub event_pays : Pays rate attempt (core_of m) (history_of m) m.useful m.debt met_now
-  event_pays = collector_pays rate most attempt (core_of m) (history_of m) m.useful m.debt met_now
-      (subst (λ u. HeapKept rate (core_of m) (history_of m) m.useful m.debt u met_now) (used_same (core_of m)) h) bound sizes none (omega (arith, owed)) fits goes_on
+  event_pays = collector_pays rate most attempt (core_of m) (history_of m) m.useful m.debt met_now h bound sizes none (omega (arith, owed)) fits goes_on
 
   pub event_waits_for_nobody : WaitsForNobody (work_by_collector (core_of m))
   event_waits_for_nobody = event_pays.waits_for_nobody
 
-  pub heap_after_event : let n = after_event m in HeapKept rate (core_of n) (history_of n) n.useful n.debt (used_at n) (met_now && in_attempt (core_of n).spot.line)
+  pub heap_after_event : let n = after_event m in HeapKept rate (core_of n) (history_of n) n.useful n.debt (used_at n) (met_still (core_of m) met_now)
   unfolding after_event
   heap_after_event =
       let n = after_event m in
-      subst (λ u. HeapKept rate (core_of n) (history_of n) n.useful n.debt u (met_now && in_attempt (core_of n).spot.line)) (sym (used_same (core_of n)))
-      (subst (λ (c : State). HeapKept rate c (history_of n) n.useful n.debt (used_in c) (met_now && in_attempt c.spot.line)) (sym (core_collected m))
-      (subst (λ (hist : History). HeapKept rate (next_collected (core_of m)) hist n.useful n.debt (used_in (next_collected (core_of m))) (met_now && in_attempt (next_collected (core_of m)).spot.line)) (sym (history_collected m)) event_pays.kept))
+      subst (λ (c : State). HeapKept rate c (history_of n) n.useful n.debt (used_in c) (met_still (core_of m) met_now)) (sym (core_collected m))
+      (subst (λ (hist : History). HeapKept rate (next_collected (core_of m)) hist n.useful n.debt (used_in (next_collected (core_of m))) (met_still (core_of m) met_now)) (sym (history_collected m)) event_pays.kept)
 
 -- the account of the debt
 pub account_event : (m : Moment) (rate : ℕ) → 0 < m.debt → m.events + m.debt ≡ rate * m.taken + m.lost

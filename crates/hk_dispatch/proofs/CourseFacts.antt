@@ -14,8 +14,8 @@ use Rattle.hk_script.specs.Runs.{need_ticks, need_words, taken_by}
 use Rattle.hk_script.specs.Left.{ticks_left, words_left}
 use Rattle.hk_script.proofs.Stops.{started_fits}
 use Rattle.hk_script.proofs.Potential.{ticks_fall, words_fall, ticks_started, words_started, goes_on_fitting}
-use Rattle.hk_dispatch.specs.declared.operate.Left.{Left}
-use Rattle.hk_dispatch.specs.declared.operate.Left.TheVariants as left
+use Rattle.hk_dispatch.specs.declared.operation.Left.{Left}
+use Rattle.hk_dispatch.specs.declared.operation.Left.TheVariants as left
 use Rattle.hk_dispatch.specs.Tasks.{Task, is_by}
 use Rattle.hk_dispatch.specs.Moment.{Course}
 use Rattle.hk_dispatch.specs.Turns.{is_ready}
@@ -45,9 +45,9 @@ course_waits task course t h = record {
 paid_all : (s a : ℕ) → 2 < s → (if nat_lt 2 s then a else 0) ≡ a
 paid_all s a lt = rw (lt-ltb 2 s lt) refl
 
-module _ (fields registers : ℕ) (task : Task) (script : IsScript (limits_of fields registers) task.script) (course : Course) (t : ℕ) where
+module _ (fields registers : ℕ) (task : Task) (script : IsScript (limits_of fields registers) task.script) where
   -- a task before the first tick of its next job
-  started_kept : (job later : ℕ) → job ≤ later → (latest : ℕ) → CourseKept task (record { job = job; walk = started job; spent = 0; had = 0; took = 0; latest = latest }) later
+  pub started_kept : (job later : ℕ) → job ≤ later → (latest : ℕ) → CourseKept task (record { job = job; walk = started job; spent = 0; had = 0; took = 0; latest = latest }) later
   started_kept job later le latest =
       let some = script.some in
       let fits = started_fits task.script job script in
@@ -61,12 +61,21 @@ module _ (fields registers : ℕ) (task : Task) (script : IsScript (limits_of fi
         jobs_few = omega (arith, le);
       }
 
+  -- which takes no more than the script costs
+  pub started_declared : (cost most : ℕ) → greatest_ticks task.script ≤ cost → greatest_words task.script ≤ most
+      → (job latest : ℕ) → KeepsDeclared task.script (record { job = job; walk = started job; spent = 0; had = 0; took = 0; latest = latest }) cost most
+  started_declared cost most costs sizes job latest = record {
+    ticks_few = let all = ticks_started task.script job script in omega (arith, all, costs);
+    words_few = let all = words_started task.script job script in omega (arith, all, sizes);
+  }
+
+module _ (fields registers : ℕ) (task : Task) (script : IsScript (limits_of fields registers) task.script) (course : Course) (t : ℕ) where
   module _ (h : CourseKept task course t) (ready : is_ready task course t ≡ true) (words : ℕ) where
     abbrev KeptAfter : Left → Type 0
     KeptAfter l = CourseKept task (course_after task course t words l) (suc t)
 
     over : CourseKept task (next_job task course t) (suc t)
-    over = let few = h.jobs_few in started_kept (course.job + 1) (suc t) (omega (arith, few)) _
+    over = let few = h.jobs_few in started_kept fields registers task script (course.job + 1) (suc t) (omega (arith, few)) _
 
     -- a tick of a task leaves its job at the same statement while that takes more ticks
     pub course_keeps : (l : Left) → (l ≡ left.Stays → course.spent + 1 < taken_by need_ticks (need_of task.script course.walk)) → KeptAfter l
@@ -102,12 +111,6 @@ module _ (fields registers : ℕ) (task : Task) (script : IsScript (limits_of fi
       abbrev wants : Option Need
       wants = need_of task.script course.walk
 
-      pub declared_started : (job latest : ℕ) → KeepsDeclared task.script (record { job = job; walk = started job; spent = 0; had = 0; took = 0; latest = latest }) cost most
-      declared_started job latest = record {
-        ticks_few = let all = ticks_started task.script job script in omega (arith, all, costs);
-        words_few = let all = words_started task.script job script in omega (arith, all, sizes);
-      }
-
       -- what the tick takes of the present statement's words, beside those that were taken before
       pub declared_keeps : (l : Left) → (course.spent < 2 → words ≡ 0) → (2 < course.spent → words ≡ 0) → words ≤ taken_by need_words wants
           → KeepsDeclared task.script (course_after task course t words l) cost most
@@ -122,12 +125,12 @@ module _ (fields registers : ℕ) (task : Task) (script : IsScript (limits_of fi
           by_spent (suc (suc zero)) a w took rest most' e l f k = omega (arith, f, k)
           by_spent (suc (suc (suc s))) a w took rest most' e l f k =
               let n = l (omega arith) in omega (arith, n, k, paid_all (suc (suc (suc s))) a (omega arith), paid_all (suc (suc (suc s)) + 1) a (omega arith))
-      declared_keeps (left.Faults f) early late few = declared_started (course.job + 1) _
+      declared_keeps (left.Faults f) early late few = started_declared fields registers task script cost most costs sizes (course.job + 1) _
       declared_keeps (left.Passes r) early late few =
           let walk = walk_after task.script course.walk r in
           let tick = ticks_fall task.script course.walk r script h.fits h.turns in
           let word = words_fall task.script course.walk r script h.fits h.turns in
-          by_test (λ (c : Course). KeepsDeclared task.script c cost most) (is_over task walk) (next_job task course t) _ (λ e. declared_started (course.job + 1) _)
+          by_test (λ (c : Course). KeepsDeclared task.script c cost most) (is_over task walk) (next_job task course t) _ (λ e. started_declared fields registers task script cost most costs sizes (course.job + 1) _)
           (λ e. record {
             ticks_few = let k = d.ticks_few in let s = h.spent_few in omega (arith, k, s, tick);
             words_few = by_spent course.spent (taken_by need_words wants) words course.took (words_left task.script course.walk) (words_left task.script walk) most early late few d.words_few word;

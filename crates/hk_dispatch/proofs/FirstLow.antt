@@ -7,6 +7,7 @@ use Rattle.std.specs.List.{find, range_with_len}
 use Rattle.hk_sheet.specs.declared.sheet.Sheet.{Sheet}
 use Rattle.hk_dispatch.specs.Tasks.{IsLowSeat}
 use Rattle.hk_dispatch.specs.Turns.{first_low}
+use Rattle.hk_dispatch.specs.Rules.{FirstLowIs, NoLow}
 
 -- an element that is found is at some place, passes the test, and none before it does
 record FoundAt (p : ℕ → Bool) (xs : List ℕ) : Type 0 where
@@ -43,16 +44,6 @@ find_law p (x ∷ xs) = elim (cases_Bool (p x)) [
     later : p x ≡ false → (n : NoneFound p xs) (k : ℕ) → k < suc (length xs) → p (get_or (x ∷ xs) k 0) ≡ false
     later no' n zero lt = no'
     later no' n (suc k) lt = n.fails k (omega arith)
-
-pub record FirstLowIs (sheet : Sheet) (test : ℕ → Bool) (seat : ℕ) : Type 0 where
-  pub is : first_low sheet test ≡ Some seat
-  pub low : IsLowSeat sheet seat
-  pub passes : test seat ≡ true
-  pub before : (other : ℕ) → IsLowSeat sheet other → other < seat → test other ≡ false
-
-pub record NoLow (sheet : Sheet) (test : ℕ → Bool) : Type 0 where
-  pub is : first_low sheet test ≡ None
-  pub fails : (other : ℕ) → IsLowSeat sheet other → test other ≡ false
 
 -- the same over a stretch of numbers
 module _ (p : ℕ → Bool) (h l : ℕ) where

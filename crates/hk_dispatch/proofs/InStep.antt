@@ -25,10 +25,11 @@ use Rattle.hk_collect.specs.Used.{Trace, trace_act}
 use Rattle.hk_script.specs.declared.walk.Need.{Need}
 use Rattle.hk_script.specs.declared.walk.Need.TheVariants as need
 use Rattle.hk_script.specs.declared.walk.Walk.{Walk}
-use Rattle.hk_dispatch.specs.declared.operate.Left.{Left}
-use Rattle.hk_dispatch.specs.declared.operate.Left.TheVariants as left
+use Rattle.hk_dispatch.specs.declared.operation.Left.{Left}
+use Rattle.hk_dispatch.specs.declared.operation.Left.TheVariants as left
 use Rattle.hk_dispatch.specs.InStep.{SeatInStep, aside, under_way, MayBegin}
 use Rattle.hk_dispatch.specs.Turns.{is_operation}
+use Rattle.hk_dispatch.proofs.Tracing.{traced_step}
 use Rattle.hk_dispatch.specs.Ticks.{left_in, run_first, run_on, leaves_first, leaves_on}
 
 -- THE RUN OF THE HEAP
@@ -37,11 +38,14 @@ module _ (r : Trace) (seat : ℕ) (sized : IsSized r.running.core) (below : seat
   abbrev core : State
   core = r.running.core
 
-  stepped : 1 ≤ (flight_of r.running.core.flights seat).place → (trace_act r (step seat)).running.core ≡ next r.running.core seat
-  unfolding trace_act act
-  stepped flying =
+  acts : 1 ≤ (flight_of r.running.core.flights seat).place → (act r.running (step seat)).core ≡ next r.running.core seat
+  unfolding act
+  acts flying =
       let busy : is_busy r.running.core seat ≡ true = and_from _ _ (lt-ltb seat (tasks r.running.core.geometry) below) (ap not (ne_eqb (flight_of r.running.core.flights seat).place 0 (λ e. omega (arith, e, flying)))) in
       rw busy refl
+
+  stepped : 1 ≤ (flight_of r.running.core.flights seat).place → (trace_act r (step seat)).running.core ≡ next r.running.core seat
+  stepped flying = ap (λ (x : Running). x.core) (traced_step r seat) ∙ acts flying
 
   begun : (c : Call) → (flight_of r.running.core.flights seat).place ≡ 0 → MayBegin r.running.core.geometry c → (trace_act r (begin seat c)).running.core ≡ after_begin r.running.core seat c
   unfolding trace_act act

@@ -18,8 +18,8 @@ use Rattle.hk_sheet.specs.declared.sheet.High.{High}
 use Rattle.hk_sheet.specs.declared.sheet.Sheet.{Sheet}
 use Rattle.hk_sheet.specs.Valid.{IsSheet}
 use Rattle.hk_admit.specs.Conditions.{exceeds, is_too_long, is_too_large, KeepsToDeclared}
-use Rattle.hk_dispatch.specs.declared.operate.Left.{Left}
-use Rattle.hk_dispatch.specs.declared.operate.Left.TheVariants as left
+use Rattle.hk_dispatch.specs.declared.operation.Left.{Left}
+use Rattle.hk_dispatch.specs.declared.operation.Left.TheVariants as left
 use Rattle.hk_dispatch.specs.Tasks.{Task, high_task, low_task, tasks_of, no_task, no_high, task_at, high_at}
 use Rattle.hk_dispatch.specs.Moment.{Course, Moment, no_course, core_of, course_at, need_at}
 use Rattle.hk_dispatch.specs.Turns.{is_ready}
@@ -28,7 +28,8 @@ use Rattle.hk_dispatch.specs.InStep.{SeatInStep, MayBegin}
 use Rattle.hk_dispatch.specs.Kept.{CourseKept, KeepsDeclared}
 use Rattle.hk_dispatch.proofs.InStep.{OpInStep, op_keeps}
 use Rattle.hk_dispatch.proofs.Courses.{left_now, words_now, course_now, own_course, other_course, as_many_courses}
-use Rattle.hk_dispatch.proofs.SeatsInStep.{AreInStep, MayBeginIf, task_keeps_step}
+use Rattle.hk_dispatch.specs.Jobs.{JobsKept}
+use Rattle.hk_dispatch.proofs.SeatsInStep.{MayBeginIf, task_keeps_step}
 use Rattle.hk_dispatch.proofs.Sheets.{HasScript, scripts, count_tasks}
 use Rattle.hk_dispatch.proofs.Walking.{wants, may_begin_wanted}
 use Rattle.hk_dispatch.proofs.CourseFacts.{course_waits, course_keeps, declared_keeps}
@@ -37,7 +38,7 @@ use Rattle.hk_dispatch.proofs.TaskTick.{words_few, words_none, stays_more}
 -- WHAT HIGH TASKS DECLARE
 
 -- an element of a list of which a test holds nowhere
-none_at : (p : High → Bool) (xs : List High) (i : ℕ) (d : High) → list_any p xs ≡ false → i < length xs → p (get_or xs i d) ≡ false
+pub none_at : (p : High → Bool) (xs : List High) (i : ℕ) (d : High) → list_any p xs ≡ false → i < length xs → p (get_or xs i d) ≡ false
 none_at p [] i d none lt = absurd (omega arith)
 none_at p (x ∷ xs) zero d none lt = left_false (p x) (list_any p xs) none where
   left_false : (a b : Bool) → (a || b) ≡ false → a ≡ false
@@ -48,7 +49,7 @@ none_at p (x ∷ xs) (suc i) d none lt = none_at p xs i d (right_false (p x) (li
   right_false true b e = absurd (cc)
   right_false false b e = e
 
-within_declared : (n declared : ℕ) → exceeds (told n) declared ≡ false → n ≤ declared
+pub within_declared : (n declared : ℕ) → exceeds (told n) declared ≡ false → n ≤ declared
 within_declared n declared e = elim (cases_Bool (nat_le n (2 ^ 24))) [
   | inl yes' ↦ ltb-false declared n (let f : nat_lt declared n ≡ false = rw yes' at e in f)
   | inr no' ↦ absurd (let f : true ≡ false = rw no' at e in cc)
@@ -61,13 +62,6 @@ high_is sheet seat lt =
     ∙ get_or-map high_task sheet.high seat no_high no_task lt
 
 -- ALL JOBS
-
-pub record JobsKept (sheet : Sheet) (m : Moment) (t : ℕ) : Type 0 where
-  pub courses : length m.courses ≡ length (tasks_of sheet)
-  pub course : (seat : ℕ) → seat < length (tasks_of sheet) → CourseKept (task_at sheet seat) (course_at m seat) t
-  pub declared : (seat : ℕ) → seat < length sheet.high
-      → KeepsDeclared (high_at sheet seat).script (course_at m seat) (high_at sheet seat).timing.cost (high_at sheet seat).words
-  pub in_step : AreInStep sheet m
 
 -- a tick of nobody, or of the collector: it changes no course and no flight
 pub jobs_wait : (sheet : Sheet) (m n : Moment) (t : ℕ) → n.courses ≡ m.courses → (core_of n).flights ≡ (core_of m).flights → JobsKept sheet m t → JobsKept sheet n (suc t)

@@ -1,6 +1,6 @@
 pub mod numbers
-pub mod heap
 pub mod Begun
+pub mod Tracing
 pub mod InStep
 pub mod Courses
 pub mod SeatsInStep
@@ -15,3 +15,8 @@ pub mod ReadyMoments
 pub mod LowOperations
 pub mod CollectorTick
 pub mod Waiting
+pub mod Runs
+pub mod SessionJobs
+pub mod SessionHeap
+pub mod SessionLive
+pub mod Promises

@@ -5,7 +5,7 @@ use Rattle.std.specs.Prelude.{nat_lt, ◌&&◌, slice_index_or}
 use Rattle.hk_script.specs.Walks.{need_of}
 use Rattle.hk_sheet.specs.declared.sheet.Sheet.{Sheet}
 use Rattle.hk_sheet.specs.Valid.{IsSheet}
-use Rattle.hk_collect.specs.Measure.{in_attempt}
+use Rattle.hk_collect.specs.Runs.{in_attempt}
 use Rattle.hk_plan.specs.declared.Ready.{Ready}
 use Rattle.hk_dispatch.specs.Tasks.{IsLowSeat, task_at}
 use Rattle.hk_dispatch.specs.Moment.{Course, Moment, no_course, core_of, course_at, need_at}
@@ -13,8 +13,7 @@ use Rattle.hk_dispatch.specs.Turns.{is_operation, in_mid_course, first_low}
 use Rattle.hk_dispatch.specs.Ticks.{after_task}
 use Rattle.hk_dispatch.specs.Kept.{OneLow, AttemptFresh}
 use Rattle.hk_dispatch.proofs.Courses.{other_course}
-use Rattle.hk_dispatch.proofs.FirstLow.{FirstLowIs, NoLow}
-use Rattle.hk_dispatch.proofs.TurnFacts.{NoHighReady, ToHigh, ToOperation, ToLow}
+use Rattle.hk_dispatch.specs.Rules.{NoHighReady, NoLow, FirstLowIs, ToOperation, ToLow}
 use Rattle.hk_dispatch.proofs.ReadyMoments.{none_waits}
 
 -- whether an operation is in mid-course, by the courses

@@ -15,7 +15,7 @@ use Rattle.hk_sheet.specs.Valid.{IsSheet, IsHigh, AreArrivals, AreSpaced}
 use Rattle.hk_dispatch.specs.Tasks.{Task, task_at, high_at, no_high, is_by}
 use Rattle.hk_dispatch.specs.Moment.{Moment, course_at}
 use Rattle.hk_dispatch.specs.Quiet.{NoHighWaits}
-use Rattle.hk_dispatch.proofs.TurnFacts.{NoHighReady}
+use Rattle.hk_dispatch.specs.Rules.{NoHighReady, ReadyMomentsRise}
 use Rattle.hk_dispatch.proofs.JobsKept.{high_is}
 
 -- a tick that fits a word is that tick
@@ -110,3 +110,6 @@ none_waits sheet h m t no_high seat job ready high e lt =
       | inl same ↦ (ready, ap (ready_of (high_at sheet seat)) same ∙ e, omega arith)
       | inr other ↦ let r = ready_rises sheet (high_at sheet seat) (high_right sheet h seat high) (course_at m seat).job job ready (omega (arith, le, other)) e in (r.0, r.1, let l = r.2 in omega (arith, l))
     ]
+
+pub ready_moments_rise : ReadyMomentsRise
+ready_moments_rise sheet seat first second later readable high lt e = ready_rises sheet (high_at sheet seat) (high_right sheet readable seat high) first second later lt e

@@ -15,26 +15,23 @@ use Rattle.hk_script.specs.declared.walk.Need.{Need}
 use Rattle.hk_script.specs.declared.walk.Need.TheVariants as need
 use Rattle.hk_script.specs.Walks.{need_of}
 use Rattle.hk_sheet.specs.declared.sheet.Sheet.{Sheet}
-use Rattle.hk_dispatch.specs.declared.operate.Left.{Left}
-use Rattle.hk_dispatch.specs.declared.operate.Left.TheVariants as left
+use Rattle.hk_dispatch.specs.declared.operation.Left.{Left}
+use Rattle.hk_dispatch.specs.declared.operation.Left.TheVariants as left
 use Rattle.hk_dispatch.specs.Tasks.{Task, tasks_of, task_at}
 use Rattle.hk_dispatch.specs.Moment.{Course, Moment, core_of, course_at, need_at}
 use Rattle.hk_dispatch.specs.Turns.{is_operation}
 use Rattle.hk_dispatch.specs.Ticks.{asked, leaves_on, left_by, run_by, run_on, words_by, course_after, after_task}
 use Rattle.hk_dispatch.specs.InStep.{SeatInStep, aside, under_way, MayBegin}
+use Rattle.hk_dispatch.specs.Jobs.{AreInStep}
 use Rattle.hk_dispatch.proofs.InStep.{OpInStep, still, done, refused, OpKeeps, op_keeps}
 use Rattle.hk_dispatch.proofs.Courses.{left_now, words_now, course_now, own_course, other_course, other_need, passes_spent}
-
--- the seats of a moment are in step
-abbrev pub AreInStep : Sheet → Moment → Type 0
-AreInStep sheet m = (seat : ℕ) → seat < length (tasks_of sheet) → SeatInStep (flight_of (core_of m).flights seat) (need_at sheet m seat) (course_at m seat).spent
 
 -- what a job wants may be begun, where it is an operation
 abbrev pub MayBeginIf : Sheet → Moment → (seat : ℕ) → Type 0
 MayBeginIf sheet m seat = (c : Call) → need_at sheet m seat ≡ Some (need.Heap c) → MayBegin (core_of m).geometry c
 
 -- a seat that wants no operation has no call in flight
-none_flying : (x : Flight) (wants : Option Need) (spent : ℕ) → SeatInStep x wants spent → is_operation wants ≡ false → x.place ≡ 0
+pub none_flying : (x : Flight) (wants : Option Need) (spent : ℕ) → SeatInStep x wants spent → is_operation wants ≡ false → x.place ≡ 0
 none_flying x wants spent (aside idle w) e = idle
 none_flying x wants spent (under_way c is at place some within) e = absurd (let b : true ≡ false = sym (ap is_operation is) ∙ e in cc)
 

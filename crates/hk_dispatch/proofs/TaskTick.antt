@@ -13,8 +13,8 @@ use Rattle.hk_core.specs.State.{State, flight_of}
 use Rattle.hk_script.specs.declared.walk.Need.{Need}
 use Rattle.hk_script.specs.declared.walk.Need.TheVariants as need
 use Rattle.hk_script.specs.Runs.{need_ticks, need_words, taken_by}
-use Rattle.hk_dispatch.specs.declared.operate.Left.{Left}
-use Rattle.hk_dispatch.specs.declared.operate.Left.TheVariants as left
+use Rattle.hk_dispatch.specs.declared.operation.Left.{Left}
+use Rattle.hk_dispatch.specs.declared.operation.Left.TheVariants as left
 use Rattle.hk_dispatch.specs.Ticks.{takes_on, words_by, left_by, leaves_on}
 use Rattle.hk_dispatch.proofs.InStep.{OpInStep, still, done, refused}
 use Rattle.hk_dispatch.proofs.Courses.{by_test}

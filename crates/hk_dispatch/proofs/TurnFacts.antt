@@ -11,53 +11,8 @@ use Rattle.hk_dispatch.specs.Tasks.{IsLowSeat, task_at, high_at}
 use Rattle.hk_dispatch.specs.Moment.{Moment, course_at}
 use Rattle.hk_dispatch.specs.Rows.{TasksRise, IsChoice}
 use Rattle.hk_dispatch.specs.Turns.{Turn, to_task, to_collector, to_nobody, is_ready, row_of, ready_row, ready_rows, in_mid_course, first_low, or_else, turn}
-use Rattle.hk_dispatch.proofs.FirstLow.{FirstLowIs, NoLow, first_low_law}
-
--- the task of a seat has a ready job
-abbrev pub ready_now : Sheet → Moment → (tick seat : ℕ) → Bool
-ready_now sheet m tick seat = is_ready (task_at sheet seat) (course_at m seat) tick
-
--- no high task has one
-abbrev pub NoHighReady : Sheet → Moment → (tick : ℕ) → Type 0
-NoHighReady sheet m tick = (seat : ℕ) → seat < length sheet.high → ready_now sheet m tick seat ≡ false
-
--- the tick goes to a high task, by the choice
-pub record ToHigh (choice : List Ready → ℕ) (sheet : Sheet) (m : Moment) (tick seat : ℕ) : Type 0 where
-  pub high : seat < length sheet.high
-  pub ready : ready_now sheet m tick seat ≡ true
-  pub chosen : chosen_task choice (ready_rows sheet m tick) ≡ Some seat
-
--- to the low operation in mid-course
-pub record ToOperation (sheet : Sheet) (m : Moment) (tick seat : ℕ) : Type 0 where
-  pub no_high : NoHighReady sheet m tick
-  pub first : FirstLowIs sheet (in_mid_course sheet m) seat
-
--- to the collector
-pub record ToCollector (sheet : Sheet) (m : Moment) (tick : ℕ) : Type 0 where
-  pub no_high : NoHighReady sheet m tick
-  pub no_operation : NoLow sheet (in_mid_course sheet m)
-  pub owed : 0 < m.debt
-
--- to a low task
-pub record ToLow (sheet : Sheet) (m : Moment) (tick seat : ℕ) : Type 0 where
-  pub no_high : NoHighReady sheet m tick
-  pub no_operation : NoLow sheet (in_mid_course sheet m)
-  pub nothing_owed : m.debt ≡ 0
-  pub first : FirstLowIs sheet (ready_now sheet m tick) seat
-
--- to nobody
-pub record ToNobody (sheet : Sheet) (m : Moment) (tick : ℕ) : Type 0 where
-  pub no_high : NoHighReady sheet m tick
-  pub no_operation : NoLow sheet (in_mid_course sheet m)
-  pub nothing_owed : m.debt ≡ 0
-  pub no_low : NoLow sheet (ready_now sheet m tick)
-
-pub data TurnIs (choice : List Ready → ℕ) (sheet : Sheet) (m : Moment) (tick : ℕ) : Turn → Type 0 where
-  by_high : (seat : ℕ) → ToHigh choice sheet m tick seat → TurnIs choice sheet m tick (to_task seat)
-  by_operation : (seat : ℕ) → ToOperation sheet m tick seat → TurnIs choice sheet m tick (to_task seat)
-  by_collector : ToCollector sheet m tick → TurnIs choice sheet m tick to_collector
-  by_low : (seat : ℕ) → ToLow sheet m tick seat → TurnIs choice sheet m tick (to_task seat)
-  by_nobody : ToNobody sheet m tick → TurnIs choice sheet m tick to_nobody
+use Rattle.hk_dispatch.specs.Rules.{ready_now, NoHighReady, FirstLowIs, NoLow, ToHigh, ToOperation, ToCollector, ToLow, ToNobody, TurnIs, by_high, by_operation, by_collector, by_low, by_nobody, RulesApply, HighFirst, RowsRise}
+use Rattle.hk_dispatch.proofs.FirstLow.{first_low_law}
 
 -- the tasks of the rows rise
 module _ (a : ℕ → List Ready) where
@@ -85,7 +40,7 @@ module _ (a : ℕ → List Ready) where
         omega (arith, first, second, its, known)
   ]
 
-module _ (choice : List Ready → ℕ) (sheet : Sheet) (m : Moment) (tick : ℕ) (choice_is : IsChoice choice) where
+module _ (sheet : Sheet) (m : Moment) (tick : ℕ) where
   -- a row is that of a ready task
   row_ready : (seat k : ℕ) → k < length (ready_row sheet m tick seat) → (get_or (ready_row sheet m tick seat) k no_ready ≡ row_of seat (high_at sheet seat) (course_at m seat)) × (ready_now sheet m tick seat ≡ true)
   row_ready seat k lt = elim (cases_Bool (ready_now sheet m tick seat)) [
@@ -114,13 +69,18 @@ module _ (choice : List Ready → ℕ) (sheet : Sheet) (m : Moment) (tick : ℕ)
     | inr no' ↦ no'
   ]
 
+  pub ready_rows_rise : TasksRise (ready_rows sheet m tick)
+  unfolding ready_rows
+  ready_rows_rise = rows_rise (ready_row sheet m tick) (length sheet.high) (λ i b. one_row i) (λ i k b lt. ap (λ (x : Ready). x.task) (row_ready i k lt).0)
+
+module _ (choice : List Ready → ℕ) (sheet : Sheet) (m : Moment) (tick : ℕ) (choice_is : IsChoice choice) where
   to_high : 0 < length (ready_rows sheet m tick) → chosen_task choice (ready_rows sheet m tick) ≡ Some (get_or (ready_rows sheet m tick) (choice (ready_rows sheet m tick)) no_ready).task
       → (seat : ℕ) × ToHigh choice sheet m tick seat
   unfolding ready_rows
   to_high some is =
-      let rise = rows_rise (ready_row sheet m tick) (length sheet.high) (λ i b. one_row i) (λ i k b lt. ap (λ (x : Ready). x.task) (row_ready i k lt).0) in
+      let rise = ready_rows_rise sheet m tick in
       let r = row_from (ready_row sheet m tick) (length sheet.high) (choice (ready_rows sheet m tick)) (choice_is (ready_rows sheet m tick) some rise) in
-      let own = row_ready r.task r.at r.listed in
+      let own = row_ready sheet m tick r.task r.at r.listed in
       let task_is : (get_or (ready_rows sheet m tick) (choice (ready_rows sheet m tick)) no_ready).task ≡ r.task = ap (λ (x : Ready). x.task) (r.row ∙ own.0) in
       (r.task, record { high = r.known; ready = own.1; chosen = is ∙ ap (λ k. Some k) task_is })
 
@@ -141,5 +101,36 @@ module _ (choice : List Ready → ℕ) (sheet : Sheet) (m : Moment) (tick : ℕ)
   unfolding turn
   turn_is = elim (chosen_law choice (ready_rows sheet m tick)) [
     | inl c ↦ let h = to_high c.some c.is in rw h.1.chosen (by_high h.0 h.1)
-    | inr n ↦ rw n.is (after_high (no_row n.none))
+    | inr n ↦ rw n.is (after_high (no_row sheet m tick n.none))
   ]
+
+-- THE LAWS
+
+pub rows_rise_law : RowsRise
+rows_rise_law sheet m tick = ready_rows_rise sheet m tick
+
+pub rules_apply : RulesApply
+rules_apply choice sheet m tick choice_is = turn_is choice sheet m tick choice_is
+
+module _ (choice : List Ready → ℕ) (sheet : Sheet) (m : Moment) (tick : ℕ) where
+  abbrev SomeReady : Type 0
+  SomeReady = (seat : ℕ) × (seat < length sheet.high) × (ready_now sheet m tick seat ≡ true)
+
+  abbrev GoesHigh : Turn → Type 0
+  GoesHigh o = (seat : ℕ) × (o ≡ to_task seat) × ToHigh choice sheet m tick seat
+
+  none_ready : NoHighReady sheet m tick → SomeReady → ⊥
+  none_ready no_high s = absurd (let e : true ≡ false = sym s.2 ∙ no_high s.0 s.1 in cc)
+
+  goes_high : (o : Turn) → TurnIs choice sheet m tick o → SomeReady → GoesHigh o
+  goes_high o (by_high seat f) s = (seat, refl, f)
+  goes_high o (by_operation seat f) s = absurd (none_ready f.no_high s)
+  goes_high o (by_collector f) s = absurd (none_ready f.no_high s)
+  goes_high o (by_low seat f) s = absurd (none_ready f.no_high s)
+  goes_high o (by_nobody f) s = absurd (none_ready f.no_high s)
+
+pub high_first : HighFirst
+high_first choice sheet m tick choice_is = (
+  (λ s. goes_high choice sheet m tick (turn choice sheet m tick) (turn_is choice sheet m tick choice_is) s),
+  (λ w. (w.0, w.2.high, w.2.ready)),
+)

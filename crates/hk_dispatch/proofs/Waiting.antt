@@ -18,10 +18,10 @@ use Rattle.hk_dispatch.specs.Rows.{IsChoice}
 use Rattle.hk_dispatch.specs.Turns.{Turn, to_task, to_collector, to_nobody, is_operation, is_ready, in_mid_course, turn}
 use Rattle.hk_dispatch.specs.InStep.{SeatInStep, aside, under_way}
 use Rattle.hk_dispatch.specs.Kept.{CourseKept}
-use Rattle.hk_dispatch.proofs.FirstLow.{FirstLowIs, NoLow}
-use Rattle.hk_dispatch.proofs.TurnFacts.{ready_now, NoHighReady, ToHigh, ToOperation, ToCollector, ToLow, ToNobody, TurnIs, by_high, by_operation, by_collector, by_low, by_nobody, turn_is}
+use Rattle.hk_dispatch.specs.Rules.{ready_now, NoHighReady, NoLow, ToHigh, ToOperation, ToCollector, ToLow, ToNobody, TurnIs, by_high, by_operation, by_collector, by_low, by_nobody}
+use Rattle.hk_dispatch.proofs.TurnFacts.{turn_is}
 use Rattle.hk_dispatch.proofs.Sheets.{count_tasks}
-use Rattle.hk_dispatch.proofs.JobsKept.{JobsKept}
+use Rattle.hk_dispatch.specs.Jobs.{JobsKept}
 
 -- a job that has had a tick is ready
 pub begun_ready : (task : Task) (course : Course) (t : ℕ) → CourseKept task course t → 0 < course.had → is_ready task course t ≡ true

@@ -12,8 +12,10 @@ use Rattle.hk_core.specs.View.{words_of, names_of}
 use Rattle.hk_core.specs.Flights.{has_raised, cycle_of}
 use Rattle.hk_core.specs.Lines.{cleared}
 use Rattle.hk_core.specs.Lawful.{Lawful}
-use Rattle.hk_collect.specs.Measure.{in_attempt, IsUntouched, IsCalm, most_useful, least_useful}
-use Rattle.hk_collect.specs.Used.{Trace, traced, next_birth}
+use Rattle.hk_collect.specs.Runs.{in_attempt}
+use Rattle.hk_collect.specs.Pays.{HeapKept, ObjectsWithin}
+use Rattle.hk_collect.specs.Cycles.{IsWorked}
+use Rattle.hk_collect.specs.Used.{NoneLate, traced}
 use Rattle.hk_plan.specs.declared.Ready.{Ready}
 use Rattle.hk_script.specs.declared.statement.Statement.{Statement}
 use Rattle.hk_script.specs.declared.walk.Need.{Need}
@@ -42,34 +44,6 @@ unfoldable pub met : Geometry → (List Ready → ℕ) → Sheet → (t : ℕ) �
 met g choice sheet zero = false
 met g choice sheet (suc t) =
     met_after (met g choice sheet t) (in_attempt (core_of (state g choice sheet (suc t))).spot.line) (turn choice sheet (state g choice sheet t) t)
-
--- THE HEAP
-
--- The machine is lawful for the history, and calm; the useful events are at most those of the spot, and those of an open
--- attempt are among them; an attempt that wasn't met is untouched; and the words used are paid for. Without it there is no
--- measure of a cycle, and no balance.
-pub record HeapKept (rate : ℕ) (c : State) (history : History) (useful debt used : ℕ) (met_now : Bool) : Type 0 where
-  pub lawful : Lawful c history
-  pub calm : IsCalm c
-  pub useful_few : useful ≤ most_useful c.geometry c.spot
-  pub counted : least_useful c.spot ≤ useful
-  pub untouched : met_now ≡ false → IsUntouched c
-  pub balance : rate * used ≤ useful + debt
-
--- Each birth since the flip is young, and who has raised W0 did so in this cycle. Without it a reserved object could have been
--- made after the flip.
-pub record AllYoung (r : Trace) : Type 0 where
-  pub births : (b : ℕ) → next_birth r.running.core.geometry r.at_flip ≤ b → b < next_birth r.running.core.geometry r.running.history → Contains r.young b
-  pub raised : (seat : ℕ) → seat < tasks r.running.core.geometry → has_raised (flight_of r.running.core.flights seat) ≡ true
-      → cycle_of (flight_of r.running.core.flights seat) ≡ (words_of r.running.core.geometry r.running.core.row).cycle
-
--- No object is larger than so many words. Without it a lost attempt could have any number of events.
-abbrev pub ObjectsWithin : Geometry → History → (words : ℕ) → Type 0
-ObjectsWithin g history words = (b : ℕ) → 1 + (names_of g history).refs b + (names_of g history).nums b ≤ words
-
--- So many events are enough for the cycles so far, since each clears the words of a space. Without it the cycles could end.
-abbrev pub IsWorked : Geometry → Spot → (events : ℕ) → Type 0
-IsWorked g t events = t.cycle * space_words g + cleared g t.line ≤ events + 2 * space_words g
 
 -- THE TASKS
 
@@ -110,7 +84,7 @@ pub record Kept (g : Geometry) (choice : List Ready → ℕ) (sheet : Sheet) (at
   pub geometry : (core_of m).geometry ≡ g
   pub heap : HeapKept sheet.heap.rate (core_of m) (history_of m) m.useful m.debt (used_at m) (met g choice sheet t)
   pub run : (actions : List Action) × (m.trace ≡ traced g actions)
-  pub young : AllYoung m.trace
+  pub none_late : NoneLate m.trace
   pub objects : ObjectsWithin g (history_of m) (largest_object sheet)
   pub worked : IsWorked g (core_of m).spot m.events
   pub events_few : m.events ≤ t

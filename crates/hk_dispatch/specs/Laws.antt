@@ -27,13 +27,15 @@ use Rattle.hk_admit.specs.Conditions.{AreResponses}
 use Rattle.hk_dispatch.specs.Tasks.{tasks_of, task_at, high_at, is_high}
 use Rattle.hk_dispatch.specs.Moment.{Moment, core_of, history_of, used_at, plain_heap, flip_heap, course_at, need_at}
 use Rattle.hk_dispatch.specs.Turns.{to_task, to_collector, to_nobody, is_ready, turn}
-use Rattle.hk_dispatch.specs.declared.operate.Left.TheVariants.{Passes}
+use Rattle.hk_dispatch.specs.declared.operation.Left.TheVariants.{Passes}
 use Rattle.hk_dispatch.specs.Ticks.{asked, left_by}
 use Rattle.hk_dispatch.specs.Session.{state, who_gets, IsMoment, IsTick, IsSession, JobEndsAt}
 use Rattle.hk_dispatch.specs.Told.{told, out_in, end_in}
 use Rattle.hk_dispatch.specs.Replay.{replayed_out, replayed_end}
 use Rattle.hk_dispatch.specs.Quiet.{IsQuiet, QuietWithin}
-use Rattle.hk_dispatch.specs.Live.{LiveExceeds}
+use Rattle.hk_collect.specs.Live.{LiveExceeds}
+use Rattle.hk_dispatch.specs.Kept.{OneLow}
+use Rattle.hk_dispatch.specs.Jobs.{JobsKept}
 use Rattle.hk_dispatch.specs.HighJobs.{high_arrivals_before, jobs_by}
 
 -- A statement on the moments, or on the ticks, of each session. Its moment is the session's own at that time.
@@ -46,6 +48,17 @@ abbrev pub OfTicks : ((g : Geometry) (choice : List Ready → ℕ) (sheet : Shee
 OfTicks P = (g : Geometry) (choice : List Ready → ℕ) (sheet : Sheet) (work attempt busy debt : ℕ)
     → IsSession g choice sheet work attempt busy debt → (t : ℕ) → IsTick g choice sheet t
     → P g choice sheet work attempt busy debt t (state g choice sheet t)
+
+-- THE JOBS
+
+-- each job is in its script, and has had no more ticks and words than its script leaves it; the calls in flight are in step with
+-- the jobs
+abbrev pub JobsAreKept : Type 0
+JobsAreKept = OfMoments (λ g choice sheet work attempt busy debt t m. JobsKept sheet m t)
+
+-- one low operation at most is in mid-course
+abbrev pub OneLowOperation : Type 0
+OneLowOperation = OfMoments (λ g choice sheet work attempt busy debt t m. OneLow sheet m)
 
 -- THE HEAP
 

@@ -7,9 +7,9 @@ pub mod Session
 pub mod Told
 pub mod Replay
 pub mod Quiet
-pub mod Live
 pub mod HighJobs
 pub mod InStep
-pub mod Opened
 pub mod Kept
+pub mod Rules
+pub mod Jobs
 pub mod Laws

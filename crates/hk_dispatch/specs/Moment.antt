@@ -1,11 +1,10 @@
 -- Where a session stands between two ticks. Ticks count from 0; tick t lies between the moments t and t + 1.
 use Rattle.std.specs.Prelude.{ℕ, List, [], length, replicate, slice_index_or, Option, Some, None}
 use Rattle.hk_words.specs.declared.geometry.Geometry.{Geometry}
-use Rattle.hk_words.specs.Layout.{w0_words}
-use Rattle.hk_words.specs.Row.{W0, word_of}
 use Rattle.hk_model.specs.Heap.{Heap, opening_of}
 use Rattle.hk_model.specs.History.{History, after}
 use Rattle.hk_core.specs.State.{State}
+use Rattle.hk_collect.specs.Taken.{used_in}
 use Rattle.hk_collect.specs.Used.{Trace, trace_opening}
 use Rattle.hk_script.specs.declared.walk.Need.{Need}
 use Rattle.hk_script.specs.declared.walk.Walk.{Walk}
@@ -68,7 +67,7 @@ history_of m = m.trace.running.history
 
 -- the words used for allocation since the last flip
 abbrev pub used_at : Moment → ℕ
-used_at m = w0_words (word_of (core_of m).geometry (core_of m).row W0)
+used_at m = used_in (core_of m)
 
 -- the heap that never collects, after the calls so far, and as it was at the last flip
 abbrev pub plain_heap : Geometry → Moment → Heap

@@ -19,14 +19,15 @@ use Rattle.hk_core.specs.Begin.{refusal, register_word, after_begin}
 use Rattle.hk_core.specs.Collect.{work_by_collector}
 use Rattle.hk_core.specs.Run.{begin, step, collect}
 use Rattle.hk_collect.specs.Measure.{useful_after}
+use Rattle.hk_collect.specs.Pays.{lost_in, debt_after}
 use Rattle.hk_collect.specs.Used.{Trace, trace_act, is_flip}
 use Rattle.hk_script.specs.declared.walk.Need.{Need}
 use Rattle.hk_script.specs.declared.walk.Need.TheVariants as need
 use Rattle.hk_script.specs.declared.walk.Walk.{Walk}
 use Rattle.hk_script.specs.Walks.{started, walk_after}
 use Rattle.hk_sheet.specs.declared.sheet.Sheet.{Sheet}
-use Rattle.hk_dispatch.specs.declared.operate.Left.{Left}
-use Rattle.hk_dispatch.specs.declared.operate.Left.TheVariants as left
+use Rattle.hk_dispatch.specs.declared.operation.Left.{Left}
+use Rattle.hk_dispatch.specs.declared.operation.Left.TheVariants as left
 use Rattle.hk_dispatch.specs.Tasks.{Task, task_at, is_high}
 use Rattle.hk_dispatch.specs.Moment.{Course, Moment, core_of, course_at, need_at}
 use Rattle.hk_dispatch.specs.Turns.{Turn, to_task, to_collector, to_nobody}
@@ -165,17 +166,6 @@ after_task sheet m tick seat =
 
 -- THE TICK OF THE COLLECTOR: one event. It pays for one that is owed; the events of an attempt that it loses are owed again.
 
-abbrev pub lost_in : Work → ℕ
-lost_in (Lost events) = events
-lost_in Useful = 0
-lost_in Flipped = 0
-lost_in (BusyFrame seat) = 0
-lost_in (BusyObject number) = 0
-lost_in (Unlinked place) = 0
-lost_in (Grey number) = 0
-lost_in (LiveOver words) = 0
-lost_in Worn = 0
-
 abbrev pub over_in : Work → Option ℕ
 over_in (LiveOver words) = Some words
 over_in (Lost events) = None
@@ -192,7 +182,7 @@ after_event m =
     let work = work_by_collector (core_of m) in
     record m {
       trace = trace_act m.trace collect;
-      debt = m.debt - 1 + lost_in work;
+      debt = debt_after work m.debt;
       useful = useful_after work m.useful;
       flips = if is_flip work then m.flips + 1 else m.flips;
       events = m.events + 1;

@@ -12,8 +12,8 @@ use Rattle.hk_script.specs.declared.walk.Walk.{Walk}
 use Rattle.hk_script.specs.Walks.{walk_after}
 use Rattle.hk_sheet.specs.declared.sheet.Sheet.{Sheet}
 use Rattle.hk_plan.specs.declared.Ready.{Ready}
-use Rattle.hk_dispatch.specs.declared.operate.Left.{Left}
-use Rattle.hk_dispatch.specs.declared.operate.Left.TheVariants as left
+use Rattle.hk_dispatch.specs.declared.operation.Left.{Left}
+use Rattle.hk_dispatch.specs.declared.operation.Left.TheVariants as left
 use Rattle.hk_dispatch.specs.declared.tick.Chore.{Chore}
 use Rattle.hk_dispatch.specs.declared.tick.Chore.TheVariants as chore
 use Rattle.hk_dispatch.specs.declared.tick.Who.{Who}

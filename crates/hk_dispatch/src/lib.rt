@@ -1,21 +1,22 @@
 //! Sessions: who gets each tick. High jobs go by a choice among those that are ready; the collector pays for what was taken
 //! after them, and before low jobs go on.
+//!
+//! Today: the definitions of sessions and of what they promise, the tick of an operation, and the laws of single ticks.
 #![tactic(auto)]
 
-mod operate;
+mod laws;
+mod operation;
 mod pick;
-mod roster;
-mod run;
-mod session;
 mod tick;
 
 pub use hk_plan::Ready;
-pub use operate::Left;
+pub use laws::{
+    collector_never_waits, debt_is_accounted, heap_is_legal, idle_exactly, jobs_keep_scripts,
+    live_over_has_cause, rules_decide,
+};
+pub use operation::{Left, ask, operate};
 pub use pick::{First, Pick};
-pub use session::{Session, SessionBy};
 pub use tick::{Chore, End, JobFault, Tick, Who};
 
 #[cfg(test)]
-mod rows;
-#[cfg(test)]
-mod watch;
+mod tests;

@@ -57,7 +57,7 @@ fn start(heap: &mut OwnedHeap, seat: u8, call: Call) -> Left
 }
 
 /// Does one tick of an operation of a seat, of which it has had so many.
-pub(crate) fn operate(heap: &mut OwnedHeap, seat: u8, call: Call, spent: u64) -> Left
+pub fn operate(heap: &mut OwnedHeap, seat: u8, call: Call, spent: u64) -> Left
     requires sized { IsSized heap.old }
     requires seat { seat < tasks heap.old.geometry }
     requires may { MayBegin heap.old.geometry call }
@@ -73,7 +73,7 @@ pub(crate) fn operate(heap: &mut OwnedHeap, seat: u8, call: Call, spent: u64) ->
 }
 
 /// Answers a question of a seat.
-pub(crate) fn ask(heap: &OwnedHeap, seat: u8, call: Call) -> Reply
+pub fn ask(heap: &OwnedHeap, seat: u8, call: Call) -> Reply
     requires seat { seat < tasks heap.now.geometry }
     requires question { is_question call ≡ true }
     requires registers { RegistersFit heap.now.geometry.registers call }

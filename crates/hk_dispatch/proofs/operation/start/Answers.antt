@@ -1,6 +1,6 @@
 use Rattle.std.proofs.Common.{◌≡◌, ◌∙◌}
 use Rattle.hk_core.proofs.Places.{refused_kept}
-use Rattle.hk_dispatch.proofs.operate.start.Goals as goal
+use Rattle.hk_dispatch.proofs.operation.start.Goals as goal
 
 pub returns-in-Err-clause-heap : goal.returns-in-Err-clause-heap
 returns-in-Err-clause-heap c =

@@ -1,4 +1,0 @@
-pub mod Taken
-pub mod Cycles
-pub mod RefusedPlain
-pub mod HeapPart

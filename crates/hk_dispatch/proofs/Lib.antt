@@ -19,4 +19,6 @@ pub mod Runs
 pub mod SessionJobs
 pub mod SessionHeap
 pub mod SessionLive
+pub mod SessionBegun
+pub mod SessionPaid
 pub mod Promises

@@ -26,16 +26,18 @@ use Rattle.hk_dispatch.specs.Moment.{core_of, history_of, course_at, need_at, pl
 use Rattle.hk_dispatch.specs.Turns.{Turn, to_task, turn}
 use Rattle.hk_dispatch.specs.Ticks.{asked}
 use Rattle.hk_dispatch.specs.Session.{state, IsSession, IsTick, IsMoment}
-use Rattle.hk_dispatch.specs.Laws.{RunIsInterleaving, HistoryIsLegal, QuestionsAreAnswered, IdleExactly, DebtIsAccounted, UsefulWithin, CollectorNeverWaits, LiveOverHasCause, JobsAreKept, OneLowOperation}
+use Rattle.hk_dispatch.specs.Laws.{RunIsInterleaving, HistoryIsLegal, QuestionsAreAnswered, IdleExactly, DebtIsAccounted, UsefulWithin, CollectorNeverWaits, LiveOverHasCause, NoTaskIsSpent, UsedIsPaid, JobsAreKept, OneLowOperation}
 use Rattle.hk_dispatch.specs.Rules.{TurnIs, by_high, by_operation, by_collector, by_low, by_nobody}
 use Rattle.hk_dispatch.proofs.TurnFacts.{turn_is}
 use Rattle.hk_dispatch.proofs.Sheets.{scripts, seats, count_tasks}
 use Rattle.hk_dispatch.proofs.SeatsInStep.{none_flying}
-use Rattle.hk_dispatch.proofs.Waiting.{idle_exactly}
+use Rattle.hk_dispatch.proofs.Waiting.{idle_exactly, seat_below}
 use Rattle.hk_dispatch.proofs.Runs.{state_run, geometry_at, lawful_at, legal_at}
 use Rattle.hk_dispatch.proofs.SessionJobs.{accounted, one_low, jobs_kept}
 use Rattle.hk_dispatch.proofs.SessionHeap.{collector_never_waits, useful_within}
 use Rattle.hk_dispatch.proofs.SessionLive.{live_over_cause}
+use Rattle.hk_dispatch.proofs.SessionBegun.{begun_few, not_spent}
+use Rattle.hk_dispatch.proofs.SessionPaid.{used_is_paid}
 
 pub run_is_interleaving : RunIsInterleaving
 run_is_interleaving g choice sheet work attempt busy debt s t moment = state_run g choice sheet t
@@ -67,6 +69,13 @@ never_waits g choice sheet work attempt busy debt s t tick e = collector_never_w
 pub live_over_has_cause : LiveOverHasCause
 live_over_has_cause g choice sheet work attempt busy debt s t words le e = live_over_cause g choice s.choice_is sheet s.checked.readable s.checked.declared s.sizes t words e
 
+pub no_task_is_spent : NoTaskIsSpent
+no_task_is_spent g choice sheet work attempt busy debt s t tick seat c goes =
+    not_spent (core_of (state g choice sheet t)) seat c t (begun_few g choice sheet t) (let lt = tick.within in let most = s.checked.readable.ticks.at_most in omega (arith, lt, most))
+
+pub used_is_covered : UsedIsPaid
+used_is_covered g choice sheet work attempt busy debt s t moment = used_is_paid g choice s.choice_is sheet s.checked.readable s.checked.declared s.sizes t moment.within moment.before_over
+
 -- QUESTIONS
 
 -- the answer to a question of an idle seat is the plain heap's
@@ -85,14 +94,6 @@ module _ (c : State) (history : History) (h : Lawful c history) (seat : ℕ) (be
   asks (call.New dest shape) fits e = absurd (omega (arith, e))
   asks (call.Same a b) fits e = sym (same_answers c history seat below h idle a b fits.0 fits.1 _ (test_is _ _))
   asks (call.IsNull reg) fits e = sym (is_null_answers c history seat below h idle reg fits _ (test_is _ _))
-
--- a tick that goes to a task goes to a seat of the sheet
-seat_below : (choice : _) (sheet : Sheet) (m : _) (t : ℕ) (o : Turn) (seat : ℕ) → TurnIs choice sheet m t o → o ≡ to_task seat → seat < length (tasks_of sheet)
-seat_below choice sheet m t o seat (by_high s f) e = let same : s ≡ seat = cc in let high = f.high in omega (arith, high, same, count_tasks sheet)
-seat_below choice sheet m t o seat (by_operation s f) e = let same : s ≡ seat = cc in let b = f.first.low.below in omega (arith, b, same, count_tasks sheet)
-seat_below choice sheet m t o seat (by_collector f) e = absurd (cc)
-seat_below choice sheet m t o seat (by_low s f) e = let same : s ≡ seat = cc in let b = f.first.low.below in omega (arith, b, same, count_tasks sheet)
-seat_below choice sheet m t o seat (by_nobody f) e = absurd (cc)
 
 pub questions_are_answered : QuestionsAreAnswered
 questions_are_answered g choice sheet work attempt busy debt s t tick seat c goes wants =

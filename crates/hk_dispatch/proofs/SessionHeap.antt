@@ -199,7 +199,7 @@ module _ (g : Geometry) (choice : List Ready → ℕ) (choice_is : IsChoice choi
   measured_tick m t None lawful jobs count h = measured_turn choice sheet m t lawful h jobs count (turn choice sheet m t) (turn_is choice sheet m t choice_is)
   measured_tick m t (Some words) lawful jobs count h = measured_later m m t (same (core_of m)) refl refl h
 
-  measured : (t : ℕ) → IsMeasured (at t) t
+  pub measured : (t : ℕ) → IsMeasured (at t) t
   unfolding state
   measured zero = measured_first g sheet
   measured (suc t) = measured_tick (at t) t (at t).over (lawful_at g choice sheet t) (jobs_kept g choice choice_is sheet readable within sizes t) (count_at t) (measured t)

@@ -99,7 +99,7 @@ module _ (g : Geometry) (choice : List Ready → ℕ) (sheet : Sheet) (m : Momen
       let is : work_by_collector (core_of m) ≡ LiveOver words = over_is (work_by_collector (core_of m)) words e in
       let there : (r : Trace) → r ≡ traced g run.0 → NoneLate r → work_by_collector r.running.core ≡ LiveOver words → IsOver g (after (opening_of g) r.at_flip) words =
       λ r same n w. subst (λ (s : Trace). IsOver g (after (opening_of g) s.at_flip) words) (sym same)
-          (live_over_has_live g run.0 words (sym (ap (λ (s : Trace). s.late) same) ∙ n.none_late) (sym (ap (λ (s : Trace). work_by_collector s.running.core) same) ∙ w)) in
+      (live_over_has_live g run.0 words (sym (ap (λ (s : Trace). s.late) same) ∙ n.none_late) (sym (ap (λ (s : Trace). work_by_collector s.running.core) same) ∙ w)) in
       subst (λ (hist : History). IsOver g (after (opening_of g) hist) words) (sym (flip_same m.trace words is)) (there m.trace run.1 late is)
 
   cause_task : m.over ≡ None → (seat : ℕ) → HasCause g (after_task sheet m t seat)

@@ -101,3 +101,11 @@ module _ (sheet : Sheet) (m : Moment) (t : ℕ) (h : JobsKept sheet m t) where
       (λ e. idle_means (turn choice sheet m t) (turn_is choice sheet m t choice_is) e),
       (λ n. idle_where (turn choice sheet m t) (turn_is choice sheet m t choice_is) n.0 n.1),
     )
+
+-- a tick that goes to a task goes to a seat of the sheet
+pub seat_below : (choice : List Ready → ℕ) (sheet : Sheet) (m : Moment) (t : ℕ) (o : Turn) (seat : ℕ) → TurnIs choice sheet m t o → o ≡ to_task seat → seat < length (tasks_of sheet)
+seat_below choice sheet m t o seat (by_high s f) e = let same : s ≡ seat = cc in let high = f.high in omega (arith, high, same, count_tasks sheet)
+seat_below choice sheet m t o seat (by_operation s f) e = let same : s ≡ seat = cc in let b = f.first.low.below in omega (arith, b, same, count_tasks sheet)
+seat_below choice sheet m t o seat (by_collector f) e = absurd (cc)
+seat_below choice sheet m t o seat (by_low s f) e = let same : s ≡ seat = cc in let b = f.first.low.below in omega (arith, b, same, count_tasks sheet)
+seat_below choice sheet m t o seat (by_nobody f) e = absurd (cc)

@@ -1,6 +1,6 @@
 //! Laws of sessions, over definitions alone. These functions take no time; their clauses are the laws.
 ghost use Rattle.hk_dispatch.specs.Rules.{RulesApply, HighFirst, RowsRise, ReadyMomentsRise};
-ghost use Rattle.hk_dispatch.specs.Laws.{RunIsInterleaving, HistoryIsLegal, QuestionsAreAnswered, JobsAreKept, OneLowOperation, IdleExactly, DebtIsAccounted, UsefulWithin, CollectorNeverWaits, LiveOverHasCause};
+ghost use Rattle.hk_dispatch.specs.Laws.{RunIsInterleaving, HistoryIsLegal, QuestionsAreAnswered, JobsAreKept, OneLowOperation, IdleExactly, DebtIsAccounted, UsefulWithin, CollectorNeverWaits, LiveOverHasCause, NoTaskIsSpent, UsedIsPaid};
 
 /// Each tick goes by one of the five rules, where it applies and none before it does: to a high task exactly where one has a
 /// ready job, and then to that of the row which the choice names. The rows that the choice is told rise, and the jobs of a
@@ -33,9 +33,10 @@ pub fn idle_exactly()
 {}
 
 /// The events of the collector and those that it owes are the rate for each word taken, and the events of the attempts that it
-/// lost.
+/// lost. The rate for each word used since the last flip is at most the useful events of the cycle and what is owed.
 pub fn debt_is_accounted()
-    ensures { DebtIsAccounted }
+    ensures account { DebtIsAccounted }
+    ensures paid { UsedIsPaid }
 {}
 
 /// At its ticks the collector waits for no call and never runs out of cycles, and the useful events of a cycle are at most the
@@ -49,4 +50,9 @@ pub fn collector_never_waits()
 /// in the heap that never collects than the sheet declares.
 pub fn live_over_has_cause()
     ensures { LiveOverHasCause }
+{}
+
+/// No task of a run is refused a call since it has begun as many as it can.
+pub fn no_task_is_spent()
+    ensures { NoTaskIsSpent }
 {}

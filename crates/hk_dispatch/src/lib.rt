@@ -12,7 +12,7 @@ mod tick;
 pub use hk_plan::Ready;
 pub use laws::{
     collector_never_waits, debt_is_accounted, heap_is_legal, idle_exactly, jobs_keep_scripts,
-    live_over_has_cause, rules_decide,
+    live_over_has_cause, no_task_is_spent, rules_decide,
 };
 pub use operation::{Left, ask, operate};
 pub use pick::{First, Pick};

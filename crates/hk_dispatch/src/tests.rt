@@ -37,22 +37,48 @@ fn question(rt: &impl Abort, heap: &OwnedHeap, seat: u8, call: Call) -> Reply {
     }
 }
 
+/// The place of a task's call in flight, 0 where there is none.
+fn place(rt: &impl Abort, heap: &OwnedHeap, seat: u8) -> u8 {
+    assert!(rt; seat < heap.geometry().tasks());
+    heap.flight(seat).place
+}
+
 #[test]
 fn first_ticks(rt: HostRuntime) -> Result<(), Fail> {
     let mut heap = heap_of_three(rt.alloc())?;
     // A Clear has one place, a Move three.
-    assert_eq!(rt; first(&rt, &mut heap, 0, Call::Clear { dest: 1 }), Left::Passes(Reply::Unit));
-    assert_eq!(rt; first(&rt, &mut heap, 1, Call::Move { dest: 2, from: 0 }), Left::Stays);
-    assert_eq!(rt; heap.flight(1).place, 2);
+    assert_eq!(rt;
+        first(&rt, &mut heap, 0, Call::Clear { dest: 1 }),
+        Left::Passes(Reply::Unit)
+    );
+    assert_eq!(rt;
+        first(&rt, &mut heap, 1, Call::Move { dest: 2, from: 0 }),
+        Left::Stays
+    );
+    assert_eq!(rt; place(&rt, &heap, 1), 2);
     // What can't be begun takes the tick, and leaves nothing in flight: register 1 is null, and the board has no field 1.
-    let null = Call::Load { dest: 2, reg: 1, field: 0 };
+    let null = Call::Load {
+        dest: 2,
+        reg: 1,
+        field: 0,
+    };
     assert_eq!(rt; first(&rt, &mut heap, 2, null), Left::Faults(Fault::Nil));
-    let beyond = Call::Load { dest: 2, reg: 0, field: 1 };
-    assert_eq!(rt; first(&rt, &mut heap, 2, beyond), Left::Faults(Fault::Field));
-    assert_eq!(rt; heap.flight(2).place, 0);
+    let beyond = Call::Load {
+        dest: 2,
+        reg: 0,
+        field: 1,
+    };
+    assert_eq!(rt;
+        first(&rt, &mut heap, 2, beyond),
+        Left::Faults(Fault::Field)
+    );
+    assert_eq!(rt; place(&rt, &heap, 2), 0);
     // The first place of a New looks at the words used: it goes on, whether or not there are enough.
     let shape = Shape::new(1, 0).ok_or("a shape")?;
-    assert_eq!(rt; first(&rt, &mut heap, 2, Call::New { dest: 2, shape }), Left::Stays);
+    assert_eq!(rt;
+        first(&rt, &mut heap, 2, Call::New { dest: 2, shape }),
+        Left::Stays
+    );
     assert_eq!(rt; heap.words_used(), 0);
     Ok(())
 }
@@ -61,15 +87,30 @@ fn first_ticks(rt: HostRuntime) -> Result<(), Fail> {
 fn questions(rt: HostRuntime) -> Result<(), Fail> {
     let heap = heap_of_three(rt.alloc())?;
     assert_eq!(rt; question(&rt, &heap, 0, Call::IsNull { reg: 0 }), Reply::No);
-    assert_eq!(rt; question(&rt, &heap, 0, Call::IsNull { reg: 1 }), Reply::Yes);
-    assert_eq!(rt; question(&rt, &heap, 2, Call::Same { a: 1, b: 2 }), Reply::Yes);
-    assert_eq!(rt; question(&rt, &heap, 2, Call::Same { a: 0, b: 2 }), Reply::No);
+    assert_eq!(rt;
+        question(&rt, &heap, 0, Call::IsNull { reg: 1 }),
+        Reply::Yes
+    );
+    assert_eq!(rt;
+        question(&rt, &heap, 2, Call::Same { a: 1, b: 2 }),
+        Reply::Yes
+    );
+    assert_eq!(rt;
+        question(&rt, &heap, 2, Call::Same { a: 0, b: 2 }),
+        Reply::No
+    );
     Ok(())
 }
 
 /// A row of a job that has just become ready.
 fn row(task: u8, deadline: u64) -> Ready {
-    Ready { task, job: 0, arrival: 0, deadline, done: 0 }
+    Ready {
+        task,
+        job: 0,
+        arrival: 0,
+        deadline,
+        done: 0,
+    }
 }
 
 #[tactic(auto, using(crate::proofs::Begun::two_rise))]

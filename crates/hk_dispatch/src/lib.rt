@@ -17,6 +17,3 @@ pub use laws::{
 pub use operation::{Left, ask, operate};
 pub use pick::{First, Pick};
 pub use tick::{Chore, End, JobFault, Tick, Who};
-
-#[cfg(test)]
-mod tests;

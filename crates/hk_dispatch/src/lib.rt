@@ -1,7 +1,7 @@
 //! Sessions: who gets each tick. High jobs go by a choice among those that are ready; the collector pays for what was taken
 //! after them, and before low jobs go on.
 //!
-//! Today: the definitions of sessions and of what they promise, the tick of an operation, and the laws of single ticks.
+//! Today: the definitions of sessions and of what they promise, the tick of an operation, and the first laws of sessions.
 #![tactic(auto)]
 
 mod laws;

@@ -1,0 +1,15 @@
+pub mod Rows
+pub mod Tasks
+pub mod Moment
+pub mod Turns
+pub mod Ticks
+pub mod Session
+pub mod Told
+pub mod Replay
+pub mod Quiet
+pub mod HighJobs
+pub mod InStep
+pub mod Kept
+pub mod Rules
+pub mod Jobs
+pub mod Laws

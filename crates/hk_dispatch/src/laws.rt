@@ -1,0 +1,58 @@
+//! Laws of sessions, over definitions alone. These functions take no time; their clauses are the laws.
+ghost use Rattle.hk_dispatch.specs.Rules.{RulesApply, HighFirst, RowsRise, ReadyMomentsRise};
+ghost use Rattle.hk_dispatch.specs.Laws.{RunIsInterleaving, HistoryIsLegal, QuestionsAreAnswered, JobsAreKept, OneLowOperation, IdleExactly, DebtIsAccounted, UsefulWithin, CollectorNeverWaits, LiveOverHasCause, NoTaskIsSpent, UsedIsPaid};
+
+/// Each tick goes by one of the five rules, where it applies and none before it does: to a high task exactly where one has a
+/// ready job, and then to that of the row which the choice names. The rows that the choice is told rise, and the jobs of a
+/// high task become ready in their order.
+pub fn rules_decide()
+    ensures apply { RulesApply }
+    ensures high { HighFirst }
+    ensures rows { RowsRise }
+    ensures ready { ReadyMomentsRise }
+{}
+
+/// At every moment of a session the run of its heap is an interleaving of begins, steps and events; its history is legal, so
+/// each reply in it is that of the heap that never collects. So is the answer to each question.
+pub fn heap_is_legal()
+    ensures run { RunIsInterleaving }
+    ensures history { HistoryIsLegal }
+    ensures questions { QuestionsAreAnswered }
+{}
+
+/// At every moment each job is in its script, a high one within the ticks and words that its task declares; the calls in flight
+/// are in step with the jobs; and one low operation at most is in mid-course.
+pub fn jobs_keep_scripts()
+    ensures jobs { JobsAreKept }
+    ensures low { OneLowOperation }
+{}
+
+/// A tick goes to nobody exactly where no job is ready and the collector owes nothing.
+pub fn idle_exactly()
+    ensures { IdleExactly }
+{}
+
+/// The events of the collector and those that it owes are the rate for each word taken, and the events of the attempts that it
+/// lost. The rate for each word used since the last flip is at most the useful events of the cycle and what is owed.
+pub fn debt_is_accounted()
+    ensures account { DebtIsAccounted }
+    ensures paid { UsedIsPaid }
+{}
+
+/// At its ticks the collector waits for no call and never runs out of cycles, and the useful events of a cycle are at most the
+/// number of the analysis.
+pub fn collector_never_waits()
+    ensures waits { CollectorNeverWaits }
+    ensures useful { UsefulWithin }
+{}
+
+/// The collector finds more words reserved than the space has for evacuation only where more words were live, at the last flip,
+/// in the heap that never collects than the sheet declares.
+pub fn live_over_has_cause()
+    ensures { LiveOverHasCause }
+{}
+
+/// No task of a run is refused a call since it has begun as many as it can.
+pub fn no_task_is_spent()
+    ensures { NoTaskIsSpent }
+{}

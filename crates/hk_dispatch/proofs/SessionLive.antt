@@ -149,5 +149,5 @@ module _ (g : Geometry) (choice : List Ready → ℕ) (choice_is : IsChoice choi
       let o = has_cause t words e in
       let live : g.live ≡ sheet.heap.live = sizes.live in (
         subst (λ n. n < words) live o.found,
-        subst (λ n. LiveExceeds g (flip_heap g (at t)) n) live o.live,
+        subst (λ n. LiveExceeds g (flip_heap g (at t)) n) live o.exceeds,
       )

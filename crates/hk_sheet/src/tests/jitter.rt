@@ -103,7 +103,7 @@ fn reads_jitter(rt: HostRuntime) -> Result<(), Fail> {
         ],
     )?;
     let sheet = read(rt.alloc(), text.as_bytes())?;
-    let high = &sheet.high.items[0];
+    let high = sheet.high.items.first().ok_or("a high task")?;
     assert_eq!(rt; (high.timing.jitter, high.lag), (3, 3));
     assert_eq!(rt;
         [high.ready(0), high.ready(1), high.ready(2), high.ready(3)],
@@ -116,7 +116,7 @@ fn reads_jitter(rt: HostRuntime) -> Result<(), Fail> {
 fn reads_no_jitter(rt: HostRuntime) -> Result<(), Fail> {
     let text = edited(&rt, rt.alloc(), &[])?;
     let sheet = read(rt.alloc(), text.as_bytes())?;
-    let high = &sheet.high.items[0];
+    let high = sheet.high.items.first().ok_or("a high task")?;
     assert_eq!(rt; (high.timing.jitter, high.lag), (0, 0));
     assert_eq!(rt; [high.ready(0), high.ready(2)], [Some(6), Some(28)]);
     Ok(())

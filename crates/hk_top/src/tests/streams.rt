@@ -91,8 +91,8 @@ fn leaves_a_prefix_of_a_longer_report(rt: HostRuntime) -> Result<(), Fail> {
         rt.alloc(),
         "heap work 4179 attempt 0 busy 2 debt 0\nhigh a response 2 deadline 10\n",
     )?;
-    for job in 0..4000 {
-        let tick = 10 * job + 1;
+    for job in 0..4000_u32 {
+        let tick = 10 * u64::from(job) + 1;
         text.push_str(format!(in rt.alloc(); "out {tick} a 0\n")?.as_str())?;
     }
     text.push_str("done a jobs 4000 latest 2\ncycles 0 collector 0 idle 32000\nend 40000\n")?;

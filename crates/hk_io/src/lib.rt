@@ -44,8 +44,8 @@ pub enum Status {
     Sheet,
     /// The sheet is not admitted. One line was written.
     NotAdmitted,
-    /// The sheet is admitted, and sheets like it aren't run yet. One line was written.
-    NotBuilt,
+    /// The collector found more words live than the sheet declares, and the run ended there. The whole text was written.
+    Live,
 }
 
 impl Status {
@@ -61,7 +61,7 @@ impl Status {
             Status::WriteFault => 4,
             Status::Sheet => 5,
             Status::NotAdmitted => 6,
-            Status::NotBuilt => 9,
+            Status::Live => 7,
         }
     }
 }

@@ -1,8 +1,7 @@
 -- Words and bytes call for one end, and for one text.
-use Rattle.std.proofs.Common.{◌≡◌, ◌≢◌, ℕ, ◌-◌, ◌<◌, ◌≤◌, ◌⊎◌, inl, inr, true, List, ◌++◌, length, Result, Ok, Err, refl, sym, ap, ◌∙◌, subst, arith, slice_index, String, Global}
-use Rattle.std.proofs.lemmas.Bool.{both_ways}
+use Rattle.std.proofs.Common.{◌≡◌, ◌≢◌, ℕ, ◌-◌, ◌<◌, ◌≤◌, ◌⊎◌, inl, inr, List, [], ◌∷◌, ◌++◌, length, Result, Ok, Err, refl, sym, ap, ◌∙◌, subst, arith, slice_index, String, Global}
 use Rattle.std.proofs.lemmas.Grind.{same_number_lists}
-use Rattle.std.specs.Prelude.{unwrap_or}
+use Rattle.std.specs.Prelude.{unwrap_or, codes}
 use Rattle.toml.specs.Data.{Members}
 use Rattle.hk_io.specs.declared.Status.{Status}
 use Rattle.hk_io.specs.declared.Status.TheVariants as status
@@ -12,7 +11,7 @@ use Rattle.hk_sheet.specs.declared.error.SheetError.{SheetError}
 use Rattle.hk_sheet.specs.declared.error.SheetError.TheVariants as unread
 use Rattle.hk_sheet.specs.declared.sheet.Sheet.{Sheet}
 use Rattle.hk_sheet.specs.Answers.{IsDocument, IsRead, Answers}
-use Rattle.hk_sheet.specs.Faults.{sheet_of}
+use Rattle.hk_sheet.specs.Faults.{sheet_of, sizes_of}
 use Rattle.hk_admit.specs.declared.checked.Admitted.{Admitted}
 use Rattle.hk_admit.specs.declared.refused.Refused.{Refused}
 use Rattle.hk_admit.specs.declared.refused.Refused.TheVariants as refused
@@ -21,11 +20,19 @@ use Rattle.hk_admit.specs.Conditions.{AreResponses}
 use Rattle.hk_admit.specs.Refusals.{IsRefusal}
 use Rattle.hk_admit.proofs.Excluded.{admitted_excludes, one_busy}
 use Rattle.hk_admit.proofs.Unique.{one_refusal}
+use Rattle.hk_words.specs.declared.geometry.Geometry.{Geometry}
+use Rattle.hk_words.specs.Geometry.{HasSizes}
+use Rattle.hk_words.proofs.OneGeometry.{one_geometry}
+use Rattle.hk_plan.specs.AloneBy.{least_task}
+use Rattle.hk_top.specs.declared.report.Form.{Form}
+use Rattle.hk_top.specs.declared.report.Finish.{Finish}
+use Rattle.hk_top.specs.declared.report.Finish.TheVariants as finish
+use Rattle.hk_top.specs.declared.tool.Command.{Command}
+use Rattle.hk_top.specs.declared.tool.Command.TheVariants as command
 use Rattle.hk_top.specs.Refusals.{usage_line, sheet_line, refused_line}
-use Rattle.hk_top.specs.Report.{high_lines, low_lines, ticks_text, closing, analysis, report}
-use Rattle.hk_top.specs.Session.{state}
-use Rattle.hk_top.specs.Text.{heap_line}
-use Rattle.hk_top.specs.Tool.{IsRun, is_unbuilt, IsSheetOf, IsNoSheet, IsUnread, too_long, no_sheet, IsNotAdmitted, IsNotBuilt, IsReport, BytesCallFor, CallsFor}
+use Rattle.hk_top.specs.Report.{analysis, IsRunText}
+use Rattle.hk_top.specs.Tool.{analysis_of, Asks, check, run, trace, IsAsked, IsSheetOf, IsNoSheet, IsUnread, too_long, no_sheet, IsNotAdmitted, IsAnalysis, IsReport, IsDone, IsLive, BytesCallFor, CallsFor}
+use Rattle.hk_top.proofs.OneRun.{one_run}
 
 -- A SHEET
 
@@ -103,11 +110,6 @@ none_admitted bytes text a n x =
     n.told (admitted_excludes a.checked.sheet a.checked.work a.checked.attempt a.checked.busy a.checked.debt a.responses n.why a.checked.sound a.in_time
     (subst (λ s. IsRefusal s n.why) same n.refusal))
 
-none_built : (bytes text other : List ℕ) → IsNotBuilt bytes text → IsReport bytes other → ⊥
-none_built bytes text other n r =
-    let same = one_sheet bytes n.admitted.checked.sheet r.admitted.checked.sheet n.is r.is in
-    both_ways (is_unbuilt r.admitted.checked.sheet) r.built (subst (λ s. is_unbuilt s ≡ true) same n.unbuilt)
-
 -- THE TEXTS
 
 one_unread : (bytes t t' : List ℕ) → IsUnread bytes t → IsUnread bytes t' → t ≡ t'
@@ -138,19 +140,9 @@ one_responses tasks rs qs a b = same_number_lists rs qs (a.whole ∙ sym b.whole
         let since = q.after_jitter in
         omega (arith, first, second, from, since)
 
--- a report by the numbers in it
-report_by : Sheet → (work attempt busy debt : ℕ) → (responses : List ℕ) → List ℕ
-report_by sheet work attempt busy debt responses =
-    heap_line work attempt busy debt ++ high_lines sheet.high responses ++ low_lines sheet.low
-    ++ ticks_text sheet sheet.ticks ++ closing sheet (state sheet sheet.ticks)
-
-report_is : (a : Admitted) → report a ≡ report_by a.checked.sheet a.checked.work a.checked.attempt a.checked.busy a.checked.debt a.responses
-unfolding report analysis report_by
-report_is a = refl
-
--- a sheet that is admitted has one report
-same_report : (a b : Admitted) → a.checked.sheet ≡ b.checked.sheet → report a ≡ report b
-same_report a b same =
+-- a sheet that is admitted has one analysis
+same_analysis : (a b : Admitted) → a.checked.sheet ≡ b.checked.sheet → analysis_of a ≡ analysis_of b
+same_analysis a b same =
     let x = a.checked.sound in
     let y = b.checked.sound in
     let sheet = b.checked.sheet in
@@ -160,83 +152,143 @@ same_report a b same =
     let debt : a.checked.debt ≡ b.checked.debt = x.debt_is ∙ ap (λ s. most_owed s a.checked.busy) same ∙ ap (most_owed sheet) busy ∙ sym y.debt_is in
     let responses : a.responses ≡ b.responses =
     one_responses (timings_of sheet.high) a.responses b.responses (subst (λ (s : Sheet). AreResponses (timings_of s.high) a.responses) same a.in_time) b.in_time in
-    report_is a
-    ∙ ap (λ s. report_by s a.checked.work a.checked.attempt a.checked.busy a.checked.debt a.responses) same
-    ∙ ap (λ n. report_by sheet n a.checked.attempt a.checked.busy a.checked.debt a.responses) work
-    ∙ ap (λ n. report_by sheet b.checked.work n a.checked.busy a.checked.debt a.responses) attempt
-    ∙ ap (λ n. report_by sheet b.checked.work b.checked.attempt n a.checked.debt a.responses) busy
-    ∙ ap (λ n. report_by sheet b.checked.work b.checked.attempt b.checked.busy n a.responses) debt
-    ∙ ap (report_by sheet b.checked.work b.checked.attempt b.checked.busy b.checked.debt) responses
-    ∙ sym (report_is b)
+    ap (λ s. analysis s a.checked.work a.checked.attempt a.checked.busy a.checked.debt a.responses) same
+    ∙ ap (λ n. analysis sheet n a.checked.attempt a.checked.busy a.checked.debt a.responses) work
+    ∙ ap (λ n. analysis sheet b.checked.work n a.checked.busy a.checked.debt a.responses) attempt
+    ∙ ap (λ n. analysis sheet b.checked.work b.checked.attempt n a.checked.debt a.responses) busy
+    ∙ ap (λ n. analysis sheet b.checked.work b.checked.attempt b.checked.busy n a.responses) debt
+    ∙ ap (analysis sheet b.checked.work b.checked.attempt b.checked.busy b.checked.debt) responses
 
-one_report : (bytes t t' : List ℕ) → IsReport bytes t → IsReport bytes t' → t ≡ t'
-one_report bytes t t' a b =
-    a.text_is ∙ same_report a.admitted b.admitted (one_sheet bytes a.admitted.checked.sheet b.admitted.checked.sheet a.is b.is) ∙ sym b.text_is
+one_analysis : (bytes t t' : List ℕ) → IsAnalysis bytes t → IsAnalysis bytes t' → t ≡ t'
+one_analysis bytes t t' a b =
+    a.text_is ∙ same_analysis a.admitted b.admitted (one_sheet bytes a.admitted.checked.sheet b.admitted.checked.sheet a.is b.is) ∙ sym b.text_is
+
+-- and one report, with one end
+one_report : (f : Form) (bytes : List ℕ) (end end' : Finish) (t t' : List ℕ) → IsReport f bytes end t → IsReport f bytes end' t' → (end ≡ end') × (t ≡ t')
+one_report f bytes end end' t t' a b =
+    let same = one_sheet bytes a.admitted.checked.sheet b.admitted.checked.sheet a.is b.is in
+    let sheet = b.admitted.checked.sheet in
+    let geometry : a.geometry ≡ b.geometry = one_geometry a.geometry b.geometry (sizes_of sheet) (subst (λ (s : Sheet). HasSizes a.geometry (sizes_of s)) same a.sizes) b.sizes in
+    let here : IsRunText f b.geometry least_task sheet end a.run =
+    subst (λ g. IsRunText f g least_task sheet end a.run) geometry (subst (λ (s : Sheet). IsRunText f a.geometry least_task s end a.run) same a.run_is) in
+    let one = one_run b.geometry least_task sheet f end end' a.run b.run here b.run_is in
+    (one.0, a.text_is ∙ ap (λ x. x ++ a.run) (same_analysis a.admitted b.admitted same) ∙ ap (λ x. analysis_of b.admitted ++ x) one.1 ∙ sym b.text_is)
 
 -- THE END AND THE TEXT
 
-one_bytes : (bytes : List ℕ) (s s' : Status) (t t' : List ℕ) → BytesCallFor bytes s t → BytesCallFor bytes s' t' → (s ≡ s') × (t ≡ t')
-one_bytes bytes status.Done status.Done t t' a b = (refl, one_report bytes t t' a b)
-one_bytes bytes status.Done status.Memory t t' a b = absurd b
-one_bytes bytes status.Done status.Usage t t' a b = absurd b
-one_bytes bytes status.Done status.ReadFault t t' a b = absurd b
-one_bytes bytes status.Done status.WriteFault t t' a b = absurd b
-one_bytes bytes status.Done status.Sheet t t' a b = absurd (none_read bytes t' a.admitted.checked.sheet b a.is)
-one_bytes bytes status.Done status.NotAdmitted t t' a b = absurd (none_admitted bytes t' a.admitted b a.is)
-one_bytes bytes status.Done status.NotBuilt t t' a b = absurd (none_built bytes t' t b a)
-one_bytes bytes status.Memory s' t t' a b = absurd a
-one_bytes bytes status.Usage s' t t' a b = absurd a
-one_bytes bytes status.ReadFault s' t t' a b = absurd a
-one_bytes bytes status.WriteFault s' t t' a b = absurd a
-one_bytes bytes status.Sheet status.Done t t' a b = absurd (none_read bytes t b.admitted.checked.sheet a b.is)
-one_bytes bytes status.Sheet status.Memory t t' a b = absurd b
-one_bytes bytes status.Sheet status.Usage t t' a b = absurd b
-one_bytes bytes status.Sheet status.ReadFault t t' a b = absurd b
-one_bytes bytes status.Sheet status.WriteFault t t' a b = absurd b
-one_bytes bytes status.Sheet status.Sheet t t' a b = (refl, one_unread bytes t t' a b)
-one_bytes bytes status.Sheet status.NotAdmitted t t' a b = absurd (none_read bytes t b.sheet a b.is)
-one_bytes bytes status.Sheet status.NotBuilt t t' a b = absurd (none_read bytes t b.admitted.checked.sheet a b.is)
-one_bytes bytes status.NotAdmitted status.Done t t' a b = absurd (none_admitted bytes t b.admitted a b.is)
-one_bytes bytes status.NotAdmitted status.Memory t t' a b = absurd b
-one_bytes bytes status.NotAdmitted status.Usage t t' a b = absurd b
-one_bytes bytes status.NotAdmitted status.ReadFault t t' a b = absurd b
-one_bytes bytes status.NotAdmitted status.WriteFault t t' a b = absurd b
-one_bytes bytes status.NotAdmitted status.Sheet t t' a b = absurd (none_read bytes t' a.sheet b a.is)
-one_bytes bytes status.NotAdmitted status.NotAdmitted t t' a b = (refl, one_not_admitted bytes t t' a b)
-one_bytes bytes status.NotAdmitted status.NotBuilt t t' a b = absurd (none_admitted bytes t b.admitted a b.is)
-one_bytes bytes status.NotBuilt status.Done t t' a b = absurd (none_built bytes t t' a b)
-one_bytes bytes status.NotBuilt status.Memory t t' a b = absurd b
-one_bytes bytes status.NotBuilt status.Usage t t' a b = absurd b
-one_bytes bytes status.NotBuilt status.ReadFault t t' a b = absurd b
-one_bytes bytes status.NotBuilt status.WriteFault t t' a b = absurd b
-one_bytes bytes status.NotBuilt status.Sheet t t' a b = absurd (none_read bytes t' a.admitted.checked.sheet b a.is)
-one_bytes bytes status.NotBuilt status.NotAdmitted t t' a b = absurd (none_admitted bytes t' a.admitted b a.is)
-one_bytes bytes status.NotBuilt status.NotBuilt t t' a b = (refl, a.text_is ∙ sym b.text_is)
+IsAtEnd : Finish → Type 0
+IsAtEnd finish.AtEnd = Unit {0}
+IsAtEnd (finish.Live words) = ⊥
 
--- the words are wrong
+-- an admitted sheet of the bytes, in whatever is called for
+admitted_done : (c : Command) (bytes t : List ℕ) → IsDone c bytes t → (a : Admitted) × IsSheetOf bytes a.checked.sheet
+admitted_done command.Check bytes t d = (d.admitted, d.is)
+admitted_done (command.Run f) bytes t d = (d.admitted, d.is)
+
+admitted_live : (c : Command) (bytes t : List ℕ) → IsLive c bytes t → (a : Admitted) × IsSheetOf bytes a.checked.sheet
+admitted_live command.Check bytes t d = absurd d
+admitted_live (command.Run f) bytes t d = (d.1.admitted, d.1.is)
+
+one_done : (c : Command) (bytes t t' : List ℕ) → IsDone c bytes t → IsDone c bytes t' → t ≡ t'
+one_done command.Check bytes t t' a b = one_analysis bytes t t' a b
+one_done (command.Run f) bytes t t' a b = (one_report f bytes finish.AtEnd finish.AtEnd t t' a b).1
+
+one_live : (c : Command) (bytes t t' : List ℕ) → IsLive c bytes t → IsLive c bytes t' → t ≡ t'
+one_live command.Check bytes t t' a b = absurd a
+one_live (command.Run f) bytes t t' a b = (one_report f bytes (finish.Live a.0) (finish.Live b.0) t t' a.1 b.1).1
+
+not_done_and_live : (c : Command) (bytes t t' : List ℕ) → IsDone c bytes t → IsLive c bytes t' → ⊥
+not_done_and_live command.Check bytes t t' a b = b
+not_done_and_live (command.Run f) bytes t t' a b = subst IsAtEnd (one_report f bytes finish.AtEnd (finish.Live b.0) t t' a b.1).0 tt
+
+unread_and_admitted : (bytes t : List ℕ) → IsUnread bytes t → ((a : Admitted) × IsSheetOf bytes a.checked.sheet) → ⊥
+unread_and_admitted bytes t u x = none_read bytes t x.0.checked.sheet u x.1
+
+refused_and_admitted : (bytes t : List ℕ) → IsNotAdmitted bytes t → ((a : Admitted) × IsSheetOf bytes a.checked.sheet) → ⊥
+refused_and_admitted bytes t n x = none_admitted bytes t x.0 n x.1
+
+one_bytes : (c : Command) (bytes : List ℕ) (s s' : Status) (t t' : List ℕ) → BytesCallFor c bytes s t → BytesCallFor c bytes s' t' → (s ≡ s') × (t ≡ t')
+one_bytes c bytes status.Done status.Done t t' a b = (refl, one_done c bytes t t' a b)
+one_bytes c bytes status.Done status.Memory t t' a b = absurd b
+one_bytes c bytes status.Done status.Usage t t' a b = absurd b
+one_bytes c bytes status.Done status.ReadFault t t' a b = absurd b
+one_bytes c bytes status.Done status.WriteFault t t' a b = absurd b
+one_bytes c bytes status.Done status.Sheet t t' a b = absurd (unread_and_admitted bytes t' b (admitted_done c bytes t a))
+one_bytes c bytes status.Done status.NotAdmitted t t' a b = absurd (refused_and_admitted bytes t' b (admitted_done c bytes t a))
+one_bytes c bytes status.Done status.Live t t' a b = absurd (not_done_and_live c bytes t t' a b)
+one_bytes c bytes status.Memory s' t t' a b = absurd a
+one_bytes c bytes status.Usage s' t t' a b = absurd a
+one_bytes c bytes status.ReadFault s' t t' a b = absurd a
+one_bytes c bytes status.WriteFault s' t t' a b = absurd a
+one_bytes c bytes status.Sheet status.Done t t' a b = absurd (unread_and_admitted bytes t a (admitted_done c bytes t' b))
+one_bytes c bytes status.Sheet status.Memory t t' a b = absurd b
+one_bytes c bytes status.Sheet status.Usage t t' a b = absurd b
+one_bytes c bytes status.Sheet status.ReadFault t t' a b = absurd b
+one_bytes c bytes status.Sheet status.WriteFault t t' a b = absurd b
+one_bytes c bytes status.Sheet status.Sheet t t' a b = (refl, one_unread bytes t t' a b)
+one_bytes c bytes status.Sheet status.NotAdmitted t t' a b = absurd (none_read bytes t b.sheet a b.is)
+one_bytes c bytes status.Sheet status.Live t t' a b = absurd (unread_and_admitted bytes t a (admitted_live c bytes t' b))
+one_bytes c bytes status.NotAdmitted status.Done t t' a b = absurd (refused_and_admitted bytes t a (admitted_done c bytes t' b))
+one_bytes c bytes status.NotAdmitted status.Memory t t' a b = absurd b
+one_bytes c bytes status.NotAdmitted status.Usage t t' a b = absurd b
+one_bytes c bytes status.NotAdmitted status.ReadFault t t' a b = absurd b
+one_bytes c bytes status.NotAdmitted status.WriteFault t t' a b = absurd b
+one_bytes c bytes status.NotAdmitted status.Sheet t t' a b = absurd (none_read bytes t' a.sheet b a.is)
+one_bytes c bytes status.NotAdmitted status.NotAdmitted t t' a b = (refl, one_not_admitted bytes t t' a b)
+one_bytes c bytes status.NotAdmitted status.Live t t' a b = absurd (refused_and_admitted bytes t a (admitted_live c bytes t' b))
+one_bytes c bytes status.Live status.Done t t' a b = absurd (not_done_and_live c bytes t' t b a)
+one_bytes c bytes status.Live status.Memory t t' a b = absurd b
+one_bytes c bytes status.Live status.Usage t t' a b = absurd b
+one_bytes c bytes status.Live status.ReadFault t t' a b = absurd b
+one_bytes c bytes status.Live status.WriteFault t t' a b = absurd b
+one_bytes c bytes status.Live status.Sheet t t' a b = absurd (unread_and_admitted bytes t' b (admitted_live c bytes t a))
+one_bytes c bytes status.Live status.NotAdmitted t t' a b = absurd (refused_and_admitted bytes t' b (admitted_live c bytes t a))
+one_bytes c bytes status.Live status.Live t t' a b = (refl, one_live c bytes t t' a b)
+
+-- THE WORDS. They ask for one thing at most
+codes_apart : (words : List (List ℕ)) (x y : List (List ℕ)) → words ≡ x → words ≡ y → x ≡ y
+codes_apart words x y a b = sym a ∙ b
+
+one_command : (words : List (String Global)) (c d : Command) → Asks words c → Asks words d → c ≡ d
+one_command words c d (check a) (check b) = refl
+one_command words c d (check a) (run b) = absurd (let e : codes "check" ∷ [] ≡ codes "run" ∷ [] = sym a ∙ b in cc)
+one_command words c d (check a) (trace b) = absurd (let e : codes "check" ∷ [] ≡ codes "run" ∷ codes "--trace" ∷ [] = sym a ∙ b in cc)
+one_command words c d (run a) (check b) = absurd (let e : codes "run" ∷ [] ≡ codes "check" ∷ [] = sym a ∙ b in cc)
+one_command words c d (run a) (run b) = refl
+one_command words c d (run a) (trace b) = absurd (let e : codes "run" ∷ [] ≡ codes "run" ∷ codes "--trace" ∷ [] = sym a ∙ b in cc)
+one_command words c d (trace a) (check b) = absurd (let e : codes "run" ∷ codes "--trace" ∷ [] ≡ codes "check" ∷ [] = sym a ∙ b in cc)
+one_command words c d (trace a) (run b) = absurd (let e : codes "run" ∷ codes "--trace" ∷ [] ≡ codes "run" ∷ [] = sym a ∙ b in cc)
+one_command words c d (trace a) (trace b) = refl
+
+-- the words ask for nothing
 record IsWrong (words : List (String Global)) (s : Status) (t : List ℕ) : Type 0 where
   usage : s ≡ status.Usage
-  wrong : ¬ (IsRun words)
+  wrong : ¬ (IsAsked words)
   line : t ≡ usage_line
 
-parted : (words : List (String Global)) (bytes : List ℕ) (s : Status) (t : List ℕ) → CallsFor words bytes s t
-    → IsWrong words s t ⊎ (IsRun words × BytesCallFor bytes s t)
-parted words bytes status.Done t called = inr (called.0, called.1)
-parted words bytes status.Memory t called = inr (called.0, called.1)
+-- they ask for this
+record IsRight (words : List (String Global)) (bytes : List ℕ) (s : Status) (t : List ℕ) : Type 0 where
+  command : Command
+  asks : Asks words command
+  called : BytesCallFor command bytes s t
+
+parted : (words : List (String Global)) (bytes : List ℕ) (s : Status) (t : List ℕ) → CallsFor words bytes s t → IsWrong words s t ⊎ IsRight words bytes s t
+parted words bytes status.Done t called = inr (record { command = called.0; asks = called.1; called = called.2 })
+parted words bytes status.Memory t called = inr (record { command = called.0; asks = called.1; called = called.2 })
 parted words bytes status.Usage t called = inl (record { usage = refl; wrong = called.0; line = called.1 })
-parted words bytes status.ReadFault t called = inr (called.0, called.1)
-parted words bytes status.WriteFault t called = inr (called.0, called.1)
-parted words bytes status.Sheet t called = inr (called.0, called.1)
-parted words bytes status.NotAdmitted t called = inr (called.0, called.1)
-parted words bytes status.NotBuilt t called = inr (called.0, called.1)
+parted words bytes status.ReadFault t called = inr (record { command = called.0; asks = called.1; called = called.2 })
+parted words bytes status.WriteFault t called = inr (record { command = called.0; asks = called.1; called = called.2 })
+parted words bytes status.Sheet t called = inr (record { command = called.0; asks = called.1; called = called.2 })
+parted words bytes status.NotAdmitted t called = inr (record { command = called.0; asks = called.1; called = called.2 })
+parted words bytes status.Live t called = inr (record { command = called.0; asks = called.1; called = called.2 })
 
 -- words and bytes call for one end and one text
 pub one_call : (words : List (String Global)) (bytes : List ℕ) (s s' : Status) (t t' : List ℕ) → CallsFor words bytes s t → CallsFor words bytes s' t' → (s ≡ s') × (t ≡ t')
 one_call words bytes s s' t t' a b = go (parted words bytes s t a) (parted words bytes s' t' b)
   where
-    go : IsWrong words s t ⊎ (IsRun words × BytesCallFor bytes s t)
-        → IsWrong words s' t' ⊎ (IsRun words × BytesCallFor bytes s' t') → (s ≡ s') × (t ≡ t')
+    go : IsWrong words s t ⊎ IsRight words bytes s t → IsWrong words s' t' ⊎ IsRight words bytes s' t' → (s ≡ s') × (t ≡ t')
     go (inl x) (inl y) = (x.usage ∙ sym y.usage, x.line ∙ sym y.line)
-    go (inl x) (inr y) = absurd (x.wrong y.0)
-    go (inr x) (inl y) = absurd (y.wrong x.0)
-    go (inr x) (inr y) = one_bytes bytes s s' t t' x.1 y.1
+    go (inl x) (inr y) = absurd (x.wrong (y.command, y.asks))
+    go (inr x) (inl y) = absurd (y.wrong (x.command, x.asks))
+    go (inr x) (inr y) =
+        one_bytes y.command bytes s s' t t' (subst (λ c. BytesCallFor c bytes s t) (one_command words x.command y.command x.asks y.asks) x.called) y.called

@@ -81,27 +81,42 @@ module _ (Calls : Status → List ℕ → Type 0) (before after : Option (List �
     later = ends.later;
   }
 
--- an admitted sheet of these bytes
-pub admitted_calls : (bytes : List ℕ) (a : Admitted) → IsSheetOf bytes a.checked.sheet → (s : Status) (t : List ℕ) → AdmittedCallsFor a s t → BytesCallFor bytes s t
-admitted_calls bytes a is status.Done t called = record { admitted = a; is = is; built = called.0; keeps = admitted_keeps_schedule a called.0; text_is = called.1 }
-admitted_calls bytes a is status.Memory t called = absurd called
-admitted_calls bytes a is status.Usage t called = absurd called
-admitted_calls bytes a is status.ReadFault t called = absurd called
-admitted_calls bytes a is status.WriteFault t called = absurd called
-admitted_calls bytes a is status.Sheet t called = absurd called
-admitted_calls bytes a is status.NotAdmitted t called = absurd called
-admitted_calls bytes a is status.NotBuilt t called = record { admitted = a; is = is; unbuilt = called.0; text_is = called.1 }
+-- the analysis of an admitted sheet of these bytes
+pub checked_calls : (bytes : List ℕ) (a : Admitted) → IsSheetOf bytes a.checked.sheet → (s : Status) (t : List ℕ) → (s ≡ status.Done) × (t ≡ analysis_of a)
+    → BytesCallFor command.Check bytes s t
+checked_calls bytes a is s t called = subst (λ s. BytesCallFor command.Check bytes s t) (sym called.0) (record { admitted = a; is = is; text_is = called.1 })
 
--- the words are `run`
-pub run_calls : (words : List (String Global)) (bytes : List ℕ) → IsRun words → (s : Status) (t : List ℕ) → BytesCallFor bytes s t → CallsFor words bytes s t
-run_calls words bytes run status.Done t called = (run, called)
-run_calls words bytes run status.Memory t called = absurd called
-run_calls words bytes run status.Usage t called = absurd called
-run_calls words bytes run status.ReadFault t called = absurd called
-run_calls words bytes run status.WriteFault t called = absurd called
-run_calls words bytes run status.Sheet t called = (run, called)
-run_calls words bytes run status.NotAdmitted t called = (run, called)
-run_calls words bytes run status.NotBuilt t called = (run, called)
+-- its report
+report_of : (f : Form) (bytes : List ℕ) (a : Admitted) → IsSheetOf bytes a.checked.sheet → (s : Status) (t : List ℕ) (called : AdmittedCallsFor f a s t) → IsReport f bytes called.finish t
+report_of f bytes a is s t called = record {
+  admitted = a;
+  is = is;
+  geometry = called.geometry;
+  sizes = called.sizes;
+  headline = headline a called.geometry called.sizes;
+  run = called.run;
+  run_is = called.run_is;
+  text_is = called.text_is;
+}
+
+pub admitted_calls : (f : Form) (bytes : List ℕ) (a : Admitted) → IsSheetOf bytes a.checked.sheet → (s : Status) (t : List ℕ) → AdmittedCallsFor f a s t
+    → BytesCallFor (command.Run f) bytes s t
+admitted_calls f bytes a is s t called = subst (λ s. BytesCallFor (command.Run f) bytes s t) (sym called.ended_is) (by_finish called.finish (report_of f bytes a is s t called))
+  where
+    by_finish : (end : Finish) → IsReport f bytes end t → BytesCallFor (command.Run f) bytes (status_of end) t
+    by_finish finish.AtEnd report = report
+    by_finish (finish.Live words) report = (words, report)
+
+-- the words ask for this
+pub asked_calls : (words : List (String Global)) (bytes : List ℕ) (c : Command) → Asks words c → (s : Status) (t : List ℕ) → BytesCallFor c bytes s t → CallsFor words bytes s t
+asked_calls words bytes c asks status.Done t called = (c, asks, called)
+asked_calls words bytes c asks status.Memory t called = absurd called
+asked_calls words bytes c asks status.Usage t called = absurd called
+asked_calls words bytes c asks status.ReadFault t called = absurd called
+asked_calls words bytes c asks status.WriteFault t called = absurd called
+asked_calls words bytes c asks status.Sheet t called = (c, asks, called)
+asked_calls words bytes c asks status.NotAdmitted t called = (c, asks, called)
+asked_calls words bytes c asks status.Live t called = (c, asks, called)
 
 -- THE TOP CALL
 
@@ -131,7 +146,7 @@ complete words (Some left) before after ended whole not_read not_write = λ s t 
     by_end status.WriteFault e s t called = absurd (not_write e)
     by_end status.Sheet e s t called = inl (writing (whole (subst HasText (sym e) tt)) s t called)
     by_end status.NotAdmitted e s t called = inl (writing (whole (subst HasText (sym e) tt)) s t called)
-    by_end status.NotBuilt e s t called = inl (writing (whole (subst HasText (sym e) tt)) s t called)
+    by_end status.Live e s t called = inl (writing (whole (subst HasText (sym e) tt)) s t called)
 
 -- what was read of an input that is too long
 pub long_input : (before after : Option (List ℕ)) → ConsumesFront before after (λ count. count ≡ longest_input + 1) → (bytes : List ℕ) × IfSome before (λ left. bytes ≡ left) × (longest_input < length bytes)
@@ -148,19 +163,19 @@ any_input None = ([], tt)
 any_input (Some left) = (left, refl)
 
 -- why bytes are no sheet
-pub sheet_refused : (before after : Option (List ℕ)) (faults faults_after : ℕ) (bytes : List ℕ) (error : SheetError) (written : Result (Unit {0}) Failed) (result : Status)
+pub sheet_refused : (before after : Option (List ℕ)) (faults faults_after : ℕ) (c : Command) (bytes : List ℕ) (error : SheetError) (written : Result (Unit {0}) Failed) (result : Status)
     → length bytes ≤ longest_input → Answers bytes (Err error) → error ≢ unread.Memory → Puts before after faults faults_after (sheet_line error) written
-    → MatchResult written (λ _. result ≡ status.Sheet) (λ _. result ≡ status.WriteFault) → EndsBy (BytesCallFor bytes) before after faults faults_after result
-sheet_refused before after faults faults_after bytes error written result short answers told puts is =
-    ends_written (BytesCallFor bytes) before after faults faults_after status.Sheet (sheet_line error) written result tt
+    → MatchResult written (λ _. result ≡ status.Sheet) (λ _. result ≡ status.WriteFault) → EndsBy (BytesCallFor c bytes) before after faults faults_after result
+sheet_refused before after faults faults_after c bytes error written result short answers told puts is =
+    ends_written (BytesCallFor c bytes) before after faults faults_after status.Sheet (sheet_line error) written result tt
     (no_sheet error (record { short = short; told = told; answers = answers }) refl) puts is
 
 -- why a sheet isn't admitted
-pub admission_refused : (before after : Option (List ℕ)) (faults faults_after : ℕ) (bytes : List ℕ) (sheet : Sheet) (why : Refused) (written : Result (Unit {0}) Failed) (result : Status)
+pub admission_refused : (before after : Option (List ℕ)) (faults faults_after : ℕ) (c : Command) (bytes : List ℕ) (sheet : Sheet) (why : Refused) (written : Result (Unit {0}) Failed) (result : Status)
     → IsSheetOf bytes sheet → IsRefusal sheet why → why ≢ refused.Memory → Puts before after faults faults_after (refused_line why) written
-    → MatchResult written (λ _. result ≡ status.NotAdmitted) (λ _. result ≡ status.WriteFault) → EndsBy (BytesCallFor bytes) before after faults faults_after result
-admission_refused before after faults faults_after bytes sheet why written result is refusal told puts ended =
-    ends_written (BytesCallFor bytes) before after faults faults_after status.NotAdmitted (refused_line why) written result tt
+    → MatchResult written (λ _. result ≡ status.NotAdmitted) (λ _. result ≡ status.WriteFault) → EndsBy (BytesCallFor c bytes) before after faults faults_after result
+admission_refused before after faults faults_after c bytes sheet why written result is refusal told puts ended =
+    ends_written (BytesCallFor c bytes) before after faults faults_after status.NotAdmitted (refused_line why) written result tt
     (record { sheet = sheet; is = is; why = why; told = told; refusal = refusal; text_is = refl }) puts ended
 
 pub read_sheet : (bytes : List ℕ) (sheet : Sheet) → length bytes ≤ longest_input → Answers bytes (Ok sheet) → IsSheetOf bytes sheet

@@ -1,35 +1,53 @@
 -- What the program answers and writes, by its words and its input.
-use Rattle.std.specs.Prelude.{◌≡◌, ◌≢◌, ℕ, ◌<◌, ◌≤◌, nat_lt, Bool, true, false, ◌||◌, List, [], ◌∷◌, map, length, codes, Option, IfSome, Ok, Err, String}
+use Rattle.std.specs.Prelude.{◌≡◌, ◌≢◌, ℕ, ◌<◌, ◌≤◌, List, [], ◌∷◌, ◌++◌, map, length, codes, Option, IfSome, Ok, Err, String}
 use Rattle.std.specs.String.{string_bytes}
-use Rattle.std.specs.List.{list_any}
 use Rattle.std.specs.declared.alloc.Global.{Global}
 use Rattle.std.specs.Io.KnownBytes.{Appends}
+use Rattle.hk_words.specs.declared.geometry.Geometry.{Geometry}
+use Rattle.hk_words.specs.Geometry.{HasSizes}
 use Rattle.hk_io.specs.declared.Status.{Status}
 use Rattle.hk_io.specs.declared.Status.TheVariants as status
 use Rattle.hk_io.specs.Bytes.{AppendsPrefix}
 use Rattle.hk_io.specs.Faults.{Rose}
 use Rattle.hk_io.specs.Limits.{longest_input}
+use Rattle.hk_plan.specs.AloneBy.{least_task}
 use Rattle.hk_sheet.specs.declared.error.SheetError.{SheetError}
 use Rattle.hk_sheet.specs.declared.error.SheetError.TheVariants as unread
-use Rattle.hk_sheet.specs.declared.sheet.High.{High}
 use Rattle.hk_sheet.specs.declared.sheet.Sheet.{Sheet}
 use Rattle.hk_sheet.specs.Answers.{IsRead, Answers}
+use Rattle.hk_sheet.specs.Faults.{sizes_of}
 use Rattle.hk_admit.specs.declared.checked.Admitted.{Admitted}
 use Rattle.hk_admit.specs.declared.refused.Refused.{Refused}
 use Rattle.hk_admit.specs.declared.refused.Refused.TheVariants as refused
 use Rattle.hk_admit.specs.Refusals.{IsRefusal}
-use Rattle.hk_top.specs.Jobs.{KeepsSchedule}
-use Rattle.hk_top.specs.Local.{uses_heap}
-use Rattle.hk_top.specs.Refusals.{usage_line, long_line, not_built_line, sheet_line, refused_line}
-use Rattle.hk_top.specs.Report.{report}
+use Rattle.hk_top.specs.declared.report.Form.{Form}
+use Rattle.hk_top.specs.declared.report.Form.TheVariants as form
+use Rattle.hk_top.specs.declared.report.Finish.{Finish}
+use Rattle.hk_top.specs.declared.report.Finish.TheVariants as finish
+use Rattle.hk_top.specs.declared.tool.Command.{Command}
+use Rattle.hk_top.specs.declared.tool.Command.TheVariants as command
+use Rattle.hk_top.specs.Headline.{Headline}
+use Rattle.hk_top.specs.Refusals.{usage_line, long_line, sheet_line, refused_line}
+use Rattle.hk_top.specs.Report.{analysis, IsRunText}
 
--- the words are the one word `run`
-abbrev pub IsRun : List (String Global) → Type 0
-IsRun words = map string_bytes words ≡ codes "run" ∷ []
+-- the analysis of an admitted sheet
+abbrev pub analysis_of : Admitted → List ℕ
+analysis_of a = analysis a.checked.sheet a.checked.work a.checked.attempt a.checked.busy a.checked.debt a.responses
 
--- the run of a sheet isn't built yet: it has a low task, or a high task's script has a statement on the heap
-abbrev pub is_unbuilt : Sheet → Bool
-is_unbuilt sheet = nat_lt 0 (length sheet.low) || list_any (λ (task : High). uses_heap task.script) sheet.high
+-- how the end of a run ends the program
+abbrev pub status_of : Finish → Status
+status_of finish.AtEnd = status.Done
+status_of (finish.Live words) = status.Live
+
+-- the words ask for this: the analysis of a sheet, its run, or its run with a trace
+pub data Asks (words : List (String Global)) : Command → Type 0 where
+  check : map string_bytes words ≡ codes "check" ∷ [] → Asks words command.Check
+  run : map string_bytes words ≡ codes "run" ∷ [] → Asks words (command.Run form.Plain)
+  trace : map string_bytes words ≡ codes "run" ∷ codes "--trace" ∷ [] → Asks words (command.Run form.Trace)
+
+-- they ask for something
+abbrev pub IsAsked : List (String Global) → Type 0
+IsAsked words = (c : Command) × Asks words c
 
 -- WHAT THE BYTES CALL FOR
 
@@ -58,38 +76,49 @@ pub record IsNotAdmitted (bytes : List ℕ) (text : List ℕ) : Type 0 where
   pub refusal : IsRefusal sheet why
   pub text_is : text ≡ refused_line why
 
--- the line for bytes that are an admitted sheet whose run isn't built
-pub record IsNotBuilt (bytes : List ℕ) (text : List ℕ) : Type 0 where
+-- the analysis of bytes that are an admitted sheet
+pub record IsAnalysis (bytes : List ℕ) (text : List ℕ) : Type 0 where
   pub admitted : Admitted
   pub is : IsSheetOf bytes admitted.checked.sheet
-  pub unbuilt : is_unbuilt admitted.checked.sheet ≡ true
-  pub text_is : text ≡ not_built_line
+  pub text_is : text ≡ analysis_of admitted
 
--- the report of bytes that are an admitted sheet whose run is built. The run that it tells of keeps to the analysis that it
--- prints: each job ends exactly when a schedule of the high jobs alone ends it, and within the printed response of its
--- task. By what `Admitted` keeps, that response is the least solution of the response-time equation and at most the
--- deadline, and the printed busy period is the least
-pub record IsReport (bytes : List ℕ) (text : List ℕ) : Type 0 where
+-- The report of bytes that are an admitted sheet, of which the run ends so: the analysis, and the text of the session of the
+-- sheet, of which the headline holds. By what `Admitted` keeps, each response that is printed is the least solution of the
+-- response-time equation and at most the deadline, and the printed busy period is the least.
+pub record IsReport (f : Form) (bytes : List ℕ) (end : Finish) (text : List ℕ) : Type 0 where
   pub admitted : Admitted
   pub is : IsSheetOf bytes admitted.checked.sheet
-  pub built : is_unbuilt admitted.checked.sheet ≡ false
-  pub keeps : KeepsSchedule admitted.checked.sheet admitted.responses
-  pub text_is : text ≡ report admitted
+  pub geometry : Geometry
+  pub sizes : HasSizes geometry (sizes_of admitted.checked.sheet)
+  pub headline : Headline geometry admitted.checked.sheet admitted.responses
+  pub run : List ℕ
+  pub run_is : IsRunText f geometry least_task admitted.checked.sheet end run
+  pub text_is : text ≡ analysis_of admitted ++ run
+
+-- what was asked for was done to its end: the analysis, or a run that came to its horizon
+abbrev pub IsDone : Command → (bytes : List ℕ) → (text : List ℕ) → Type 0
+IsDone command.Check bytes text = IsAnalysis bytes text
+IsDone (command.Run f) bytes text = IsReport f bytes finish.AtEnd text
+
+-- a run stood still, since the collector found more words reserved than the space has for evacuation
+abbrev pub IsLive : Command → (bytes : List ℕ) → (text : List ℕ) → Type 0
+IsLive command.Check bytes text = ⊥
+IsLive (command.Run f) bytes text = (words : ℕ) × IsReport f bytes (finish.Live words) text
 
 -- how the program ends on these bytes, where nothing fails, and what it writes; the first that holds in the order of the
 -- refusals
-abbrev pub BytesCallFor : (bytes : List ℕ) → Status → (text : List ℕ) → Type 0
-BytesCallFor bytes status.Sheet text = IsUnread bytes text
-BytesCallFor bytes status.NotAdmitted text = IsNotAdmitted bytes text
-BytesCallFor bytes status.NotBuilt text = IsNotBuilt bytes text
-BytesCallFor bytes status.Done text = IsReport bytes text
-BytesCallFor bytes other text = ⊥
+abbrev pub BytesCallFor : Command → (bytes : List ℕ) → Status → (text : List ℕ) → Type 0
+BytesCallFor c bytes status.Sheet text = IsUnread bytes text
+BytesCallFor c bytes status.NotAdmitted text = IsNotAdmitted bytes text
+BytesCallFor c bytes status.Done text = IsDone c bytes text
+BytesCallFor c bytes status.Live text = IsLive c bytes text
+BytesCallFor c bytes other text = ⊥
 
--- WHAT THE WORDS AND THE BYTES CALL FOR: one end at most, and one text (the law `one_end_and_one_text`). Words other than the
--- one word `run` call for the usage line, whatever the bytes
+-- WHAT THE WORDS AND THE BYTES CALL FOR: one end at most, and one text (the law `one_end_and_one_text`). Words that ask for
+-- nothing call for the usage line, whatever the bytes
 abbrev pub CallsFor : List (String Global) → (bytes : List ℕ) → Status → (text : List ℕ) → Type 0
-CallsFor words bytes status.Usage text = (¬ (IsRun words)) × (text ≡ usage_line)
-CallsFor words bytes other text = IsRun words × BytesCallFor bytes other text
+CallsFor words bytes status.Usage text = (¬ (IsAsked words)) × (text ≡ usage_line)
+CallsFor words bytes other text = (c : Command) × Asks words c × BytesCallFor c bytes other text
 
 -- a program that ends so has written a text whole
 abbrev pub HasText : Status → Type 0
@@ -117,11 +146,15 @@ pub record WritesPrefix (words : List (String Global)) (input before after : Opt
 
 -- THE PARTS OF THE PROGRAM
 
--- how an admitted sheet ends the program, and what is written
-abbrev pub AdmittedCallsFor : Admitted → Status → (text : List ℕ) → Type 0
-AdmittedCallsFor admitted status.NotBuilt text = (is_unbuilt admitted.checked.sheet ≡ true) × (text ≡ not_built_line)
-AdmittedCallsFor admitted status.Done text = (is_unbuilt admitted.checked.sheet ≡ false) × (text ≡ report admitted)
-AdmittedCallsFor admitted other text = ⊥
+-- how the run of an admitted sheet ends the program, and what is written
+pub record AdmittedCallsFor (f : Form) (admitted : Admitted) (ended : Status) (text : List ℕ) : Type 0 where
+  pub geometry : Geometry
+  pub sizes : HasSizes geometry (sizes_of admitted.checked.sheet)
+  pub finish : Finish
+  pub ended_is : ended ≡ status_of finish
+  pub run : List ℕ
+  pub run_is : IsRunText f geometry least_task admitted.checked.sheet finish run
+  pub text_is : text ≡ analysis_of admitted ++ run
 
 -- a part of the program ends so, where this says which ends and texts are called for
 pub record EndsBy (Calls : Status → List ℕ → Type 0) (before after : Option (List ℕ)) (faults faults_after : ℕ) (ended : Status) : Type 0 where

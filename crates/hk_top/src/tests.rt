@@ -1,6 +1,7 @@
 //! Runs worked out by hand.
 mod edits;
 mod orders;
+mod rows;
 mod runs;
 mod streams;
 mod versions;

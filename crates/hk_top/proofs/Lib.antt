@@ -9,5 +9,6 @@ pub mod SheetLemmas
 pub mod RunEnds
 pub mod OneRun
 pub mod Headline
+pub mod Done
 pub mod OneCall
 pub mod ToolLemmas

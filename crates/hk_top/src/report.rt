@@ -264,16 +264,17 @@ fn write_tick<K: Sink>(
     form: Form,
     sheet: &Sheet,
     tick: u64,
-    (who, out, end): (Who, Option<u64>, Option<End>),
+    ran: (Who, Option<u64>, Option<End>),
     gather: &mut Gather,
     sink: &mut K,
 ) -> Result<(), Failed>
     requires high { AreNamed sheet.now.high }
     requires low { AreLowNamed sheet.now.low }
-    ensures ok { OnOk result (AppendsFront (K.taken sink.old) (K.taken sink.new) (gather.old ++ text_of_tick form sheet.now tick (Ran who out end)) gather.new) }
-    ensures prefix { OnErr result (AppendsPrefix (K.taken sink.old) (K.taken sink.new) (gather.old ++ text_of_tick form sheet.now tick (Ran who out end))) }
+    ensures ok { OnOk result (AppendsFront (K.taken sink.old) (K.taken sink.new) (gather.old ++ text_of_tick form sheet.now tick (Ran ran.0 ran.1 ran.2)) gather.new) }
+    ensures prefix { OnErr result (AppendsPrefix (K.taken sink.old) (K.taken sink.new) (gather.old ++ text_of_tick form sheet.now tick (Ran ran.0 ran.1 ran.2))) }
     ensures cause { HasCause (K.faults sink.old) (K.faults sink.new) result }
 {
+    let (who, out, end) = ran;
     let name = name_of(sheet, who);
     trace(form, &who_line(sheet, tick, who), gather, sink)?;
     write_out(form, tick, name, out, gather, sink)?;

@@ -36,6 +36,11 @@ out v0
 """
 "#;
 
+/// Its analysis.
+const ANALYSIS: &str = "heap work 4179 attempt 0 busy 2 debt 0
+high a response 2 deadline 10
+";
+
 /// Its report.
 const REPORT: &str = "heap work 4179 attempt 0 busy 2 debt 0
 high a response 2 deadline 10

@@ -1,5 +1,5 @@
 //! Sheets worked out by hand, with their reports.
-use super::{SMALLEST, expect_run, run};
+use super::{ANALYSIS, SMALLEST, expect_run, run};
 use hk_io::Status;
 use std::test::Fail;
 
@@ -301,11 +301,8 @@ end 10
 /// The analysis alone.
 #[test]
 fn analysis(rt: HostRuntime) -> Result<(), Fail> {
-    let text = "heap work 4179 attempt 0 busy 2 debt 0
-high a response 2 deadline 10
-";
     let ended = run(rt.alloc(), &["check"], SMALLEST, (&[], &[]), 65536)?;
     assert_eq!(rt; ended.status, Status::Done);
-    assert_eq!(rt; ended.sink.bytes(), text.as_bytes());
+    assert_eq!(rt; ended.sink.bytes(), ANALYSIS.as_bytes());
     Ok(())
 }

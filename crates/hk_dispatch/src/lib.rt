@@ -7,7 +7,13 @@
 mod laws;
 mod operation;
 mod pick;
+mod roster;
+mod run;
+mod session;
 mod tick;
+
+#[cfg(test)]
+mod tests;
 
 pub use hk_plan::Ready;
 pub use laws::{
@@ -16,4 +22,5 @@ pub use laws::{
 };
 pub use operation::{Left, ask, operate};
 pub use pick::{First, Pick};
+pub use session::{Session, SessionBy};
 pub use tick::{Chore, End, JobFault, Tick, Who};

@@ -1,4 +1,6 @@
 pub mod numbers
+pub mod Owed
+pub mod Counters
 pub mod Begun
 pub mod Tracing
 pub mod InStep

@@ -1,6 +1,7 @@
 pub mod numbers
 pub mod Owed
 pub mod Counters
+pub mod LowFacts
 pub mod Begun
 pub mod Tracing
 pub mod InStep

@@ -13,11 +13,11 @@ use Rattle.hk_dispatch.specs.Kept.{taken_already}
 -- HIGH JOBS
 
 -- one where the next job of a task, of which so many have become ready before a tick, becomes ready at it
-pub come : High → (before tick : ℕ) → ℕ
+unfoldable pub come : High → (before tick : ℕ) → ℕ
 come task before tick = if is_by (ready_of task before) tick then 1 else 0
 
 -- how many jobs of a task become ready before a moment. Their ready moments rise, so at most one does at each tick
-pub ready_before : High → (moment : ℕ) → ℕ
+unfoldable pub ready_before : High → (moment : ℕ) → ℕ
 ready_before task zero = 0
 ready_before task (suc tick) = ready_before task tick + come task (ready_before task tick) tick
 

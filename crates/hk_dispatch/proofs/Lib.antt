@@ -2,6 +2,9 @@ pub mod numbers
 pub mod Owed
 pub mod Counters
 pub mod LowFacts
+pub mod ReadyCounts
+pub mod BusyWindow
+pub mod HighLeft
 pub mod Begun
 pub mod Tracing
 pub mod InStep

@@ -44,6 +44,12 @@ goes_on b f c had x some few = let m = mul-le-mul_right c some in omega (arith, 
 ends_at : (b f rest c had x : ℕ) → b + f ≡ suc rest → had + x ≤ c → (rest * c - 0) + x ≤ (b * c - had) + f * c
 ends_at b f rest c had x e few = let m = ap (λ n. n * c) e in let n : suc rest * c ≡ rest * c + c = omega arith in let d : (b + f) * c ≡ b * c + f * c = omega arith in omega (arith, m, n, d, few)
 
+pub none_to_do : (b c had : ℕ) → b ≡ 0 → b * c - had ≡ 0
+none_to_do b c had none = let m = ap (λ x. x * c) none in omega (arith, m)
+
+pub none_to_owe : (k b w took : ℕ) → b ≡ 0 → k * (b * w - took) ≡ 0
+none_to_owe k b w took none = ap (λ x. k * x) (none_to_do b w took none) ∙ omega arith
+
 -- A TICK OF A TASK takes its job on, or ends it
 pub data Moves (c d : Course) (words : ℕ) : Type 0 where
   stays_at : d.job ≡ c.job → d.had ≡ c.had + 1 → d.took ≡ c.took + words → Moves c d words

@@ -5,6 +5,11 @@ pub mod LowFacts
 pub mod ReadyCounts
 pub mod BusyWindow
 pub mod HighLeft
+pub mod SessionReady
+pub mod QuietTest
+pub mod BusyRun
+pub mod BusyPremises
+pub mod DebtLaws
 pub mod Begun
 pub mod Tracing
 pub mod InStep

@@ -35,7 +35,7 @@ scaled k a x b f w h = let m = mul-le-mul_left k h in omega (arith, m)
 waits_on : (b f c had : ℕ) → (b + f) * c - had ≤ (b * c - had) + f * c
 waits_on b f c had = omega arith
 
-waits_owing : (k b f w took : ℕ) → k * ((b + f) * w - took) ≤ k * (b * w - took) + f * (k * w)
+pub waits_owing : (k b f w took : ℕ) → k * ((b + f) * w - took) ≤ k * (b * w - took) + f * (k * w)
 waits_owing k b f w took = let h = scaled k ((b + f) * w - took) 0 (b * w - took) f w (let m = waits_on b f w took in omega (arith, m)) in omega (arith, h)
 
 goes_on : (b f c had x : ℕ) → 1 ≤ b + f → had + x ≤ c → ((b + f) * c - (had + x)) + x ≤ (b * c - had) + f * c

@@ -1,5 +1,5 @@
 -- A session up to a moment is a run of busy intervals, with the numbers of the analysis.
-use Rattle.std.proofs.Common.{◌≡◌, ◌≢◌, ℕ, zero, suc, ◌+◌, ◌-◌, ◌*◌, ◌<◌, ◌≤◌, ◌⊎◌, Bool, true, false, List, length, map, get_or, Option, Some, None, refl, sym, ◌∙◌, ap, subst, arith, inl, inr}
+use Rattle.std.proofs.Common.{◌≡◌, ℕ, suc, ◌+◌, ◌*◌, ◌<◌, ◌≤◌, List, length, map, get_or, sym, ◌∙◌, ap, subst, arith, inl, inr}
 use Rattle.std.proofs.lemmas.List.{get_or-map, length-map}
 use Rattle.std.specs.List.{sum_by}
 use Rattle.hk_words.specs.declared.geometry.Geometry.{Geometry}
@@ -8,17 +8,14 @@ use Rattle.hk_rta.specs.Demand.{starts_in, work_of, work_in}
 use Rattle.hk_rta.proofs.Steps.{starts_grow}
 use Rattle.hk_plan.specs.declared.Ready.{Ready}
 use Rattle.hk_plan.proofs.Sums.{total, total-le, sum_is_total}
-use Rattle.hk_sheet.specs.declared.sheet.High.{High}
 use Rattle.hk_sheet.specs.declared.sheet.Sheet.{Sheet}
 use Rattle.hk_admit.specs.Analysis.{attempt_events, load_of, base, events_in, most_owed}
 use Rattle.hk_admit.specs.Analysis as analysis
 use Rattle.hk_dispatch.specs.Tasks.{no_high, high_at}
-use Rattle.hk_dispatch.specs.Moment.{Moment}
-use Rattle.hk_dispatch.specs.Turns.{in_mid_course, first_low}
 use Rattle.hk_dispatch.specs.Session.{state, IsMoment, IsSession}
-use Rattle.hk_dispatch.proofs.BusyRun.{tasks, cost, events, bring, owe, news, ticks_at, events_at, left_now, owed_now, quiet_at, begins, goes_on}
+use Rattle.hk_dispatch.proofs.BusyRun.{bring, owe, news, ticks_at, events_at, left_now, owed_now, quiet_at, begins, goes_on}
 use Rattle.hk_dispatch.proofs.BusyWindow.{Premises}
-use Rattle.hk_dispatch.proofs.Counters.{ready_before, backlog, low_ticks}
+use Rattle.hk_dispatch.proofs.Counters.{ready_before, backlog}
 use Rattle.hk_dispatch.proofs.HighLeft.{some_left}
 use Rattle.hk_dispatch.proofs.LowFacts.{LowTicksFall, LowWaits}
 use Rattle.hk_dispatch.proofs.QuietTest.{Busy, owes, low_waits, high_waits, busy_is, is_quiet, quiet_first, some_term}

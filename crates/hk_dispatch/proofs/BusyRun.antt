@@ -1,20 +1,19 @@
 -- The ticks of a session in counters: what each kind of tick does to what is left in a busy interval.
-use Rattle.std.proofs.Common.{◌≡◌, ◌≢◌, ℕ, zero, suc, ◌+◌, ◌-◌, ◌*◌, ◌<◌, ◌≤◌, ◌⊎◌, Bool, true, false, List, length, Option, Some, None, refl, sym, ◌∙◌, ap, subst, arith, inl, inr}
+use Rattle.std.proofs.Common.{◌≡◌, ℕ, suc, ◌+◌, ◌*◌, ◌<◌, ◌≤◌, ◌⊎◌, Bool, true, false, List, length, Option, Some, None, refl, sym, ◌∙◌, ap, subst, arith, inl, inr}
 use Rattle.std.proofs.lemmas.Bool.{ne_eqb}
-use Rattle.std.specs.Prelude.{◌&&◌, ◌==◌, if◌then◌else◌}
+use Rattle.std.specs.Prelude.{◌&&◌, ◌==◌}
 use Rattle.hk_words.specs.declared.geometry.Geometry.{Geometry}
 use Rattle.hk_words.specs.Bounds.{most_places}
 use Rattle.hk_collect.specs.Runs.{in_attempt}
 use Rattle.hk_plan.specs.declared.Ready.{Ready}
-use Rattle.hk_plan.proofs.Sums.{total}
 use Rattle.hk_sheet.specs.declared.sheet.Sheet.{Sheet}
 use Rattle.hk_sheet.specs.Valid.{IsSheet}
 use Rattle.hk_admit.specs.Analysis.{largest_low, attempt_events, base}
 use Rattle.hk_admit.specs.Analysis as analysis
-use Rattle.hk_dispatch.specs.Tasks.{IsLowSeat, tasks_of, high_at}
-use Rattle.hk_dispatch.specs.Moment.{Course, Moment, core_of, course_at}
-use Rattle.hk_dispatch.specs.Turns.{Turn, to_task, to_collector, to_nobody, in_mid_course, first_low, turn}
-use Rattle.hk_dispatch.specs.Ticks.{after_task, after_event, after_turn}
+use Rattle.hk_dispatch.specs.Tasks.{IsLowSeat, high_at}
+use Rattle.hk_dispatch.specs.Moment.{Moment, core_of, course_at}
+use Rattle.hk_dispatch.specs.Turns.{Turn, to_task, to_collector, to_nobody, turn}
+use Rattle.hk_dispatch.specs.Ticks.{after_turn}
 use Rattle.hk_dispatch.specs.Session.{state, IsMoment, IsSession}
 use Rattle.hk_dispatch.specs.Quiet.{NoHighWaits, IsQuiet}
 use Rattle.hk_dispatch.specs.Kept.{met}
@@ -108,7 +107,7 @@ module _ (g : Geometry) (choice : List Ready → ℕ) (sheet : Sheet) (attempt :
           no_low = (ap (ticks_of_low sheet (at t)) q.no_low_in_mid_course, ap (λ o. sheet.heap.rate * words_of_low sheet (at t) o) q.no_low_in_mid_course ∙ omega arith);
           no_high = λ i high. (
             none_to_do (backlog sheet (at t) t i) (cost i) (course_at (at t) i).had (none i high),
-            none_to_owe sheet.heap.rate (backlog sheet (at t) t i) (high_at sheet i).words (course_at (at t) i).took (none i high)
+            none_to_owe sheet.heap.rate (backlog sheet (at t) t i) (high_at sheet i).words (course_at (at t) i).took (none i high),
           );
         }
 

@@ -1,7 +1,7 @@
 -- The busy interval: from a quiet moment another follows within a busy period, and what is owed on the way is bounded. Over
 -- abstract counters, where `came t i` are all jobs of a task that have become ready before a moment.
-use Rattle.std.proofs.Common.{◌≡◌, ℕ, zero, suc, ◌+◌, ◌-◌, ◌*◌, ◌<◌, ◌≤◌, ◌⊎◌, Bool, true, false, refl, sym, ap, subst, ◌∙◌, arith, inl, inr}
-use Rattle.std.proofs.lemmas.Bool.{cases_lt, cases_Bool}
+use Rattle.std.proofs.Common.{◌≡◌, ℕ, zero, suc, ◌+◌, ◌*◌, ◌<◌, ◌≤◌, ◌⊎◌, Bool, true, false, sym, ap, subst, ◌∙◌, arith, inl, inr}
+use Rattle.std.proofs.lemmas.Bool.{cases_Bool}
 use Rattle.std.proofs.Math.Nat.{mul-le-mul_right}
 use Rattle.hk_plan.proofs.Sums.{total, total-le, total-add}
 use Rattle.hk_dispatch.proofs.numbers.Interval.{Begins, GoesOn}
@@ -94,7 +94,7 @@ module _ (tasks : ℕ) (most : ℕ → ℕ → ℕ) (bring owe : ℕ → ℕ) (b
               let since = w.since in
               let short = w.short in
               more (suc t) w.start (suc w.ticks) le (omega (arith, since)) w.was (omega (arith, short)) later
-                  (omega (arith, l, wl, brought_next bring t)) (omega (arith, o, wo, brought_next owe t))
+              (omega (arith, l, wl, brought_next bring t)) (omega (arith, o, wo, brought_next owe t))
         ]
       ])
     ]
@@ -128,8 +128,8 @@ module _ (tasks : ℕ) (most : ℕ → ℕ → ℕ) (bring owe : ℕ → ℕ) (b
     ]
 
     -- from each quiet moment another follows within a busy period, as far as the run goes
-    pub quiet_again : (s : ℕ) → s + busy ≤ horizon → (t : ℕ) × (s < t) × (t ≤ s + busy) × (quiet t ≡ true)
-    quiet_again s fits = elim (waiting (s + busy) fits) [
+    pub next_quiet : (s : ℕ) → s + busy ≤ horizon → (t : ℕ) × (s < t) × (t ≤ s + busy) × (quiet t ≡ true)
+    next_quiet s fits = elim (waiting (s + busy) fits) [
       | inl now ↦ let some = p.some in (s + busy, omega (arith, some), omega arith, now)
       | inr w ↦ let since = w.since in let short = w.short in (w.start, omega (arith, since, short), omega (arith, since), w.was)
     ]

@@ -1,27 +1,25 @@
 -- The debt of a session is within the number of the analysis, also with what a New of a high job still takes; and from each quiet
--- moment another follows within a busy period.
-use Rattle.std.proofs.Common.{◌≡◌, ◌≢◌, ℕ, zero, suc, ◌+◌, ◌-◌, ◌*◌, ◌<◌, ◌≤◌, ◌⊎◌, Bool, true, false, List, length, Option, Some, None, refl, sym, ◌∙◌, ap, subst, arith, inl, inr}
+-- moment another follows within a busy period. What low operations and attempts do is a premise.
+use Rattle.std.proofs.Common.{◌≡◌, ℕ, ◌+◌, ◌-◌, ◌*◌, ◌<◌, ◌≤◌, true, List, length, sym, ap, subst, arith, inl, inr}
 use Rattle.std.proofs.lemmas.Bool.{ltb-true}
 use Rattle.std.proofs.Math.Nat.{mul-le-mul_left, mul-le-mul_right}
 use Rattle.hk_words.specs.declared.geometry.Geometry.{Geometry}
-use Rattle.hk_words.specs.declared.shape.Shape.{Shape}
 use Rattle.hk_words.specs.Shape.{size}
 use Rattle.hk_plan.specs.declared.Ready.{Ready}
 use Rattle.hk_plan.proofs.Sums.{total, total-add}
-use Rattle.hk_script.specs.declared.walk.Need.{Need}
 use Rattle.hk_script.specs.Runs.{need_words, taken_by}
 use Rattle.hk_sheet.specs.declared.sheet.Sheet.{Sheet}
 use Rattle.hk_admit.specs.Analysis.{base}
 use Rattle.hk_admit.specs.Analysis as analysis
-use Rattle.hk_dispatch.specs.Tasks.{high_at, is_high}
-use Rattle.hk_dispatch.specs.Moment.{Course, Moment, course_at, need_at}
+use Rattle.hk_dispatch.specs.Tasks.{high_at}
+use Rattle.hk_dispatch.specs.Moment.{Moment, course_at, need_at}
 use Rattle.hk_dispatch.specs.Turns.{Turn, to_task, turn}
 use Rattle.hk_dispatch.specs.Session.{state, IsMoment, IsTick, IsSession}
-use Rattle.hk_dispatch.specs.Laws.{DebtWithin, QuietAgain, NewAt}
-use Rattle.hk_dispatch.specs.Rules.{ready_now, ToHigh, TurnIs, by_high, by_operation, by_collector, by_low, by_nobody}
+use Rattle.hk_dispatch.specs.Laws.{DebtWithin, QuietAgain}
+use Rattle.hk_dispatch.specs.Rules.{ready_now, TurnIs, by_high, by_operation, by_collector, by_low, by_nobody}
 use Rattle.hk_dispatch.proofs.BusyPremises.{most, premises, debt_sum}
 use Rattle.hk_dispatch.proofs.BusyRun.{bring, owe, news, liable_now, low_events_at, events_at, left_now, owed_now, quiet_at}
-use Rattle.hk_dispatch.proofs.BusyWindow.{owed_within, owed_soon, quiet_again}
+use Rattle.hk_dispatch.proofs.BusyWindow.{owed_within, owed_soon, next_quiet}
 use Rattle.hk_dispatch.proofs.Counters.{ready_before, fresh, backlog, high_events}
 use Rattle.hk_dispatch.proofs.HighLeft.{none_to_owe, waits_owing, took_before}
 use Rattle.hk_dispatch.proofs.LowFacts.{LowTicksFall, LowWaits}
@@ -57,9 +55,9 @@ module _ (falls : LowTicksFall) (waits : LowWaits) where
       (λ e. (quiet_is sheet s.checked.readable (state g choice sheet t) t e).nothing_owed) in
       subst (λ d. (state g choice sheet t).debt ≤ d) (sym (debt_sum g choice sheet work attempt busy debt s)) few
 
-  pub quiet_follows : QuietAgain
-  quiet_follows g choice sheet work attempt busy debt s t moment is_quiet until =
-      let next = quiet_again (length sheet.high) (most sheet) (bring g choice sheet attempt) (owe g choice sheet attempt) (base sheet) (analysis.low_events sheet) busy (t + busy)
+  pub quiet_again : QuietAgain
+  quiet_again g choice sheet work attempt busy debt s t moment is_quiet until =
+      let next = next_quiet (length sheet.high) (most sheet) (bring g choice sheet attempt) (owe g choice sheet attempt) (base sheet) (analysis.low_events sheet) busy (t + busy)
       (λ t i. ready_before (high_at sheet i) t) (news g choice sheet attempt) (quiet_at g choice sheet attempt) (left_now g choice sheet attempt) (owed_now g choice sheet attempt)
       (premises g choice sheet work attempt busy debt s falls waits (t + busy) until) t (omega arith) in
       record { next = next.0; later = next.1; soon = next.2; quiet = quiet_is sheet s.checked.readable (state g choice sheet next.0) next.0 next.3 }

@@ -1,29 +1,27 @@
 -- What the high jobs have left: how it changes with a tick of the task, and with a tick of another.
-use Rattle.std.proofs.Common.{◌≡◌, ◌≢◌, ℕ, suc, zero, ◌+◌, ◌-◌, ◌*◌, ◌<◌, ◌≤◌, ◌⊎◌, Bool, true, false, List, length, Option, Some, None, refl, sym, ◌∙◌, ap, subst, arith, inl, inr}
+use Rattle.std.proofs.Common.{◌≡◌, ◌≢◌, ℕ, suc, zero, ◌+◌, ◌-◌, ◌*◌, ◌<◌, ◌≤◌, length, refl, sym, ◌∙◌, ap, subst, arith}
 use Rattle.std.proofs.lemmas.Bool.{lt-ltb}
 use Rattle.std.proofs.Math.Nat.{mul-le-mul_left, mul-le-mul_right}
 use Rattle.std.specs.Prelude.{nat_lt, if◌then◌else◌}
 use Rattle.hk_words.specs.declared.call.Reply.TheVariants as reply
-use Rattle.hk_script.specs.Runs.{need_ticks, need_words, taken_by}
+use Rattle.hk_script.specs.Runs.{need_words, taken_by}
 use Rattle.hk_script.specs.Walks.{walk_after}
-use Rattle.hk_script.specs.Left.{ticks_left, words_left}
+use Rattle.hk_script.specs.Left.{words_left}
 use Rattle.hk_script.proofs.Potential.{ticks_fall, words_fall}
-use Rattle.hk_sheet.specs.declared.sheet.High.{High}
 use Rattle.hk_sheet.specs.declared.sheet.Sheet.{Sheet}
 use Rattle.hk_sheet.specs.Valid.{IsSheet}
 use Rattle.hk_dispatch.specs.declared.operation.Left.{Left}
 use Rattle.hk_dispatch.specs.declared.operation.Left.TheVariants as left
 use Rattle.hk_dispatch.specs.Tasks.{Task, tasks_of, task_at, high_at}
 use Rattle.hk_dispatch.specs.Moment.{Course, Moment, core_of, course_at, need_at}
-use Rattle.hk_dispatch.specs.Ticks.{is_over, next_job, passed, course_after, after_task}
+use Rattle.hk_dispatch.specs.Ticks.{is_over, next_job, course_after}
 use Rattle.hk_dispatch.specs.Kept.{CourseKept, KeepsDeclared}
 use Rattle.hk_dispatch.specs.Jobs.{JobsKept}
-use Rattle.hk_dispatch.specs.Rules.{ready_now}
 use Rattle.hk_dispatch.proofs.Counters.{ready_before, fresh, backlog, high_ticks, high_events}
-use Rattle.hk_dispatch.proofs.Courses.{by_test, words_now, course_now, own_course}
+use Rattle.hk_dispatch.proofs.Courses.{by_test, words_now}
 use Rattle.hk_dispatch.proofs.JobsKept.{high_is}
 use Rattle.hk_dispatch.proofs.ReadyMoments.{high_right}
-use Rattle.hk_dispatch.proofs.ReadyCounts.{ready_next, below_ready, ready_below, ready_counts}
+use Rattle.hk_dispatch.proofs.ReadyCounts.{ready_next, ready_below}
 use Rattle.hk_dispatch.proofs.Sheets.{scripts, count_tasks}
 use Rattle.hk_dispatch.proofs.TaskTick.{words_few, words_none}
 
@@ -186,7 +184,7 @@ module _ (sheet : Sheet) (readable : IsSheet sheet) (m : Moment) (t : ℕ) (seat
     events_wait =
         let is : high_events sheet n (suc t) seat ≡ sheet.heap.rate * ((backlog sheet m t seat + fresh sheet t seat) * (high_at sheet seat).words - (course_at m seat).took) =
         ap (λ b. sheet.heap.rate * (b * (high_at sheet seat).words - (course_at n seat).took)) grown
-            ∙ ap (λ (c : Course). sheet.heap.rate * ((backlog sheet m t seat + fresh sheet t seat) * (high_at sheet seat).words - c.took)) same in
+        ∙ ap (λ (c : Course). sheet.heap.rate * ((backlog sheet m t seat + fresh sheet t seat) * (high_at sheet seat).words - c.took)) same in
         subst (λ x. x ≤ high_events sheet m t seat + fresh sheet t seat * (sheet.heap.rate * (high_at sheet seat).words)) (sym is)
         (waits_owing sheet.heap.rate (backlog sheet m t seat) (fresh sheet t seat) (high_at sheet seat).words (course_at m seat).took)
 

@@ -1,6 +1,6 @@
 -- What a tick of a session does to the low operation in mid-course and to the open attempt: the facts of them on which the busy
 -- interval stands.
-use Rattle.std.specs.Prelude.{◌≡◌, ℕ, suc, ◌+◌, ◌*◌, ◌≤◌, ◌⊎◌, List, Option, None}
+use Rattle.std.specs.Prelude.{◌≡◌, ℕ, suc, ◌+◌, ◌*◌, ◌≤◌, ◌⊎◌, List, None}
 use Rattle.hk_words.specs.declared.geometry.Geometry.{Geometry}
 use Rattle.hk_words.specs.Bounds.{most_places}
 use Rattle.hk_plan.specs.declared.Ready.{Ready}

@@ -1,18 +1,18 @@
 -- Quiet moments by a test: what is owed, the low operation in mid-course and the high jobs that wait, all counted, are none.
-use Rattle.std.proofs.Common.{◌≡◌, ◌≢◌, ℕ, zero, suc, ◌+◌, ◌-◌, ◌*◌, ◌<◌, ◌≤◌, ◌⊎◌, Bool, true, false, List, length, Option, Some, None, refl, sym, ◌∙◌, ap, subst, arith, inl, inr}
-use Rattle.std.proofs.lemmas.Bool.{cases_eq, cases_lt, eqb-true, eq-eqb, ne_eqb, eqb-false}
+use Rattle.std.proofs.Common.{◌≡◌, ℕ, zero, suc, ◌+◌, ◌<◌, ◌≤◌, Bool, true, false, length, Option, Some, None, refl, sym, ◌∙◌, ap, subst, arith, inl, inr}
+use Rattle.std.proofs.lemmas.Bool.{cases_eq, cases_lt, eqb-true, eq-eqb, eqb-false}
 use Rattle.std.specs.Prelude.{nat_eq, nat_lt, ◌&&◌}
 use Rattle.hk_words.specs.declared.geometry.Geometry.{Geometry}
 use Rattle.hk_model.proofs.Views.{get_or-replicate_same}
-use Rattle.hk_plan.proofs.Sums.{total, total-le, total_zero}
+use Rattle.hk_plan.proofs.Sums.{total, total_zero}
 use Rattle.hk_script.specs.Walks.{need_of}
 use Rattle.hk_sheet.specs.declared.sheet.Sheet.{Sheet}
 use Rattle.hk_sheet.specs.Valid.{IsSheet}
 use Rattle.hk_dispatch.specs.Tasks.{tasks_of, task_at}
-use Rattle.hk_dispatch.specs.Moment.{Course, Moment, no_course, course_at, need_at, opening}
+use Rattle.hk_dispatch.specs.Moment.{Course, Moment, no_course, opening}
 use Rattle.hk_dispatch.specs.Turns.{is_operation, in_mid_course, first_low}
-use Rattle.hk_dispatch.specs.Quiet.{NoHighWaits, IsQuiet}
-use Rattle.hk_dispatch.specs.Rules.{NoHighReady, NoLow, FirstLowIs}
+use Rattle.hk_dispatch.specs.Quiet.{IsQuiet}
+use Rattle.hk_dispatch.specs.Rules.{NoHighReady, NoLow}
 use Rattle.hk_dispatch.proofs.Counters.{backlog}
 use Rattle.hk_dispatch.proofs.FirstLow.{first_low_law}
 use Rattle.hk_dispatch.proofs.ReadyCounts.{no_backlog, none_waits_where}

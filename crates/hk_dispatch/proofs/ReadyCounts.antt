@@ -1,20 +1,19 @@
 -- The jobs of a high task that have become ready, counted: which they are, and how many become ready in a window.
-use Rattle.std.proofs.Common.{◌≡◌, ◌≢◌, ℕ, suc, zero, ◌+◌, ◌-◌, ◌*◌, ◌%◌, ◌^◌, ◌<◌, ◌≤◌, ◌⊎◌, Bool, true, false, List, length, Option, Some, None, refl, sym, ◌∙◌, ap, subst, arith, inl, inr}
+use Rattle.std.proofs.Common.{◌≡◌, ℕ, suc, zero, ◌+◌, ◌-◌, ◌*◌, ◌^◌, ◌<◌, ◌≤◌, true, false, length, Option, Some, None, refl, sym, ◌∙◌, ap, arith, inl, inr}
 use Rattle.std.proofs.lemmas.Bool.{cases_Bool, cases_eq, cases_lt, le-leb, leb-true}
 use Rattle.std.proofs.lemmas.Nat.{mod_below}
-use Rattle.std.specs.Prelude.{nat_lt, nat_le, if◌then◌else◌}
+use Rattle.std.specs.Prelude.{nat_lt}
 use Rattle.hk_rta.specs.Demand.{starts_in}
 use Rattle.hk_plan.proofs.Arrivals.{starts_above}
-use Rattle.hk_sheet.specs.declared.arrivals.Arrivals.{Arrivals}
 use Rattle.hk_sheet.specs.declared.sheet.High.{High}
 use Rattle.hk_sheet.specs.declared.sheet.Sheet.{Sheet}
 use Rattle.hk_sheet.specs.Arrivals.{in_word, arrival_of, delay_of, ready_after, ready_of}
-use Rattle.hk_sheet.specs.Valid.{IsSheet, IsHigh, AreArrivals}
-use Rattle.hk_dispatch.specs.Tasks.{Task, task_at, high_at, is_by}
+use Rattle.hk_sheet.specs.Valid.{IsSheet, IsHigh}
+use Rattle.hk_dispatch.specs.Tasks.{Task, high_at, is_by}
 use Rattle.hk_dispatch.specs.Moment.{Moment, course_at}
 use Rattle.hk_dispatch.specs.Quiet.{NoHighWaits}
 use Rattle.hk_dispatch.specs.Rules.{ready_now}
-use Rattle.hk_dispatch.proofs.Counters.{come, ready_before, fresh, backlog}
+use Rattle.hk_dispatch.proofs.Counters.{come, ready_before, backlog}
 use Rattle.hk_dispatch.proofs.JobsKept.{high_is}
 use Rattle.hk_dispatch.proofs.ReadyMoments.{Earlier, arrivals_apart, ready_rises, high_right}
 

@@ -1,7 +1,6 @@
 -- A tick of a session that doesn't end it; and no more jobs of a high task are ended than have become ready.
-use Rattle.std.proofs.Common.{◌≡◌, ◌≢◌, ℕ, zero, suc, ◌+◌, ◌-◌, ◌*◌, ◌<◌, ◌≤◌, ◌⊎◌, Bool, true, false, List, length, Option, Some, None, refl, sym, ◌∙◌, ap, subst, arith, inl, inr}
-use Rattle.std.proofs.lemmas.Bool.{cases_eq, cases_lt}
-use Rattle.std.specs.Prelude.{slice_index_or}
+use Rattle.std.proofs.Common.{◌≡◌, ℕ, zero, suc, ◌+◌, ◌-◌, ◌*◌, ◌<◌, ◌≤◌, true, List, length, Option, Some, None, refl, sym, ap, subst, arith, inl, inr}
+use Rattle.std.proofs.lemmas.Bool.{cases_eq}
 use Rattle.hk_words.specs.declared.geometry.Geometry.{Geometry}
 use Rattle.hk_words.specs.Geometry.{HasSizes}
 use Rattle.hk_model.proofs.Views.{get_or-replicate_same}
@@ -13,12 +12,12 @@ use Rattle.hk_admit.specs.Conditions.{KeepsToDeclared}
 use Rattle.hk_dispatch.specs.Tasks.{IsLowSeat, tasks_of, task_at, high_at}
 use Rattle.hk_dispatch.specs.Moment.{Course, Moment, no_course, course_at, opening}
 use Rattle.hk_dispatch.specs.Rows.{IsChoice}
-use Rattle.hk_dispatch.specs.Turns.{Turn, to_task, to_collector, to_nobody, turn}
+use Rattle.hk_dispatch.specs.Turns.{Turn, turn}
 use Rattle.hk_dispatch.specs.Ticks.{after_task, after_event, after_turn}
 use Rattle.hk_dispatch.specs.Session.{after_tick, state, IsMoment}
 use Rattle.hk_dispatch.specs.Rules.{ready_now, TurnIs, by_high, by_operation, by_collector, by_low, by_nobody}
 use Rattle.hk_dispatch.proofs.Counters.{ready_before}
-use Rattle.hk_dispatch.proofs.Courses.{words_now, left_now, course_now, own_course, other_course}
+use Rattle.hk_dispatch.proofs.Courses.{words_now, left_now, own_course, other_course}
 use Rattle.hk_dispatch.proofs.HighLeft.{Moves, moves, job_few}
 use Rattle.hk_dispatch.proofs.ReadyCounts.{ready_next, ready_counts}
 use Rattle.hk_dispatch.proofs.Sheets.{count_tasks}

@@ -22,3 +22,9 @@ pub mod SessionLive
 pub mod SessionBegun
 pub mod SessionPaid
 pub mod Promises
+pub mod Owed
+pub mod RoomWords
+pub mod RoomNews
+pub mod RoomSteps
+pub mod RoomTicks
+pub mod RoomFull

@@ -30,9 +30,9 @@ use Rattle.hk_sheet.specs.Faults.{sizes_of}
 use Rattle.hk_dispatch.specs.declared.operation.Left.TheVariants as left
 use Rattle.hk_dispatch.specs.Tasks.{tasks_of, task_at, is_high}
 use Rattle.hk_dispatch.specs.Moment.{Moment, core_of, history_of, course_at, need_at, opening}
-use Rattle.hk_dispatch.specs.Turns.{Turn, to_task, to_collector, to_nobody, turn}
+use Rattle.hk_dispatch.specs.Turns.{Turn, to_task, turn}
 use Rattle.hk_dispatch.specs.Ticks.{leaves_first, leaves_on, left_by, asked, after_event, after_turn}
-use Rattle.hk_dispatch.specs.Session.{after_tick, state, IsSession, IsTick, IsMoment}
+use Rattle.hk_dispatch.specs.Session.{after_tick, state, IsSession, IsTick}
 use Rattle.hk_dispatch.specs.Rules.{TurnIs, by_high, by_operation, by_collector, by_low, by_nobody}
 use Rattle.hk_dispatch.specs.Jobs.{JobsKept}
 use Rattle.hk_dispatch.specs.Laws.{DebtWithin, HighNewsFindRoom, LowNewsBeginQuiet, LowNewsFindRoom, NoNewIsRefused}

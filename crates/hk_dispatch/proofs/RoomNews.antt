@@ -1,10 +1,9 @@
 -- Room: the words used leave room for an object of any low task, each high New finds room, and so does each low one, which begins
 -- with nothing owed.
-use Rattle.std.proofs.Common.{◌≡◌, ℕ, ◌+◌, ◌-◌, ◌*◌, ◌<◌, ◌≤◌, Bool, true, false, List, length, Option, Some, None, refl, sym, ◌∙◌, ap, subst, arith, inl, inr}
+use Rattle.std.proofs.Common.{◌≡◌, ℕ, ◌+◌, ◌*◌, ◌<◌, ◌≤◌, true, false, List, length, sym, ◌∙◌, ap, arith}
 use Rattle.std.proofs.lemmas.Bool.{and_parts, lt-ltb, ltb-true}
-use Rattle.std.specs.Prelude.{nat_lt, ◌&&◌}
+use Rattle.std.specs.Prelude.{nat_lt}
 use Rattle.hk_words.specs.declared.geometry.Geometry.{Geometry}
-use Rattle.hk_words.specs.declared.shape.Shape.{Shape}
 use Rattle.hk_words.specs.Shape.{size}
 use Rattle.hk_plan.specs.declared.Ready.{Ready}
 use Rattle.hk_sheet.specs.declared.sheet.Sheet.{Sheet}
@@ -14,7 +13,7 @@ use Rattle.hk_dispatch.specs.Moment.{Moment, used_at, course_at, need_at}
 use Rattle.hk_dispatch.specs.Turns.{Turn, to_task, is_operation, in_mid_course, turn}
 use Rattle.hk_dispatch.specs.Session.{state, IsSession, IsTick, IsMoment}
 use Rattle.hk_dispatch.specs.Rules.{TurnIs, by_high, by_operation, by_collector, by_low, by_nobody}
-use Rattle.hk_dispatch.specs.Laws.{DebtWithin, UsedWithin, NewAt, HighNewsFindRoom, LowNewsBeginQuiet, LowNewsFindRoom}
+use Rattle.hk_dispatch.specs.Laws.{DebtWithin, UsedWithin, HighNewsFindRoom, LowNewsBeginQuiet, LowNewsFindRoom}
 use Rattle.hk_dispatch.proofs.Owed.{OwedForNews}
 use Rattle.hk_dispatch.proofs.Promises.{useful_is_within, used_is_covered}
 use Rattle.hk_dispatch.proofs.RoomWords.{words_left, low_new_within}
@@ -47,16 +46,16 @@ module _ (g : Geometry) (choice : List Ready → ℕ) (sheet : Sheet) (work atte
 -- THE WORDS USED
 
 pub used_within : DebtWithin → UsedWithin
-used_within owed g choice sheet work attempt busy debt s t moment =
-    let room = low_has_room g choice sheet work attempt busy debt s t moment (owed g choice sheet work attempt busy debt s t moment) in
+used_within within g choice sheet work attempt busy debt s t moment =
+    let room = low_has_room g choice sheet work attempt busy debt s t moment (within g choice sheet work attempt busy debt s t moment) in
     omega (arith, room)
 
 -- HIGH NEWS
 
 pub high_news_find_room : DebtWithin → OwedForNews → HighNewsFindRoom
-high_news_find_room owed for_news g choice sheet work attempt busy debt s t tick seat spent shape high at new =
+high_news_find_room within owed g choice sheet work attempt busy debt s t tick seat spent shape high at new =
     let enough = s.checked.reserve in
-    let more = for_news g choice sheet work attempt busy debt s t tick seat spent shape high at new in
+    let more = owed g choice sheet work attempt busy debt s t tick seat spent shape high at new in
     let free = free_beside g choice sheet work attempt busy debt s t (moment_of g choice sheet t tick) (size shape) (omega (arith, more, enough)) in
     omega (arith, free)
 
@@ -89,9 +88,9 @@ low_news_begin_quiet g choice sheet work attempt busy debt s t tick seat shape l
     (none, omega (arith, free, few))
 
 pub low_news_find_room : DebtWithin → LowNewsFindRoom
-low_news_find_room owed g choice sheet work attempt busy debt s t tick seat shape low new =
+low_news_find_room within g choice sheet work attempt busy debt s t tick seat shape low new =
     let m = state g choice sheet t in
     let moment = moment_of g choice sheet t tick in
-    let room = low_has_room g choice sheet work attempt busy debt s t moment (owed g choice sheet work attempt busy debt s t moment) in
+    let room = low_has_room g choice sheet work attempt busy debt s t moment (within g choice sheet work attempt busy debt s t moment) in
     let few = low_new_within sheet m seat new.dest shape low new.wants in
     omega (arith, room, few)

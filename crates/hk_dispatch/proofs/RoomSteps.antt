@@ -1,8 +1,8 @@
 -- A step leaves a flight that found room so far without the mark of one that found too few words, where a New finds enough at its
 -- first place and at its third. And only such a mark leads to the reply that there was no room.
-use Rattle.std.proofs.Common.{◌≡◌, ◌≢◌, ℕ, ◌+◌, ◌<◌, ◌≤◌, Bool, true, false, length, refl, sym, subst, ◌∙◌, ap, arith, inl, inr}
+use Rattle.std.proofs.Common.{◌≡◌, ◌≢◌, ℕ, ◌+◌, ◌<◌, ◌≤◌, Bool, false, length, refl, sym, subst, ◌∙◌, ap, arith, inl, inr}
 use Rattle.std.proofs.lemmas.Bool.{cases_eq, cases_lt, eqb-true, le-ltb, and_right, or_from}
-use Rattle.std.specs.Prelude.{not, ◌&&◌, ◌||◌, ◌==◌, if◌then◌else◌}
+use Rattle.std.specs.Prelude.{not, ◌&&◌, ◌==◌, if◌then◌else◌}
 use Rattle.hk_words.specs.declared.call.Call.{Call}
 use Rattle.hk_words.specs.declared.call.Call.TheVariants as call
 use Rattle.hk_words.specs.declared.call.Reply.TheVariants as reply
@@ -28,7 +28,6 @@ use Rattle.hk_core.proofs.Room.{new_tells}
 use Rattle.hk_core.proofs.Seven.{seat_steps}
 use Rattle.hk_core.proofs.Turns.{has_flight, step_geometry}
 use Rattle.hk_collect.specs.Taken.{used_in}
-use Rattle.hk_dispatch.specs.declared.operation.Left.{Left}
 use Rattle.hk_dispatch.specs.declared.operation.Left.TheVariants as left
 use Rattle.hk_dispatch.specs.Ticks.{reply_in, left_in}
 use Rattle.hk_dispatch.proofs.Courses.{by_test}

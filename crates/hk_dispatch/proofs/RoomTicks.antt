@@ -1,21 +1,20 @@
 -- A tick of a task leaves no call in flight that found too few words, where a New that gets the tick finds enough.
-use Rattle.std.proofs.Common.{◌≡◌, ℕ, zero, suc, ◌+◌, ◌<◌, ◌≤◌, Bool, true, false, List, length, Option, Some, None, refl, sym, ◌∙◌, ap, subst, arith, inl, inr}
+use Rattle.std.proofs.Common.{◌≡◌, ℕ, zero, suc, ◌+◌, ◌<◌, ◌≤◌, true, false, Option, Some, None, refl, sym, ◌∙◌, ap, subst, arith, inl, inr}
 use Rattle.std.proofs.lemmas.Bool.{cases_eq, ne_eqb, eq-eqb, and_from, lt-ltb}
-use Rattle.std.specs.Prelude.{nat_eq, not, ◌&&◌, if◌then◌else◌}
+use Rattle.std.specs.Prelude.{not}
 use Rattle.hk_words.specs.declared.call.Call.{Call}
 use Rattle.hk_words.specs.declared.call.Call.TheVariants as call
 use Rattle.hk_words.specs.declared.geometry.Geometry.{Geometry}
 use Rattle.hk_words.specs.declared.shape.Shape.{Shape}
 use Rattle.hk_words.specs.Geometry.{tasks}
 use Rattle.hk_words.specs.Shape.{size}
-use Rattle.hk_model.specs.History.{is_question}
 use Rattle.hk_core.specs.declared.flight.Flight.{Flight}
 use Rattle.hk_core.specs.declared.outcome.Fault.{Fault}
 use Rattle.hk_core.specs.State.{State, flight_of}
 use Rattle.hk_core.specs.Step.{limit_of, next}
 use Rattle.hk_core.specs.Begin.{refusal, first_flight, after_begin}
 use Rattle.hk_core.specs.Lawful.{Lawful}
-use Rattle.hk_core.specs.Run.{Running, begin, step, act, is_busy, may_begin, registers_fit}
+use Rattle.hk_core.specs.Run.{Running, begin, step, act, is_busy, may_begin}
 use Rattle.hk_core.proofs.Actions.{IsLawfulRun}
 use Rattle.hk_core.proofs.Places.{begins_first}
 use Rattle.hk_core.proofs.Registers.{registers_tested}
@@ -27,7 +26,6 @@ use Rattle.hk_collect.proofs.Taken.{begins_take_none}
 use Rattle.hk_script.specs.declared.walk.Need.{Need}
 use Rattle.hk_script.specs.declared.walk.Need.TheVariants as need
 use Rattle.hk_sheet.specs.declared.sheet.Sheet.{Sheet}
-use Rattle.hk_dispatch.specs.Tasks.{tasks_of}
 use Rattle.hk_dispatch.specs.Moment.{Moment, core_of, history_of, course_at, need_at}
 use Rattle.hk_dispatch.specs.Ticks.{run_first, run_on, run_by, after_task}
 use Rattle.hk_dispatch.specs.InStep.{SeatInStep, aside, under_way, MayBegin}

@@ -33,3 +33,8 @@ pub mod SessionLive
 pub mod SessionBegun
 pub mod SessionPaid
 pub mod Promises
+pub mod RoomWords
+pub mod RoomNews
+pub mod RoomSteps
+pub mod RoomTicks
+pub mod RoomFull

@@ -22,3 +22,9 @@ pub mod SessionLive
 pub mod SessionBegun
 pub mod SessionPaid
 pub mod Promises
+pub mod NoneFull
+pub mod ReplayEffects
+pub mod ReplaySteps
+pub mod ReplayTicks
+pub mod ReplayTasks
+pub mod SessionReplay

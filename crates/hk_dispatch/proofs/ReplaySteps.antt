@@ -1,9 +1,9 @@
 -- A step of an operation on the heap beside the tick of the same operation on the heap that never collects: what becomes of the
 -- plain heap, how the job is left, and what the operation has answered once it had its effect.
-use Rattle.std.proofs.Common.{◌≡◌, ◌≢◌, ℕ, ◌+◌, ◌<◌, ◌≤◌, true, false, [], ◌∷◌, ◌++◌, length, inl, inr, refl, sym, ◌∙◌, ap, subst, arith, Option, Some, None}
+use Rattle.std.proofs.Common.{◌≡◌, ◌≢◌, ℕ, ◌+◌, ◌<◌, ◌≤◌, true, false, [], ◌∷◌, ◌++◌, length, inl, inr, refl, sym, ◌∙◌, ap, subst, arith, Option, None}
 use Rattle.std.proofs.lemmas.Bool.{cases_eq, eq-eqb, ne_eqb}
 use Rattle.std.proofs.lemmas.List.{append-nil}
-use Rattle.std.specs.Prelude.{◌==◌, option_to_list, if◌then◌else◌}
+use Rattle.std.specs.Prelude.{option_to_list}
 use Rattle.hk_words.specs.declared.geometry.Geometry.{Geometry}
 use Rattle.hk_words.specs.declared.call.Call.{Call}
 use Rattle.hk_words.specs.declared.call.Reply.{Reply}
@@ -18,11 +18,10 @@ use Rattle.hk_core.specs.declared.outcome.Outcome.TheVariants as outcome
 use Rattle.hk_core.specs.declared.outcome.Step.{Step}
 use Rattle.hk_core.specs.declared.outcome.Step.TheVariants.{Ended}
 use Rattle.hk_core.specs.State.{State, flight_of}
-use Rattle.hk_core.specs.Step.{outcome_at, took_of, effect_of, found_by, answer_by, next, history_after}
+use Rattle.hk_core.specs.Step.{outcome_at, effect_of, found_by, answer_by, next, history_after}
 use Rattle.hk_core.specs.View.{flight_at}
 use Rattle.hk_core.specs.Lawful.{Lawful}
 use Rattle.hk_core.specs.Replied.{outcome_of}
-use Rattle.hk_core.specs.Places.{GoesOn, Ends}
 use Rattle.hk_core.proofs.Places.{flight_stepped, goes_on, ends}
 use Rattle.hk_core.proofs.Replied.{is_done, Says, StepKind, EndKind, quiet, acts, past, over, at_once, step_kind, end_kind}
 use Rattle.hk_core.proofs.Seven.{seat_steps}

@@ -1,8 +1,8 @@
 -- A tick of a task beside the same tick of the replay, whatever its job wants: it leaves the job in the same way, and each task
 -- stands in both where the other says.
-use Rattle.std.proofs.Common.{◌≡◌, ◌≢◌, ℕ, zero, suc, ◌+◌, ◌<◌, ◌≤◌, Bool, true, false, List, length, inl, inr, refl, sym, ◌∙◌, ap, subst, arith, Option, Some, None, set, length-set, get_or-set_same, get_or-set_other}
+use Rattle.std.proofs.Common.{◌≡◌, ◌≢◌, ℕ, ◌+◌, ◌<◌, ◌≤◌, Bool, true, false, length, inl, inr, refl, sym, ◌∙◌, ap, subst, arith, Option, Some, None, length-set, get_or-set_same, get_or-set_other}
 use Rattle.std.proofs.lemmas.Bool.{cases_eq}
-use Rattle.std.specs.Prelude.{nat_lt, if◌then◌else◌}
+use Rattle.std.specs.Prelude.{if◌then◌else◌}
 use Rattle.hk_words.specs.declared.geometry.Geometry.{Geometry}
 use Rattle.hk_words.specs.declared.call.Call.{Call}
 use Rattle.hk_words.specs.declared.call.Reply.{Reply}
@@ -12,7 +12,6 @@ use Rattle.hk_model.specs.Heap.{Heap, opening_of}
 use Rattle.hk_model.specs.History.{after}
 use Rattle.hk_model.specs.Replies.{reply_of, said}
 use Rattle.hk_core.specs.declared.flight.Flight.{Flight}
-use Rattle.hk_core.specs.declared.outcome.Fault.{Fault}
 use Rattle.hk_core.specs.declared.outcome.Fault.TheVariants as fault
 use Rattle.hk_core.specs.declared.outcome.Outcome.TheVariants as outcome
 use Rattle.hk_core.specs.State.{IsSized, flight_of}
@@ -42,7 +41,7 @@ use Rattle.hk_dispatch.specs.Jobs.{JobsKept}
 use Rattle.hk_dispatch.proofs.Courses.{left_now, words_now, course_now, own_course, other_course}
 use Rattle.hk_dispatch.proofs.SeatsInStep.{MayBeginIf, none_flying}
 use Rattle.hk_dispatch.proofs.InStep.{op_keeps}
-use Rattle.hk_dispatch.proofs.ReplayTicks.{OpTicks, op_ticks}
+use Rattle.hk_dispatch.proofs.ReplayTicks.{op_ticks}
 
 -- THE PART OF A TASK in the replay says where its course is, and what its call in flight has answered
 pub record PartFollows (x : Flight) (course : Course) (p : Part) : Type 0 where
@@ -91,7 +90,7 @@ aside_ticks h k seat p wants l y heap leaves idle = record { heap = heap; leaves
 module _ (g : Geometry) (r : Trace) (geometry : r.running.core.geometry ≡ g) (lawful : IsLawfulRun r.running) (seat : ℕ) (below : seat < tasks r.running.core.geometry) (p : Part)
     (not_spent : (c : Call) → refusal r.running.core seat c ≢ Some fault.Spent) (room : (flight_of r.running.core.flights seat).full ≡ false)
     (before : 1 ≤ p.spent → 1 ≤ (flight_of r.running.core.flights seat).place → is_done (flight_of r.running.core.flights seat) ≡ true
-        → outcome_at (flight_of r.running.core.flights seat) (flight_of r.running.core.flights seat).call ≡ outcome.Done p.answer) where
+    → outcome_at (flight_of r.running.core.flights seat) (flight_of r.running.core.flights seat).call ≡ outcome.Done p.answer) where
   abbrev h : Heap
   h = after (opening_of g) r.running.history
 

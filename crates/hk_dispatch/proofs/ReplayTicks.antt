@@ -2,7 +2,7 @@
 -- plain heap in the same way.
 use Rattle.std.proofs.Common.{◌≡◌, ◌≢◌, ℕ, zero, suc, ◌+◌, ◌<◌, ◌≤◌, Bool, true, false, inl, inr, refl, sym, ◌∙◌, ap, subst, arith, Option, Some, None}
 use Rattle.std.proofs.lemmas.Bool.{and_from, eq-eqb, ne_eqb, lt-ltb}
-use Rattle.std.specs.Prelude.{nat_lt, nat_eq, not, ◌&&◌, ◌==◌, if◌then◌else◌}
+use Rattle.std.specs.Prelude.{not, ◌==◌, if◌then◌else◌}
 use Rattle.hk_words.specs.declared.geometry.Geometry.{Geometry}
 use Rattle.hk_words.specs.declared.call.Call.{Call}
 use Rattle.hk_words.specs.declared.call.Reply.{Reply}
@@ -11,7 +11,7 @@ use Rattle.hk_words.specs.Bounds.{places_of}
 use Rattle.hk_words.specs.Geometry.{tasks}
 use Rattle.hk_model.specs.Heap.{Heap, opening_of}
 use Rattle.hk_model.specs.History.{after}
-use Rattle.hk_model.specs.Replies.{reply_of, said}
+use Rattle.hk_model.specs.Replies.{reply_of}
 use Rattle.hk_core.specs.declared.flight.Flight.{Flight}
 use Rattle.hk_core.specs.declared.outcome.Fault.{Fault}
 use Rattle.hk_core.specs.declared.outcome.Fault.TheVariants as fault
@@ -20,8 +20,7 @@ use Rattle.hk_core.specs.State.{State, flight_of}
 use Rattle.hk_core.specs.Step.{outcome_at, answer_by, next, history_after}
 use Rattle.hk_core.specs.Begin.{refusal, first_flight, after_begin}
 use Rattle.hk_core.specs.Faults.{FindsField, TellsPlain}
-use Rattle.hk_core.specs.Lawful.{Lawful}
-use Rattle.hk_core.specs.Run.{Running, begin, step, act, is_idle, is_busy, may_begin, registers_fit}
+use Rattle.hk_core.specs.Run.{Running, begin, step, act, is_busy, may_begin}
 use Rattle.hk_core.specs.View.{flight_at}
 use Rattle.hk_core.proofs.Actions.{IsLawfulRun}
 use Rattle.hk_core.proofs.Places.{begins_first}
@@ -36,11 +35,10 @@ use Rattle.hk_script.specs.declared.walk.Need.TheVariants as need
 use Rattle.hk_dispatch.specs.declared.operation.Left.{Left}
 use Rattle.hk_dispatch.specs.declared.operation.Left.TheVariants as left
 use Rattle.hk_dispatch.specs.InStep.{SeatInStep, aside, under_way, MayBegin}
-use Rattle.hk_dispatch.specs.Ticks.{asked, left_in, run_first, run_on, run_by, leaves_first, leaves_on, left_by}
+use Rattle.hk_dispatch.specs.Ticks.{left_in, run_first, run_on, leaves_first, leaves_on}
 use Rattle.hk_dispatch.specs.Replay as replay
-use Rattle.hk_dispatch.specs.Replay.{Part, answer_on, heap_on, left_at_first, left_at, heap_unless, play_left, play_heap, play_answer}
+use Rattle.hk_dispatch.specs.Replay.{Part, answer_on, heap_on, left_at_first, left_at, heap_unless}
 use Rattle.hk_dispatch.proofs.Tracing.{traced_begin, traced_step}
-use Rattle.hk_dispatch.proofs.SeatsInStep.{none_flying}
 use Rattle.hk_dispatch.proofs.ReplayEffects.{effect_some, effect_within, late}
 use Rattle.hk_dispatch.proofs.ReplaySteps.{OpReplays, step_replays}
 

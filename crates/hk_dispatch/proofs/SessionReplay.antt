@@ -1,13 +1,13 @@
 -- The outputs, the faults and the ends of all jobs of a session are those of the replay on the heap that never collects, by who
 -- got each tick.
-use Rattle.std.proofs.Common.{◌≡◌, ◌≢◌, ℕ, zero, suc, ◌+◌, ◌<◌, ◌≤◌, Bool, true, false, List, length, refl, sym, ◌∙◌, ap, subst, arith, Option, Some, None}
+use Rattle.std.proofs.Common.{◌≡◌, ℕ, zero, suc, ◌+◌, ◌<◌, true, false, List, length, refl, sym, ◌∙◌, ap, subst, arith, Option, Some, None}
 use Rattle.std.proofs.lemmas.Bool.{lt-ltb}
 use Rattle.std.proofs.lemmas.List.{length-replicate}
-use Rattle.std.specs.Prelude.{nat_lt, slice_index_or, if◌then◌else◌}
+use Rattle.std.specs.Prelude.{slice_index_or}
 use Rattle.hk_words.specs.declared.geometry.Geometry.{Geometry}
 use Rattle.hk_words.specs.Geometry.{tasks}
 use Rattle.hk_model.specs.Heap.{opening_of}
-use Rattle.hk_model.specs.History.{History, after}
+use Rattle.hk_model.specs.History.{after}
 use Rattle.hk_model.proofs.Views.{get_or-replicate_same}
 use Rattle.hk_core.specs.declared.flight.Flight.{Flight}
 use Rattle.hk_core.specs.declared.spot.Work.{Work}
@@ -16,10 +16,8 @@ use Rattle.hk_core.specs.Collect.{next_collected, work_by_collector}
 use Rattle.hk_collect.specs.Used.{trace_opening}
 use Rattle.hk_plan.specs.declared.Ready.{Ready}
 use Rattle.hk_sheet.specs.declared.sheet.Sheet.{Sheet}
-use Rattle.hk_dispatch.specs.declared.tick.End.{End}
-use Rattle.hk_dispatch.specs.declared.tick.Tick.{Tick}
 use Rattle.hk_dispatch.specs.Tasks.{tasks_of, task_at}
-use Rattle.hk_dispatch.specs.Moment.{Course, Moment, no_course, core_of, history_of, course_at, plain_heap, opening}
+use Rattle.hk_dispatch.specs.Moment.{Course, Moment, no_course, core_of, history_of, course_at, opening}
 use Rattle.hk_dispatch.specs.Turns.{Turn, to_task, to_collector, to_nobody, in_mid_course, turn}
 use Rattle.hk_dispatch.specs.Ticks.{over_in, after_task, after_event, after_turn}
 use Rattle.hk_dispatch.specs.Session.{after_tick, state, who_gets, IsMoment, IsTick, IsSession}

@@ -38,3 +38,9 @@ pub mod RoomNews
 pub mod RoomSteps
 pub mod RoomTicks
 pub mod RoomFull
+pub mod NoneFull
+pub mod ReplayEffects
+pub mod ReplaySteps
+pub mod ReplayTicks
+pub mod ReplayTasks
+pub mod SessionReplay

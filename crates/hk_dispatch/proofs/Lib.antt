@@ -22,3 +22,10 @@ pub mod SessionLive
 pub mod SessionBegun
 pub mod SessionPaid
 pub mod Promises
+pub mod JobCounters
+pub mod SeatCounters
+pub mod ListedJobs
+pub mod HighTicks
+pub mod AloneRun
+pub mod AloneEnds
+pub mod InTime

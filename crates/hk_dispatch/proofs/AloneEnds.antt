@@ -1,5 +1,5 @@
 -- Each high job ends exactly when the schedule of the high jobs alone ends it.
-use Rattle.std.proofs.Common.{◌≡◌, ℕ, zero, suc, ◌+◌, ◌-◌, ◌<◌, ◌≤◌, Bool, true, false, List, length, Option, Some, None, refl, sym, ◌∙◌, ap, subst, arith, inl, inr}
+use Rattle.std.proofs.Common.{◌≡◌, ℕ, zero, suc, ◌-◌, ◌<◌, ◌≤◌, true, false, List, length, Option, Some, None, refl, sym, ◌∙◌, ap, subst, arith}
 use Rattle.std.proofs.lemmas.Bool.{eqb-true, eq-eqb}
 use Rattle.std.specs.Prelude.{◌↔◌}
 use Rattle.hk_words.specs.declared.geometry.Geometry.{Geometry}
@@ -49,9 +49,9 @@ module _ (g : Geometry) (choice : List Ready → ℕ) (sheet : Sheet) (work atte
         later = omega arith;
         last = subst (λ k. AloneGives choice jobs k i j) (sym back) gives_it;
         whole =
-        run.had_alone g choice sheet work attempt busy debt s stop moment (suc tick) i j le high
-        ∙ sym (counter.settled _ _ _ _ (its i) (suc tick) stop j le (omega (arith, after)))
-        ∙ sym (run.ticks_ended g choice sheet work attempt busy debt s stop moment i j (omega (arith, after, up)));
+            run.had_alone g choice sheet work attempt busy debt s stop moment (suc tick) i j le high
+            ∙ sym (counter.settled _ _ _ _ (its i) (suc tick) stop j le (omega (arith, after)))
+            ∙ sym (run.ticks_ended g choice sheet work attempt busy debt s stop moment i j (omega (arith, after, up)));
       }
 
   -- the job that gets a tick of the schedule which makes it whole ends with it

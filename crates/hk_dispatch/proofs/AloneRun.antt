@@ -1,8 +1,8 @@
 -- A session's run up to a moment keeps to the schedule of its high jobs alone: each tick goes to the same high job or to none.
-use Rattle.std.proofs.Common.{◌≡◌, ◌≢◌, ℕ, zero, suc, ◌+◌, ◌-◌, ◌<◌, ◌≤◌, Bool, true, false, List, [], length, Option, Some, None, refl, sym, ◌∙◌, ap, subst, arith, inl, inr, get_or}
-use Rattle.std.proofs.lemmas.Bool.{cases_lt, cases_eq, cond-true, cond-false, lt-ltb, le-ltb, ltb-true, leb-true, and_parts}
+use Rattle.std.proofs.Common.{◌≡◌, ℕ, zero, suc, ◌+◌, ◌<◌, ◌≤◌, Bool, false, List, length, Option, Some, None, refl, sym, ◌∙◌, ap, subst, arith, inl, inr}
+use Rattle.std.proofs.lemmas.Bool.{cases_lt, cases_eq, lt-ltb, le-ltb, ltb-true, leb-true, and_parts}
 use Rattle.std.proofs.lemmas.List.{get_or_past}
-use Rattle.std.specs.Prelude.{nat_eq, nat_lt, nat_le, ◌&&◌, ◌↔◌, is_none, if◌then◌else◌}
+use Rattle.std.specs.Prelude.{nat_eq, nat_lt, nat_le, ◌&&◌, is_none, if◌then◌else◌}
 use Rattle.hk_words.specs.declared.geometry.Geometry.{Geometry}
 use Rattle.hk_plan.specs.declared.Ready.{Ready}
 use Rattle.hk_plan.specs.AloneBy.{Jobs, rows_below, chosen_task, is_some_at, alone_turn, alone_had, AloneGives}
@@ -10,9 +10,9 @@ use Rattle.hk_plan.proofs.AloneBy.{Premises, its_row, keeps, turn_is, gives}
 use Rattle.hk_sheet.specs.declared.sheet.High.{High}
 use Rattle.hk_sheet.specs.declared.sheet.Sheet.{Sheet}
 use Rattle.hk_dispatch.specs.Tasks.{no_high, high_at}
-use Rattle.hk_dispatch.specs.Moment.{Moment, course_at}
-use Rattle.hk_dispatch.specs.Turns.{Turn, ready_row, ready_rows, turn}
-use Rattle.hk_dispatch.specs.Session.{after_tick, state, IsSession, IsMoment, JobEndsAt}
+use Rattle.hk_dispatch.specs.Moment.{Moment}
+use Rattle.hk_dispatch.specs.Turns.{ready_row, ready_rows, turn}
+use Rattle.hk_dispatch.specs.Session.{after_tick, state, IsSession, IsMoment}
 use Rattle.hk_dispatch.specs.Rules.{TurnIs}
 use Rattle.hk_dispatch.specs.HighJobs.{is_to, arrivals_before, given, jobs_by}
 use Rattle.hk_dispatch.proofs.JobCounters as counter
@@ -22,7 +22,7 @@ use Rattle.hk_dispatch.proofs.HighTicks.{high_turn, named, named_ready, none_pas
 use Rattle.hk_dispatch.proofs.ReadyMoments.{high_right}
 use Rattle.hk_dispatch.proofs.TurnFacts as turns
 
--- THE RUN IS BEFORE A LIVEOVER at every moment up to one at which it is
+-- Where the collector hasn't found too many words reserved by a moment, it hadn't at any earlier one.
 
 before_tick : (choice : List Ready → ℕ) (sheet : Sheet) (m : Moment) (t : ℕ) (over : Option ℕ) → m.over ≡ over → (after_tick choice sheet m t over).over ≡ None → m.over ≡ None
 before_tick choice sheet m t None e none = e

@@ -1,18 +1,17 @@
 -- What the choice is told at a tick, and which high task gets it: the rows are those that the schedule alone tells, from the job
 -- that is under way and the ticks that it has had.
-use Rattle.std.proofs.Common.{◌≡◌, ◌≢◌, ℕ, zero, suc, ◌+◌, ◌<◌, ◌≤◌, Bool, true, false, List, [], ◌∷◌, ◌++◌, length, Option, Some, None, refl, sym, ◌∙◌, ap, subst, arith, inl, inr}
-use Rattle.std.proofs.lemmas.Bool.{cases_eq, eqb-true, ne_eqb}
-use Rattle.std.specs.Prelude.{nat_eq, nat_lt, nat_le, ◌&&◌, if◌then◌else◌}
+use Rattle.std.proofs.Common.{◌≡◌, ℕ, zero, suc, ◌+◌, ◌<◌, ◌≤◌, Bool, true, false, List, [], ◌∷◌, ◌++◌, length, Option, Some, None, refl, sym, ◌∙◌, ap, subst, arith, inl, inr}
+use Rattle.std.proofs.lemmas.Bool.{ne_eqb}
+use Rattle.std.specs.Prelude.{nat_lt, nat_le, ◌&&◌, if◌then◌else◌}
 use Rattle.hk_plan.specs.declared.Ready.{Ready}
 use Rattle.hk_plan.specs.AloneBy.{rows_below, chosen_task, is_some_at}
 use Rattle.hk_plan.proofs.ReadyRows.{head_law, chosen_law}
-use Rattle.hk_sheet.specs.declared.sheet.High.{High}
 use Rattle.hk_sheet.specs.declared.sheet.Sheet.{Sheet}
 use Rattle.hk_sheet.specs.Arrivals.{arrival_of, ready_of}
 use Rattle.hk_sheet.specs.Valid.{IsSheet}
-use Rattle.hk_dispatch.specs.Tasks.{Task, task_at, high_at, is_by}
-use Rattle.hk_dispatch.specs.Moment.{Course, Moment, course_at}
-use Rattle.hk_dispatch.specs.Turns.{Turn, to_task, to_collector, to_nobody, arrived, row_of, ready_row, ready_rows, turn}
+use Rattle.hk_dispatch.specs.Tasks.{Task, high_at, is_by}
+use Rattle.hk_dispatch.specs.Moment.{Moment, course_at}
+use Rattle.hk_dispatch.specs.Turns.{Turn, arrived, row_of, ready_row, ready_rows}
 use Rattle.hk_dispatch.specs.Rules.{ready_now, NoHighReady, TurnIs, by_high, by_operation, by_collector, by_low, by_nobody}
 use Rattle.hk_dispatch.specs.HighJobs.{is_to, arrivals_before}
 use Rattle.hk_dispatch.proofs.JobsKept.{high_is}

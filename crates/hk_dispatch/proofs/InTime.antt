@@ -1,14 +1,14 @@
 -- Each job of an admitted sheet ends within its response time, where the first row is chosen.
-use Rattle.std.proofs.Common.{◌≡◌, ℕ, zero, suc, ◌+◌, ◌-◌, ◌<◌, ◌≤◌, List, length, map, Option, Some, None, refl, sym, ◌∙◌, ap, subst, arith, inl, inr}
+use Rattle.std.proofs.Common.{◌≡◌, ℕ, ◌+◌, ◌<◌, ◌≤◌, List, length, Some, sym, ◌∙◌, ap, subst, arith, inl, inr}
 use Rattle.std.proofs.lemmas.Bool.{cases_lt}
 use Rattle.std.proofs.lemmas.List.{length-map, get_or-map}
-use Rattle.std.specs.Prelude.{slice_index, slice_index_or}
+use Rattle.std.specs.Prelude.{slice_index_or}
 use Rattle.hk_words.specs.declared.geometry.Geometry.{Geometry}
 use Rattle.hk_rta.specs.declared.Timing.{Timing}
 use Rattle.hk_rta.specs.Demand.{no_timing, timing_at}
 use Rattle.hk_rta.specs.Response.{Response}
 use Rattle.hk_plan.specs.declared.Ready.{Ready}
-use Rattle.hk_plan.specs.AloneBy.{Jobs, IsJob, AloneEnds, least_task}
+use Rattle.hk_plan.specs.AloneBy.{Jobs, IsJob, least_task}
 use Rattle.hk_plan.specs.JobBounds.{JobsKeepTiming, JobEndsWithin}
 use Rattle.hk_plan.proofs.JobBound.{response_bounds_jobs}
 use Rattle.hk_sheet.specs.declared.sheet.High.{High}
@@ -19,7 +19,7 @@ use Rattle.hk_admit.specs.Analysis.{timings_of}
 use Rattle.hk_admit.specs.Conditions.{AreResponses}
 use Rattle.hk_dispatch.specs.Tasks.{no_high, high_at}
 use Rattle.hk_dispatch.specs.Turns.{arrived}
-use Rattle.hk_dispatch.specs.Session.{state, IsSession, IsMoment, JobEndsAt}
+use Rattle.hk_dispatch.specs.Session.{IsSession, IsMoment}
 use Rattle.hk_dispatch.specs.HighJobs.{given, jobs_by}
 use Rattle.hk_dispatch.specs.Laws.{EndsInTime, JobsEndInTime}
 use Rattle.hk_dispatch.proofs.JobCounters as counter
@@ -110,9 +110,9 @@ module _ (g : Geometry) (sheet : Sheet) (work attempt busy debt : ℕ) (response
   is_job = record {
     known = high;
     listed =
-    let some = response_some (timings_of sheet.high) seat response (are.each seat timed) in
-    let le = moment.within in
-    arriving.listed sheet.ticks (high_at sheet seat).timing.period (high_at sheet seat).arrivals job arrival (high_right sheet s.checked.readable seat high).arrivals arrives (omega (arith, some, le));
+        let some = response_some (timings_of sheet.high) seat response (are.each seat timed) in
+        let le = moment.within in
+        arriving.listed sheet.ticks (high_at sheet seat).timing.period (high_at sheet seat).arrivals job arrival (high_right sheet s.checked.readable seat high).arrivals arrives (omega (arith, some, le));
   }
 
   within : JobEndsWithin its_jobs seat job response

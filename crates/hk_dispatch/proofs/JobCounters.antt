@@ -1,10 +1,10 @@
 -- The jobs of one task, over abstract counters: which ticks go to the task, which of its jobs is under way, how many ticks
 -- that one has had, and how many each job was given so far.
 use Rattle.std.proofs.Common.{◌≡◌, ◌≢◌, ℕ, zero, suc, ◌+◌, ◌<◌, ◌≤◌, Bool, true, false, refl, sym, ◌∙◌, ap, arith, inl, inr}
-use Rattle.std.proofs.lemmas.Bool.{cases_Bool, cases_eq, cases_lt, eq-eqb, ne_eqb}
+use Rattle.std.proofs.lemmas.Bool.{cases_eq, cases_lt, eq-eqb, ne_eqb}
 use Rattle.std.specs.Prelude.{nat_eq, ◌&&◌, if◌then◌else◌}
 
--- A tick and a task. It goes by the task, or it goes to the task's job, which goes on or ends with it.
+-- A tick, and what it does to a task: it isn't the task's, or it goes to the task's job, which goes on or ends with it.
 pub data Counts (gets : Bool) (job had job' had' : ℕ) : Type 0 where
   waits : gets ≡ false → job' ≡ job → had' ≡ had → Counts gets job had job' had'
   goes_on : gets ≡ true → job' ≡ job → had' ≡ had + 1 → Counts gets job had job' had'
@@ -144,7 +144,7 @@ module _ (gets : ℕ → Bool) (job had : ℕ → ℕ) (given : ℕ → ℕ → 
           ]
     ]
 
-    -- what holds of all that is had before an end holds of what was given
+    -- where the job under way has always had fewer ticks than some number, no job is given more than that number
     pub given_few : (cost : ℕ) → ((t : ℕ) → had t < cost) → (t j : ℕ) → given t j ≤ cost
     given_few cost few zero j = let none = c.none_given j in omega (arith, none)
     given_few cost few (suc t) j = elim (cases_eq (job t) j) [

@@ -1,5 +1,5 @@
 -- The counters of a seat's jobs, as a session's run shows them.
-use Rattle.std.proofs.Common.{◌≡◌, ◌≢◌, ℕ, zero, suc, ◌+◌, ◌<◌, ◌≤◌, Bool, true, false, List, length, Option, Some, None, refl, sym, ◌∙◌, ap, subst, arith, inl, inr}
+use Rattle.std.proofs.Common.{◌≡◌, ℕ, suc, ◌+◌, ◌<◌, Bool, true, List, length, Option, Some, None, refl, sym, ap, subst, arith, inl, inr}
 use Rattle.std.proofs.lemmas.Bool.{cases_eq, eq-eqb, ne_eqb}
 use Rattle.std.specs.Prelude.{nat_eq, ◌&&◌, is_none, if◌then◌else◌}
 use Rattle.hk_words.specs.declared.geometry.Geometry.{Geometry}
@@ -20,8 +20,8 @@ use Rattle.hk_dispatch.specs.Ticks.{is_over, next_job, course_after, after_task,
 use Rattle.hk_dispatch.specs.Session.{after_tick, state, IsSession}
 use Rattle.hk_dispatch.specs.Rules.{TurnIs}
 use Rattle.hk_dispatch.specs.Jobs.{JobsKept}
-use Rattle.hk_dispatch.specs.HighJobs.{is_to, goes_to, given}
-use Rattle.hk_dispatch.proofs.Courses.{by_test, course_now, own_course, other_course}
+use Rattle.hk_dispatch.specs.HighJobs.{is_to, given}
+use Rattle.hk_dispatch.proofs.Courses.{by_test, own_course, other_course}
 use Rattle.hk_dispatch.proofs.JobCounters.{Counts, waits, goes_on, ends, AreCounters}
 use Rattle.hk_dispatch.proofs.JobsKept.{high_is}
 use Rattle.hk_dispatch.proofs.SessionJobs.{jobs_kept}

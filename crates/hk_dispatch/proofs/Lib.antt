@@ -44,3 +44,10 @@ pub mod ReplaySteps
 pub mod ReplayTicks
 pub mod ReplayTasks
 pub mod SessionReplay
+pub mod JobCounters
+pub mod SeatCounters
+pub mod ListedJobs
+pub mod HighTicks
+pub mod AloneRun
+pub mod AloneEnds
+pub mod InTime

@@ -7,6 +7,7 @@
 mod laws;
 mod operation;
 mod pick;
+mod schedule;
 mod tick;
 
 pub use hk_plan::Ready;
@@ -16,4 +17,5 @@ pub use laws::{
 };
 pub use operation::{Left, ask, operate};
 pub use pick::{First, Pick};
+pub use schedule::{ends_are_alone, jobs_end_in_time};
 pub use tick::{Chore, End, JobFault, Tick, Who};

@@ -38,7 +38,6 @@ pub mod RoomNews
 pub mod RoomSteps
 pub mod RoomTicks
 pub mod RoomFull
-pub mod NoneFull
 pub mod ReplayEffects
 pub mod ReplaySteps
 pub mod ReplayTicks

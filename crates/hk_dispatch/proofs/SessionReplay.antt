@@ -34,7 +34,7 @@ use Rattle.hk_dispatch.proofs.Waiting.{mid_course_ready, seat_below}
 use Rattle.hk_dispatch.proofs.Runs.{geometry_at, lawful_at}
 use Rattle.hk_dispatch.proofs.SessionJobs.{jobs_kept}
 use Rattle.hk_dispatch.proofs.Promises.{no_task_is_spent, questions_are_answered}
-use Rattle.hk_dispatch.proofs.NoneFull.{NoneFull}
+use Rattle.hk_dispatch.proofs.Owed.{NoneFull}
 use Rattle.hk_dispatch.proofs.ReplayTasks.{PartFollows, Follows, TaskTicks, follows_new, task_follows, task_out, task_end}
 
 -- THE START

@@ -5,6 +5,9 @@ pub mod LowFacts
 pub mod ReadyCounts
 pub mod BusyWindow
 pub mod HighLeft
+pub mod NewSizes
+pub mod LowSeats
+pub mod LowLeft
 pub mod Begun
 pub mod Tracing
 pub mod InStep

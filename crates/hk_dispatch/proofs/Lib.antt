@@ -8,6 +8,9 @@ pub mod HighLeft
 pub mod NewSizes
 pub mod LowSeats
 pub mod LowLeft
+pub mod ObjectsSmall
+pub mod OpenAttempts
+pub mod LowTicks
 pub mod Begun
 pub mod Tracing
 pub mod InStep

@@ -5,12 +5,15 @@ pub mod LowFacts
 pub mod ReadyCounts
 pub mod BusyWindow
 pub mod HighLeft
+pub mod ArrivedBefore
 pub mod NewSizes
 pub mod LowSeats
 pub mod LowLeft
 pub mod ObjectsSmall
 pub mod OpenAttempts
 pub mod LowTicks
+pub mod TickCounts
+pub mod AllLosses
 pub mod Begun
 pub mod Tracing
 pub mod InStep

@@ -10,6 +10,15 @@ pub mod QuietTest
 pub mod BusyRun
 pub mod BusyPremises
 pub mod DebtLaws
+pub mod ArrivedBefore
+pub mod NewSizes
+pub mod LowSeats
+pub mod LowLeft
+pub mod ObjectsSmall
+pub mod OpenAttempts
+pub mod LowTicks
+pub mod TickCounts
+pub mod AllLosses
 pub mod Begun
 pub mod Tracing
 pub mod InStep

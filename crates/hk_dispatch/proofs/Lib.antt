@@ -59,3 +59,4 @@ pub mod HighTicks
 pub mod AloneRun
 pub mod AloneEnds
 pub mod InTime
+pub mod Whole

@@ -1,6 +1,6 @@
 -- The promises of sessions that stand on the busy interval: the debt, the room that each New finds, and the replay on the heap
 -- that never collects.
-use Rattle.std.proofs.Common.{ℕ, List, arith}
+use Rattle.std.proofs.Common.{arith}
 use Rattle.hk_plan.specs.AloneBy.{least_task}
 use Rattle.hk_dispatch.specs.Rows.{IsChoice}
 use Rattle.hk_dispatch.specs.Laws.{DebtWithin, QuietAgain, UsedWithin, HighNewsFindRoom, LowNewsFindRoom, NoNewIsRefused, SessionIsReplay}

@@ -12,7 +12,9 @@ mod tick;
 
 pub use hk_plan::Ready;
 pub use laws::{
-    collector_never_waits, cycles_end_in_time, debt_is_accounted, debt_stays_within, heap_is_legal, idle_exactly, jobs_keep_scripts, live_over_has_cause, losses_are_few, no_new_is_refused, no_task_is_spent, rules_decide, session_is_replay,
+    collector_never_waits, cycles_end_in_time, debt_is_accounted, debt_stays_within, heap_is_legal,
+    idle_exactly, jobs_keep_scripts, live_over_has_cause, losses_are_few, no_new_is_refused,
+    no_task_is_spent, rules_decide, session_is_replay,
 };
 pub use operation::{Left, ask, operate};
 pub use pick::{First, Pick};

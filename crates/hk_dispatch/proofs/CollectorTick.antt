@@ -1,33 +1,20 @@
 -- A tick of the collector: what it keeps of the heap, and that it waits for nobody.
-use Rattle.std.proofs.Common.{◌≡◌, ◌≢◌, ℕ, suc, zero, ◌+◌, ◌-◌, ◌*◌, ◌^◌, ◌<◌, ◌≤◌, Bool, true, false, List, [], ◌∷◌, ◌++◌, length, Option, Some, None, refl, sym, ◌∙◌, ap, subst, arith, inl, inr}
-use Rattle.std.proofs.lemmas.Bool.{cases_Bool}
-use Rattle.std.proofs.lemmas.List.Sums.{fold_push}
-use Rattle.std.proofs.Math.Nat.{mul-le-mul_left}
-use Rattle.std.specs.Prelude.{max, nat_eq, nat_le, ◌&&◌, if◌then◌else◌}
-use Rattle.hk_words.specs.declared.call.Call.{Call}
+use Rattle.std.proofs.Common.{◌≡◌, ◌≢◌, ℕ, ◌+◌, ◌*◌, ◌<◌, Bool, true, Option, Some, None, refl, sym, ◌∙◌, ap, subst, arith}
+use Rattle.std.specs.Prelude.{max}
 use Rattle.hk_words.specs.declared.geometry.Geometry.{Geometry}
 use Rattle.hk_words.specs.Bounds.{frame_events, object_events}
-use Rattle.hk_words.specs.Geometry.{tasks, space_words}
-use Rattle.hk_words.specs.Layout.{w0_words}
-use Rattle.hk_words.specs.Row.{W0, word_of}
 use Rattle.hk_model.specs.History.{History}
-use Rattle.hk_core.specs.View.{words_of, decoded, raw}
-use Rattle.hk_core.specs.declared.flight.Flight.{Flight}
-use Rattle.hk_core.specs.declared.spot.Spot.{Spot}
-use Rattle.hk_core.specs.declared.spot.Line.TheVariants as line
 use Rattle.hk_core.specs.declared.spot.Work.{Work}
-use Rattle.hk_core.specs.declared.spot.Work.TheVariants.{Useful, Flipped, Lost, BusyFrame, BusyObject, Unlinked, Grey, LiveOver, Worn}
-use Rattle.hk_core.specs.State.{State, flight_of}
-use Rattle.hk_core.specs.Collect.{next_collected, work_by_collector, last_cycle}
-use Rattle.hk_core.specs.Lines.{cleared}
+use Rattle.hk_core.specs.declared.spot.Work.TheVariants.{LiveOver, Worn}
+use Rattle.hk_core.specs.State.{State}
+use Rattle.hk_core.specs.Collect.{next_collected, work_by_collector}
 use Rattle.hk_core.specs.Lawful.{Lawful}
-use Rattle.hk_core.specs.Run.{Action, Running, collect, act}
+use Rattle.hk_core.specs.Run.{Running, act}
 use Rattle.hk_collect.specs.Cycles.{IsWorked}
 use Rattle.hk_collect.specs.Measure.{NoneInFlight, WaitsForNobody}
 use Rattle.hk_collect.specs.Pays.{HeapKept, ObjectsWithin, IsAttemptBound, Pays, met_still}
 use Rattle.hk_collect.specs.Taken.{used_in}
-use Rattle.hk_collect.specs.Used.{Trace, trace_act, trace_opening, traced, is_flip}
-use Rattle.hk_collect.proofs.Cycles.{event_works, few_events_never_wear}
+use Rattle.hk_collect.proofs.Cycles.{event_works}
 use Rattle.hk_collect.proofs.Pays.{collector_pays}
 use Rattle.hk_sheet.specs.declared.sheet.Sheet.{Sheet}
 use Rattle.hk_admit.specs.Analysis.{some_makes, attempt_events, largest_object}

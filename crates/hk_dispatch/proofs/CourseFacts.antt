@@ -1,17 +1,14 @@
 -- What is kept of a course through a tick of its task, and through a tick of another.
-use Rattle.std.proofs.Common.{◌≡◌, ◌≢◌, ℕ, suc, zero, ◌+◌, ◌<◌, ◌≤◌, Bool, true, false, List, length, Option, Some, None, refl, sym, ◌∙◌, ap, subst, arith, inl, inr}
+use Rattle.std.proofs.Common.{◌≡◌, ◌≢◌, ℕ, suc, zero, ◌+◌, ◌<◌, ◌≤◌, true, length, Option, Some, None, refl, ◌∙◌, arith}
 use Rattle.std.proofs.lemmas.Bool.{lt-ltb, eqb-false, leb-true}
-use Rattle.std.specs.Prelude.{nat_le, nat_eq, nat_lt, if◌then◌else◌}
-use Rattle.hk_words.specs.declared.call.Reply.{Reply}
-use Rattle.hk_core.specs.declared.outcome.Fault.{Fault}
+use Rattle.std.specs.Prelude.{nat_lt, if◌then◌else◌}
 use Rattle.hk_script.specs.Limits.{limits_of}
-use Rattle.hk_script.specs.declared.walk.Walk.{Walk}
 use Rattle.hk_script.specs.declared.walk.Need.{Need}
 use Rattle.hk_script.specs.Blocks.{IsScript}
 use Rattle.hk_script.specs.Cost.{greatest_ticks, greatest_words}
-use Rattle.hk_script.specs.Walks.{started, need_of, walk_after, Fits}
+use Rattle.hk_script.specs.Walks.{started, need_of, walk_after}
 use Rattle.hk_script.specs.Runs.{need_ticks, need_words, taken_by}
-use Rattle.hk_script.specs.Left.{ticks_left, words_left}
+use Rattle.hk_script.specs.Left.{words_left}
 use Rattle.hk_script.proofs.Stops.{started_fits}
 use Rattle.hk_script.proofs.Potential.{ticks_fall, words_fall, ticks_started, words_started, goes_on_fitting}
 use Rattle.hk_dispatch.specs.declared.operation.Left.{Left}
@@ -19,8 +16,8 @@ use Rattle.hk_dispatch.specs.declared.operation.Left.TheVariants as left
 use Rattle.hk_dispatch.specs.Tasks.{Task, is_by}
 use Rattle.hk_dispatch.specs.Moment.{Course}
 use Rattle.hk_dispatch.specs.Turns.{is_ready}
-use Rattle.hk_dispatch.specs.Ticks.{is_over, next_job, passed, course_after}
-use Rattle.hk_dispatch.specs.Kept.{CourseKept, KeepsDeclared, taken_already}
+use Rattle.hk_dispatch.specs.Ticks.{is_over, next_job, course_after}
+use Rattle.hk_dispatch.specs.Kept.{CourseKept, KeepsDeclared}
 use Rattle.hk_dispatch.proofs.Courses.{by_test}
 use Rattle.hk_dispatch.proofs.Walking.{wants_ticks}
 

@@ -1,10 +1,7 @@
 -- The courses after a tick of a task: that of its own seat is the one that the tick leads to, and the others are as they were.
-use Rattle.std.proofs.Common.{◌≡◌, ◌≢◌, ℕ, ◌+◌, ◌<◌, ◌≤◌, Bool, true, false, List, length, refl, sym, ◌∙◌, ap, subst, arith, inl, inr, Option, Some, None, get_or, set, length-set, get_or-set_same, get_or-set_other}
-use Rattle.std.proofs.lemmas.Bool.{cases_Bool}
-use Rattle.std.specs.Prelude.{nat_eq, if◌then◌else◌}
+use Rattle.std.proofs.Common.{◌≡◌, ◌≢◌, ℕ, ◌<◌, Bool, true, false, length, refl, ap, length-set, get_or-set_same, get_or-set_other}
+use Rattle.std.specs.Prelude.{if◌then◌else◌}
 use Rattle.hk_words.specs.declared.call.Reply.{Reply}
-use Rattle.hk_core.specs.declared.outcome.Fault.{Fault}
-use Rattle.hk_script.specs.declared.walk.Need.{Need}
 use Rattle.hk_script.specs.declared.walk.Walk.{Walk}
 use Rattle.hk_script.specs.Walks.{need_of}
 use Rattle.hk_sheet.specs.declared.sheet.Sheet.{Sheet}

@@ -1,13 +1,12 @@
 -- The calls in flight are in step with the walks: a seat has a call in flight exactly while its job is in mid-course of an
 -- operation, at the place after the ticks that the job has had of it.
-use Rattle.std.proofs.Common.{◌≡◌, ◌≢◌, ℕ, zero, suc, ◌+◌, ◌-◌, ◌<◌, ◌≤◌, ◌⊎◌, Bool, true, false, List, length, inl, inr, refl, sym, subst, ◌∙◌, ap, arith, Option, Some, None, get_or, set, length-set, get_or-set_same, get_or-set_other}
-use Rattle.std.proofs.lemmas.Bool.{cases_Bool, cases_eq, eqb-true, eqb-false, eq-eqb, ne_eqb, and_from, and_parts, lt-ltb, ltb-true, cond-true, cond-false}
-use Rattle.std.specs.Prelude.{nat_eq, nat_lt, not, ◌&&◌, ◌==◌, slice_set, slice_index_or, if◌then◌else◌}
+use Rattle.std.proofs.Common.{◌≡◌, ℕ, zero, suc, ◌+◌, ◌<◌, ◌≤◌, true, false, inl, inr, refl, sym, subst, ◌∙◌, ap, arith, Option, Some, None}
+use Rattle.std.proofs.lemmas.Bool.{cases_eq, eq-eqb, ne_eqb, and_from, lt-ltb}
+use Rattle.std.specs.Prelude.{not}
 use Rattle.hk_words.specs.declared.geometry.Geometry.{Geometry}
 use Rattle.hk_words.specs.declared.call.Call.{Call}
 use Rattle.hk_words.specs.declared.call.Call.TheVariants as call
 use Rattle.hk_words.specs.declared.call.Reply.{Reply}
-use Rattle.hk_words.specs.declared.call.Reply.TheVariants as reply
 use Rattle.hk_words.specs.Geometry.{tasks}
 use Rattle.hk_model.specs.History.{is_question}
 use Rattle.hk_core.specs.declared.flight.Flight.{Flight}
@@ -17,18 +16,16 @@ use Rattle.hk_words.specs.Bounds.{places_of}
 use Rattle.hk_core.specs.Step.{next, answer_by}
 use Rattle.hk_core.specs.Begin.{refusal, first_flight, after_begin}
 use Rattle.hk_core.specs.Places.{GoesOn, Ends, KeepsOthers}
-use Rattle.hk_core.specs.Run.{Running, begin, step, collect, act, is_idle, is_busy, may_begin, registers_fit}
+use Rattle.hk_core.specs.Run.{Running, begin, step, act, is_busy, may_begin}
 use Rattle.hk_core.proofs.Places.{begins_first, begins_alone, goes_on, ends, others_kept}
 use Rattle.hk_core.proofs.Registers.{registers_tested}
 use Rattle.hk_core.proofs.Turns.{has_flight, begin_sized, begin_geometry}
 use Rattle.hk_collect.specs.Used.{Trace, trace_act}
 use Rattle.hk_script.specs.declared.walk.Need.{Need}
 use Rattle.hk_script.specs.declared.walk.Need.TheVariants as need
-use Rattle.hk_script.specs.declared.walk.Walk.{Walk}
 use Rattle.hk_dispatch.specs.declared.operation.Left.{Left}
 use Rattle.hk_dispatch.specs.declared.operation.Left.TheVariants as left
 use Rattle.hk_dispatch.specs.InStep.{SeatInStep, aside, under_way, MayBegin}
-use Rattle.hk_dispatch.specs.Turns.{is_operation}
 use Rattle.hk_dispatch.proofs.Tracing.{traced_step}
 use Rattle.hk_dispatch.specs.Ticks.{left_in, run_first, run_on, leaves_first, leaves_on}
 

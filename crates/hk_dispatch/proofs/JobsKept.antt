@@ -1,14 +1,13 @@
 -- What is kept of all jobs: their courses, what high ones declare, and that the calls in flight are in step.
-use Rattle.std.proofs.Common.{◌≡◌, ◌≢◌, ℕ, suc, zero, ◌+◌, ◌^◌, ◌<◌, ◌≤◌, Bool, true, false, List, [], ◌∷◌, length, Option, Some, None, refl, sym, ◌∙◌, ap, subst, arith, inl, inr, get_or}
-use Rattle.std.proofs.lemmas.Bool.{cases_Bool, cases_eq, ltb-false, leb-true}
+use Rattle.std.proofs.Common.{◌≡◌, ℕ, suc, zero, ◌+◌, ◌^◌, ◌<◌, ◌≤◌, Bool, true, false, List, [], ◌∷◌, length, Option, Some, refl, sym, ◌∙◌, ap, subst, arith, inl, inr, get_or}
+use Rattle.std.proofs.lemmas.Bool.{cases_Bool, cases_eq, ltb-false}
 use Rattle.std.proofs.lemmas.List.{get_or_append_left, get_or-map, length-map}
-use Rattle.std.specs.Prelude.{map, slice_index_or, nat_le, nat_lt, ◌||◌, if◌then◌else◌}
+use Rattle.std.specs.Prelude.{map, slice_index_or, nat_le, nat_lt, ◌||◌}
 use Rattle.std.specs.List.{list_any}
 use Rattle.hk_words.specs.declared.call.Call.{Call}
-use Rattle.hk_words.specs.declared.geometry.Geometry.{Geometry}
 use Rattle.hk_words.specs.Geometry.{tasks}
 use Rattle.hk_core.specs.declared.flight.Flight.{Flight}
-use Rattle.hk_core.specs.State.{State, IsSized, flight_of}
+use Rattle.hk_core.specs.State.{IsSized, flight_of}
 use Rattle.hk_script.specs.declared.walk.Need.{Need}
 use Rattle.hk_script.specs.declared.walk.Need.TheVariants as need
 use Rattle.hk_script.specs.Cost.{told, greatest_ticks, greatest_words}
@@ -18,19 +17,18 @@ use Rattle.hk_sheet.specs.declared.sheet.High.{High}
 use Rattle.hk_sheet.specs.declared.sheet.Sheet.{Sheet}
 use Rattle.hk_sheet.specs.Valid.{IsSheet}
 use Rattle.hk_admit.specs.Conditions.{exceeds, is_too_long, is_too_large, KeepsToDeclared}
-use Rattle.hk_dispatch.specs.declared.operation.Left.{Left}
 use Rattle.hk_dispatch.specs.declared.operation.Left.TheVariants as left
 use Rattle.hk_dispatch.specs.Tasks.{Task, high_task, low_task, tasks_of, no_task, no_high, task_at, high_at}
 use Rattle.hk_dispatch.specs.Moment.{Course, Moment, no_course, core_of, course_at, need_at}
 use Rattle.hk_dispatch.specs.Turns.{is_ready}
 use Rattle.hk_dispatch.specs.Ticks.{after_task, leaves_on}
-use Rattle.hk_dispatch.specs.InStep.{SeatInStep, MayBegin}
+use Rattle.hk_dispatch.specs.InStep.{SeatInStep}
 use Rattle.hk_dispatch.specs.Kept.{CourseKept, KeepsDeclared}
 use Rattle.hk_dispatch.proofs.InStep.{OpInStep, op_keeps}
 use Rattle.hk_dispatch.proofs.Courses.{left_now, words_now, course_now, own_course, other_course, as_many_courses}
 use Rattle.hk_dispatch.specs.Jobs.{JobsKept}
 use Rattle.hk_dispatch.proofs.SeatsInStep.{MayBeginIf, task_keeps_step}
-use Rattle.hk_dispatch.proofs.Sheets.{HasScript, scripts, count_tasks}
+use Rattle.hk_dispatch.proofs.Sheets.{HasScript, scripts}
 use Rattle.hk_dispatch.proofs.Walking.{wants, may_begin_wanted}
 use Rattle.hk_dispatch.proofs.CourseFacts.{course_waits, course_keeps, declared_keeps}
 use Rattle.hk_dispatch.proofs.TaskTick.{words_few, words_none, stays_more}

@@ -1,19 +1,18 @@
 -- The low operation in mid-course: there is one at most, and none while an attempt goes on that wasn't met.
-use Rattle.std.proofs.Common.{◌≡◌, ◌≢◌, ℕ, suc, zero, ◌+◌, ◌<◌, ◌≤◌, Bool, true, false, List, length, Option, Some, None, refl, sym, ◌∙◌, ap, subst, arith, inl, inr}
+use Rattle.std.proofs.Common.{◌≡◌, ◌≢◌, ℕ, suc, ◌<◌, Bool, true, false, List, length, sym, ◌∙◌, ap, subst, arith, inl, inr}
 use Rattle.std.proofs.lemmas.Bool.{cases_eq}
 use Rattle.std.specs.Prelude.{nat_lt, ◌&&◌, slice_index_or}
 use Rattle.hk_script.specs.Walks.{need_of}
 use Rattle.hk_sheet.specs.declared.sheet.Sheet.{Sheet}
 use Rattle.hk_sheet.specs.Valid.{IsSheet}
 use Rattle.hk_collect.specs.Runs.{in_attempt}
-use Rattle.hk_plan.specs.declared.Ready.{Ready}
 use Rattle.hk_dispatch.specs.Tasks.{IsLowSeat, task_at}
-use Rattle.hk_dispatch.specs.Moment.{Course, Moment, no_course, core_of, course_at, need_at}
+use Rattle.hk_dispatch.specs.Moment.{Course, Moment, no_course, core_of, course_at}
 use Rattle.hk_dispatch.specs.Turns.{is_operation, in_mid_course, first_low}
 use Rattle.hk_dispatch.specs.Ticks.{after_task}
 use Rattle.hk_dispatch.specs.Kept.{OneLow, AttemptFresh}
 use Rattle.hk_dispatch.proofs.Courses.{other_course}
-use Rattle.hk_dispatch.specs.Rules.{NoHighReady, NoLow, FirstLowIs, ToOperation, ToLow}
+use Rattle.hk_dispatch.specs.Rules.{NoHighReady, NoLow, ToOperation, ToLow}
 use Rattle.hk_dispatch.proofs.ReadyMoments.{none_waits}
 
 -- whether an operation is in mid-course, by the courses

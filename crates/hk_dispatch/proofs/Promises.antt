@@ -1,7 +1,7 @@
 -- The promises of sessions that are proved.
-use Rattle.std.proofs.Common.{◌≡◌, ◌≢◌, ℕ, zero, suc, ◌+◌, ◌<◌, ◌≤◌, Bool, true, false, List, length, Option, Some, None, refl, sym, ◌∙◌, ap, subst, arith, inl, inr}
+use Rattle.std.proofs.Common.{◌≡◌, ℕ, ◌<◌, Option, refl, sym, ◌∙◌, ap, subst, arith}
 use Rattle.std.proofs.lemmas.Bool.{eqb-true, eq-eqb}
-use Rattle.std.specs.Prelude.{◌==◌, ◌↔◌, IfSome, IsTrue, nat_eq}
+use Rattle.std.specs.Prelude.{◌==◌, ◌↔◌, IfSome, IsTrue}
 use Rattle.hk_words.specs.declared.geometry.Geometry.{Geometry}
 use Rattle.hk_words.specs.declared.call.Call.{Call}
 use Rattle.hk_words.specs.declared.call.Call.TheVariants as call
@@ -20,16 +20,14 @@ use Rattle.hk_script.specs.declared.walk.Need.TheVariants as need
 use Rattle.hk_script.specs.Limits.{limits_of}
 use Rattle.hk_script.specs.Needs.{NeedFits}
 use Rattle.hk_script.proofs.Needs.{need_fits}
-use Rattle.hk_sheet.specs.declared.sheet.Sheet.{Sheet}
-use Rattle.hk_dispatch.specs.Tasks.{tasks_of, task_at}
-use Rattle.hk_dispatch.specs.Moment.{core_of, history_of, course_at, need_at, plain_heap}
-use Rattle.hk_dispatch.specs.Turns.{Turn, to_task, turn}
+use Rattle.hk_dispatch.specs.Tasks.{task_at}
+use Rattle.hk_dispatch.specs.Moment.{core_of, history_of, course_at, need_at}
+use Rattle.hk_dispatch.specs.Turns.{turn}
 use Rattle.hk_dispatch.specs.Ticks.{asked}
-use Rattle.hk_dispatch.specs.Session.{state, IsSession, IsTick, IsMoment}
+use Rattle.hk_dispatch.specs.Session.{state}
 use Rattle.hk_dispatch.specs.Laws.{RunIsInterleaving, HistoryIsLegal, QuestionsAreAnswered, IdleExactly, DebtIsAccounted, UsefulWithin, CollectorNeverWaits, LiveOverHasCause, NoTaskIsSpent, UsedIsPaid, JobsAreKept, OneLowOperation}
-use Rattle.hk_dispatch.specs.Rules.{TurnIs, by_high, by_operation, by_collector, by_low, by_nobody}
 use Rattle.hk_dispatch.proofs.TurnFacts.{turn_is}
-use Rattle.hk_dispatch.proofs.Sheets.{scripts, seats, count_tasks}
+use Rattle.hk_dispatch.proofs.Sheets.{scripts, seats}
 use Rattle.hk_dispatch.proofs.SeatsInStep.{none_flying}
 use Rattle.hk_dispatch.proofs.Waiting.{idle_exactly, seat_below}
 use Rattle.hk_dispatch.proofs.Runs.{state_run, geometry_at, lawful_at, legal_at}

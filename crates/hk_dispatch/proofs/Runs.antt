@@ -8,7 +8,7 @@ use Rattle.hk_model.specs.History.{Legal}
 use Rattle.hk_core.specs.declared.outcome.Fault.{Fault}
 use Rattle.hk_core.specs.Begin.{refusal}
 use Rattle.hk_core.specs.Lawful.{Lawful}
-use Rattle.hk_core.specs.Run.{Action, Running, begin, step, collect}
+use Rattle.hk_core.specs.Run.{Running, begin, step, collect}
 use Rattle.hk_core.proofs.Actions.{IsLawfulRun}
 use Rattle.hk_collect.specs.Used.{Trace, trace_act, traced}
 use Rattle.hk_collect.proofs.Running.{lawful_from_opening, legal_from_opening}

@@ -1,6 +1,6 @@
 -- A tick keeps the seats in step: the calls in flight stand where the jobs are.
-use Rattle.std.proofs.Common.{◌≡◌, ◌≢◌, ℕ, zero, suc, ◌+◌, ◌<◌, ◌≤◌, ◌⊎◌, Bool, true, false, List, length, inl, inr, refl, sym, subst, ◌∙◌, ap, arith, Option, Some, None}
-use Rattle.std.proofs.lemmas.Bool.{cases_Bool, cases_eq}
+use Rattle.std.proofs.Common.{◌≡◌, ◌≢◌, ℕ, ◌+◌, ◌<◌, Bool, true, false, length, inl, inr, refl, sym, subst, ◌∙◌, ap, arith, Option, Some, None}
+use Rattle.std.proofs.lemmas.Bool.{cases_eq}
 use Rattle.std.specs.Prelude.{nat_lt, if◌then◌else◌}
 use Rattle.hk_words.specs.declared.call.Call.{Call}
 use Rattle.hk_words.specs.declared.call.Reply.{Reply}
@@ -8,8 +8,7 @@ use Rattle.hk_words.specs.declared.call.Reply.TheVariants as reply
 use Rattle.hk_words.specs.Geometry.{tasks}
 use Rattle.hk_model.specs.Replies.{said}
 use Rattle.hk_core.specs.declared.flight.Flight.{Flight}
-use Rattle.hk_core.specs.declared.outcome.Fault.{Fault}
-use Rattle.hk_core.specs.State.{State, IsSized, flight_of}
+use Rattle.hk_core.specs.State.{IsSized, flight_of}
 use Rattle.hk_core.specs.Places.{KeepsOthers}
 use Rattle.hk_script.specs.declared.walk.Need.{Need}
 use Rattle.hk_script.specs.declared.walk.Need.TheVariants as need
@@ -20,11 +19,11 @@ use Rattle.hk_dispatch.specs.declared.operation.Left.TheVariants as left
 use Rattle.hk_dispatch.specs.Tasks.{Task, tasks_of, task_at}
 use Rattle.hk_dispatch.specs.Moment.{Course, Moment, core_of, course_at, need_at}
 use Rattle.hk_dispatch.specs.Turns.{is_operation}
-use Rattle.hk_dispatch.specs.Ticks.{asked, leaves_on, left_by, run_by, run_on, words_by, course_after, after_task}
+use Rattle.hk_dispatch.specs.Ticks.{asked, left_by, run_by, words_by, course_after, after_task}
 use Rattle.hk_dispatch.specs.InStep.{SeatInStep, aside, under_way, MayBegin}
 use Rattle.hk_dispatch.specs.Jobs.{AreInStep}
-use Rattle.hk_dispatch.proofs.InStep.{OpInStep, still, done, refused, OpKeeps, op_keeps}
-use Rattle.hk_dispatch.proofs.Courses.{left_now, words_now, course_now, own_course, other_course, other_need, passes_spent}
+use Rattle.hk_dispatch.proofs.InStep.{OpInStep, still, done, refused, op_keeps}
+use Rattle.hk_dispatch.proofs.Courses.{own_course, other_course, passes_spent}
 
 -- what a job wants may be begun, where it is an operation
 abbrev pub MayBeginIf : Sheet → Moment → (seat : ℕ) → Type 0

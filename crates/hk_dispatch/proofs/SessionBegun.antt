@@ -1,5 +1,5 @@
 -- Each seat of a session has begun at most one call a tick. So no task of a run runs out of calls.
-use Rattle.std.proofs.Common.{◌≡◌, ◌≢◌, ℕ, zero, suc, ◌+◌, ◌^◌, ◌<◌, ◌≤◌, Bool, true, false, List, Option, Some, None, refl, sym, ◌∙◌, ap, subst, arith, inl, inr}
+use Rattle.std.proofs.Common.{◌≡◌, ◌≢◌, ℕ, zero, suc, ◌+◌, ◌^◌, ◌≤◌, Bool, true, false, List, Option, Some, None, sym, subst, arith, inl, inr}
 use Rattle.std.proofs.lemmas.Bool.{cases_Bool, leb-true}
 use Rattle.std.specs.Prelude.{nat_le, not, is_some, ◌&&◌, ◌==◌, slice_index, if◌then◌else◌}
 use Rattle.hk_words.specs.declared.call.Call.{Call}

@@ -1,24 +1,23 @@
 -- At every moment of a session the machine of its heap is calm, the useful events of the cycle are at most those of the spot, and
 -- the events of the collector are enough for its cycles. So it waits for nobody, and has cycles enough. And each seat has begun
 -- at most one call a tick.
-use Rattle.std.proofs.Common.{◌≡◌, ◌≢◌, ℕ, zero, suc, ◌+◌, ◌*◌, ◌^◌, ◌<◌, ◌≤◌, Bool, true, false, List, length, Option, Some, None, refl, sym, ◌∙◌, ap, subst, arith, inl, inr, get_or, set, get_or-set_same, get_or-set_other}
-use Rattle.std.proofs.lemmas.Bool.{cases_Bool, cases_eq, and_parts, ltb-true}
-use Rattle.std.specs.Prelude.{nat_lt, nat_eq, ◌&&◌, not, if◌then◌else◌}
+use Rattle.std.proofs.Common.{◌≡◌, ◌≢◌, ℕ, zero, suc, ◌+◌, ◌^◌, ◌<◌, ◌≤◌, Bool, true, false, List, length, Option, Some, None, refl, sym, ◌∙◌, ap, subst, arith}
+use Rattle.std.proofs.lemmas.Bool.{and_parts, ltb-true}
+use Rattle.std.specs.Prelude.{nat_lt, nat_eq, not, if◌then◌else◌}
 use Rattle.hk_words.specs.declared.call.Call.{Call}
 use Rattle.hk_words.specs.declared.geometry.Geometry.{Geometry}
 use Rattle.hk_words.specs.Bounds.{cycle_events}
 use Rattle.hk_words.specs.Geometry.{HasSizes, tasks}
-use Rattle.hk_model.specs.History.{History}
 use Rattle.hk_core.specs.declared.outcome.Fault.{Fault}
 use Rattle.hk_core.specs.declared.spot.Spot.{Spot}
 use Rattle.hk_core.specs.declared.spot.Work.TheVariants.{Worn}
 use Rattle.hk_core.specs.State as machine
 use Rattle.hk_core.specs.State.{State, IsSized, flight_of}
 use Rattle.hk_core.specs.Step.{next, history_after}
-use Rattle.hk_core.specs.Begin.{refusal, accepted, after_begin, begun_or}
+use Rattle.hk_core.specs.Begin.{refusal, after_begin}
 use Rattle.hk_core.specs.Collect.{next_collected, work_by_collector}
 use Rattle.hk_core.specs.Lawful.{Lawful}
-use Rattle.hk_core.specs.Run.{Running, begin, step, collect, act, is_idle, is_busy, may_begin}
+use Rattle.hk_core.specs.Run.{Running, begin, step, act, is_busy, may_begin}
 use Rattle.hk_core.proofs.Actions.{IsLawfulRun}
 use Rattle.hk_collect.specs.Cycles.{IsWorked}
 use Rattle.hk_collect.specs.Measure.{IsCalm, KeepsCalm, KeepsMeasure, NoneInFlight, WaitsForNobody, most_useful, cycle_bound}
@@ -39,7 +38,7 @@ use Rattle.hk_admit.specs.Conditions.{KeepsToDeclared}
 use Rattle.hk_dispatch.specs.Tasks.{tasks_of}
 use Rattle.hk_dispatch.specs.Moment.{Moment, core_of, history_of, course_at, need_at, opening}
 use Rattle.hk_dispatch.specs.Rows.{IsChoice}
-use Rattle.hk_dispatch.specs.Turns.{Turn, to_task, to_collector, to_nobody, turn}
+use Rattle.hk_dispatch.specs.Turns.{Turn, to_collector, turn}
 use Rattle.hk_dispatch.specs.Ticks.{run_first, run_on, run_by, after_task, after_event, after_turn}
 use Rattle.hk_dispatch.specs.Session.{after_tick, state}
 use Rattle.hk_dispatch.specs.Rules.{TurnIs, by_high, by_operation, by_collector, by_low, by_nobody}

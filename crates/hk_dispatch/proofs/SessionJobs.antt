@@ -1,7 +1,7 @@
 -- At every moment of a session all jobs are kept, the account of the debt holds, and one low operation at most is in mid-course.
-use Rattle.std.proofs.Common.{◌≡◌, ◌≢◌, ℕ, zero, suc, ◌+◌, ◌*◌, ◌<◌, ◌≤◌, Bool, true, false, List, [], ◌∷◌, length, Option, Some, None, refl, sym, ◌∙◌, ap, subst, arith, inl, inr, get_or}
+use Rattle.std.proofs.Common.{◌≡◌, ℕ, zero, suc, ◌+◌, ◌*◌, ◌<◌, ◌≤◌, Bool, true, false, List, [], ◌∷◌, length, Option, Some, None, refl, sym, ◌∙◌, ap, subst, arith, inr, get_or}
 use Rattle.std.proofs.lemmas.List.{length-replicate}
-use Rattle.std.specs.Prelude.{nat_lt, ◌&&◌, map, slice_index_or}
+use Rattle.std.specs.Prelude.{nat_lt, ◌&&◌, map}
 use Rattle.std.specs.List.{range_with_len}
 use Rattle.hk_words.specs.declared.geometry.Geometry.{Geometry}
 use Rattle.hk_words.specs.Geometry.{HasSizes, tasks}
@@ -20,14 +20,14 @@ use Rattle.hk_sheet.specs.Faults.{sizes_of}
 use Rattle.hk_sheet.specs.Valid.{IsSheet}
 use Rattle.hk_admit.specs.Conditions.{is_too_long, is_too_large, KeepsToDeclared}
 use Rattle.hk_dispatch.specs.Tasks.{Task, IsLowSeat, tasks_of, task_at, no_high, high_at}
-use Rattle.hk_dispatch.specs.Moment.{Course, Moment, no_course, core_of, history_of, course_at, need_at, opening}
+use Rattle.hk_dispatch.specs.Moment.{Course, Moment, no_course, core_of, history_of, course_at, opening}
 use Rattle.hk_dispatch.specs.Rows.{IsChoice}
-use Rattle.hk_dispatch.specs.Turns.{Turn, to_task, to_collector, to_nobody, is_operation, in_mid_course, turn}
+use Rattle.hk_dispatch.specs.Turns.{Turn, is_operation, in_mid_course, turn}
 use Rattle.hk_dispatch.specs.Ticks.{after_task, after_event, after_turn}
 use Rattle.hk_dispatch.specs.Session.{after_tick, state}
 use Rattle.hk_dispatch.specs.InStep.{aside}
 use Rattle.hk_dispatch.specs.Kept.{CourseKept, KeepsDeclared, OneLow}
-use Rattle.hk_dispatch.specs.Rules.{ready_now, ToHigh, ToOperation, ToCollector, ToLow, ToNobody, TurnIs, by_high, by_operation, by_collector, by_low, by_nobody}
+use Rattle.hk_dispatch.specs.Rules.{ready_now, TurnIs, by_high, by_operation, by_collector, by_low, by_nobody}
 use Rattle.hk_dispatch.specs.Jobs.{JobsKept}
 use Rattle.hk_dispatch.proofs.TurnFacts.{turn_is}
 use Rattle.hk_dispatch.proofs.Sheets.{scripts, count_tasks, seats}

@@ -1,18 +1,17 @@
 -- No birth of a session is ever late, since at each tick of the collector no call is in flight. So where it finds too many words
 -- reserved, more were live at the last flip than the sheet declares.
-use Rattle.std.proofs.Common.{◌≡◌, ℕ, zero, suc, ◌+◌, ◌<◌, ◌≤◌, Bool, true, false, List, [], length, Option, Some, None, refl, sym, ◌∙◌, ap, subst, inl, inr}
-use Rattle.std.specs.Prelude.{if◌then◌else◌}
+use Rattle.std.proofs.Common.{◌≡◌, ℕ, zero, suc, ◌<◌, false, List, length, Option, Some, None, refl, sym, ◌∙◌, ap, subst}
 use Rattle.hk_words.specs.declared.call.Call.{Call}
 use Rattle.hk_words.specs.declared.geometry.Geometry.{Geometry}
 use Rattle.hk_words.specs.Geometry.{HasSizes, tasks}
-use Rattle.hk_model.specs.Heap.{Heap, opening_of}
+use Rattle.hk_model.specs.Heap.{opening_of}
 use Rattle.hk_model.specs.History.{History, after}
 use Rattle.hk_core.specs.declared.outcome.Fault.{Fault}
 use Rattle.hk_core.specs.declared.spot.Work.{Work}
 use Rattle.hk_core.specs.declared.spot.Work.TheVariants.{Useful, Flipped, Lost, BusyFrame, BusyObject, Unlinked, Grey, LiveOver, Worn}
 use Rattle.hk_core.specs.Begin.{refusal}
 use Rattle.hk_core.specs.Collect.{work_by_collector}
-use Rattle.hk_core.specs.Run.{begin, step, collect}
+use Rattle.hk_core.specs.Run.{begin, collect}
 use Rattle.hk_collect.specs.Live.{LiveExceeds, IsOver}
 use Rattle.hk_collect.specs.Measure.{NoneInFlight}
 use Rattle.hk_collect.specs.Used.{Trace, trace_act, is_flip, NoneLate, traced}

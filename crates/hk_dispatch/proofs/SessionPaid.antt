@@ -1,29 +1,26 @@
 -- At every moment of a session the words used since the last flip are paid for, by the useful events of the cycle and by those
 -- that are owed.
 use Rattle.std.proofs.Common.{◌≡◌, ◌≢◌, ℕ, zero, suc, ◌+◌, ◌*◌, ◌^◌, ◌<◌, ◌≤◌, Bool, true, false, List, [], length, Option, Some, None, refl, sym, ◌∙◌, ap, subst, arith, inl, inr}
-use Rattle.std.proofs.lemmas.Bool.{cases_eq, eqb-true, eq-eqb, ne_eqb, and_from, lt-ltb}
-use Rattle.std.specs.Prelude.{nat_eq, nat_lt, not, ◌==◌, ◌&&◌, if◌then◌else◌}
+use Rattle.std.proofs.lemmas.Bool.{cases_eq, eq-eqb, ne_eqb, and_from, lt-ltb}
+use Rattle.std.specs.Prelude.{nat_eq, not, ◌==◌, ◌&&◌, if◌then◌else◌}
 use Rattle.hk_words.specs.declared.call.Call.{Call}
 use Rattle.hk_words.specs.declared.call.Call.TheVariants as call
 use Rattle.hk_words.specs.declared.geometry.Geometry.{Geometry}
-use Rattle.hk_words.specs.Bounds.{places_of, frame_events, object_events}
+use Rattle.hk_words.specs.Bounds.{frame_events, object_events}
 use Rattle.hk_words.specs.Geometry.{HasSizes, tasks}
 use Rattle.hk_words.specs.Shape.{size}
-use Rattle.hk_model.specs.History.{History, is_question}
+use Rattle.hk_model.specs.History.{History}
 use Rattle.hk_core.specs.declared.flight.Flight.{Flight}
 use Rattle.hk_core.specs.declared.outcome.Fault.{Fault}
-use Rattle.hk_core.specs.declared.spot.Work.TheVariants.{Worn}
 use Rattle.hk_core.specs.State as machine
 use Rattle.hk_core.specs.State.{State, IsSized, flight_of}
 use Rattle.hk_core.specs.Step.{next, history_after}
 use Rattle.hk_core.specs.Begin.{refusal, first_flight, after_begin}
-use Rattle.hk_core.specs.Collect.{work_by_collector}
-use Rattle.hk_core.specs.View.{names_of}
-use Rattle.hk_core.specs.Run.{Running, begin, step, act, is_idle, is_busy, may_begin, registers_fit}
+use Rattle.hk_core.specs.Run.{Running, begin, step, act, is_busy, may_begin}
 use Rattle.hk_core.proofs.Inside.{shapes_fit}
 use Rattle.hk_core.proofs.Places.{begins_first}
 use Rattle.hk_core.proofs.Registers.{registers_tested}
-use Rattle.hk_core.proofs.Turns.{has_flight, begin_geometry}
+use Rattle.hk_core.proofs.Turns.{has_flight}
 use Rattle.hk_collect.specs.Measure.{NoneInFlight}
 use Rattle.hk_collect.specs.Pays.{HeapKept, ObjectsWithin, IsAttemptBound}
 use Rattle.hk_collect.specs.Taken.{used_in, taken_at, taken_by}
@@ -40,13 +37,13 @@ use Rattle.hk_admit.specs.Conditions.{KeepsToDeclared}
 use Rattle.hk_dispatch.specs.Tasks.{tasks_of, task_at}
 use Rattle.hk_dispatch.specs.Moment.{Moment, core_of, history_of, used_at, course_at, need_at, opening}
 use Rattle.hk_dispatch.specs.Rows.{IsChoice}
-use Rattle.hk_dispatch.specs.Turns.{Turn, to_task, to_collector, to_nobody, turn}
+use Rattle.hk_dispatch.specs.Turns.{Turn, turn}
 use Rattle.hk_dispatch.specs.Ticks.{run_first, run_on, run_by, takes_on, words_by, after_task, after_event, after_turn}
 use Rattle.hk_dispatch.specs.Session.{after_tick, state}
 use Rattle.hk_dispatch.specs.InStep.{SeatInStep, aside, under_way, MayBegin}
 use Rattle.hk_dispatch.specs.Rules.{TurnIs, by_high, by_operation, by_collector, by_low, by_nobody}
 use Rattle.hk_dispatch.specs.Jobs.{JobsKept}
-use Rattle.hk_dispatch.proofs.Begun.{begun_flying, begun_seat}
+use Rattle.hk_dispatch.proofs.Begun.{begun_seat}
 use Rattle.hk_dispatch.proofs.Tracing.{traced_begin, traced_step}
 use Rattle.hk_dispatch.proofs.TurnFacts.{turn_is}
 use Rattle.hk_dispatch.proofs.Sheets.{scripts, seats}
@@ -55,7 +52,7 @@ use Rattle.hk_dispatch.proofs.SeatsInStep.{MayBeginIf}
 use Rattle.hk_dispatch.proofs.TaskTick.{words_none}
 use Rattle.hk_dispatch.proofs.Waiting.{none_in_flight, seat_below}
 use Rattle.hk_dispatch.proofs.CollectorTick.{heap_after_event}
-use Rattle.hk_dispatch.proofs.Runs.{geometry_at, lawful_at}
+use Rattle.hk_dispatch.proofs.Runs.{geometry_at}
 use Rattle.hk_dispatch.proofs.SessionJobs.{jobs_kept}
 use Rattle.hk_dispatch.proofs.SessionHeap.{IsMeasured, measured}
 

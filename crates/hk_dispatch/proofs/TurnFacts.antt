@@ -1,17 +1,17 @@
 -- Who gets a tick, and what that says: of each rule that applies, that those before it don't.
-use Rattle.std.proofs.Common.{◌≡◌, ℕ, zero, suc, ◌+◌, ◌<◌, ◌≤◌, ◌⊎◌, Bool, true, false, List, [], ◌∷◌, ◌++◌, length, refl, sym, ◌∙◌, ap, subst, arith, inl, inr, Option, Some, None, get_or}
+use Rattle.std.proofs.Common.{◌≡◌, ℕ, zero, suc, ◌+◌, ◌<◌, ◌≤◌, true, false, List, [], ◌∷◌, ◌++◌, length, refl, sym, ◌∙◌, ap, arith, inl, inr, Some, get_or}
 use Rattle.std.proofs.lemmas.List.{get_or_append_left, get_or-append-add, length-append}
-use Rattle.std.proofs.lemmas.Bool.{cases_Bool, cases_lt, lt-ltb, le-ltb, ltb-true}
+use Rattle.std.proofs.lemmas.Bool.{cases_Bool, cases_lt, lt-ltb, le-ltb}
 use Rattle.std.specs.Prelude.{nat_lt, if◌then◌else◌}
 use Rattle.hk_plan.specs.declared.Ready.{Ready}
 use Rattle.hk_plan.specs.AloneBy.{rows_below, chosen_task, no_ready, ready_at}
 use Rattle.hk_plan.proofs.ReadyRows.{row_from, row_to, chosen_law}
 use Rattle.hk_sheet.specs.declared.sheet.Sheet.{Sheet}
-use Rattle.hk_dispatch.specs.Tasks.{IsLowSeat, task_at, high_at}
+use Rattle.hk_dispatch.specs.Tasks.{high_at}
 use Rattle.hk_dispatch.specs.Moment.{Moment, course_at}
 use Rattle.hk_dispatch.specs.Rows.{TasksRise, IsChoice}
-use Rattle.hk_dispatch.specs.Turns.{Turn, to_task, to_collector, to_nobody, is_ready, row_of, ready_row, ready_rows, in_mid_course, first_low, or_else, turn}
-use Rattle.hk_dispatch.specs.Rules.{ready_now, NoHighReady, FirstLowIs, NoLow, ToHigh, ToOperation, ToCollector, ToLow, ToNobody, TurnIs, by_high, by_operation, by_collector, by_low, by_nobody, RulesApply, HighFirst, RowsRise}
+use Rattle.hk_dispatch.specs.Turns.{Turn, to_task, to_collector, to_nobody, row_of, ready_row, ready_rows, in_mid_course, first_low, or_else, turn}
+use Rattle.hk_dispatch.specs.Rules.{ready_now, NoHighReady, ToHigh, TurnIs, by_high, by_operation, by_collector, by_low, by_nobody, RulesApply, HighFirst, RowsRise}
 use Rattle.hk_dispatch.proofs.FirstLow.{first_low_law}
 
 -- the tasks of the rows rise

@@ -1,24 +1,22 @@
 -- Who waits: a job in mid-course is ready; where the collector has its turn no call is in flight; and a tick goes to nobody
 -- exactly where no job is ready and nothing is owed.
-use Rattle.std.proofs.Common.{◌≡◌, ◌≢◌, ℕ, suc, zero, ◌+◌, ◌<◌, ◌≤◌, ◌⊎◌, Bool, true, false, List, length, Option, Some, None, refl, sym, ◌∙◌, ap, subst, arith, inl, inr}
-use Rattle.std.proofs.lemmas.Bool.{cases_Bool, cases_eq, cases_lt, and_from, and_parts, lt-ltb, ltb-true, le-leb}
-use Rattle.std.specs.Prelude.{nat_lt, nat_le, ◌&&◌, ◌↔◌, if◌then◌else◌}
-use Rattle.hk_words.specs.declared.call.Call.{Call}
+use Rattle.std.proofs.Common.{◌≡◌, ℕ, ◌<◌, ◌⊎◌, true, false, List, length, Option, refl, sym, ◌∙◌, ap, subst, arith, inl, inr}
+use Rattle.std.proofs.lemmas.Bool.{cases_lt, and_from, and_parts, lt-ltb, ltb-true, le-leb}
+use Rattle.std.specs.Prelude.{nat_lt, ◌&&◌, ◌↔◌}
 use Rattle.hk_words.specs.Geometry.{tasks}
 use Rattle.hk_core.specs.declared.flight.Flight.{Flight}
-use Rattle.hk_core.specs.State.{State, flight_of}
+use Rattle.hk_core.specs.State.{flight_of}
 use Rattle.hk_collect.specs.Measure.{NoneInFlight}
 use Rattle.hk_plan.specs.declared.Ready.{Ready}
 use Rattle.hk_script.specs.declared.walk.Need.{Need}
-use Rattle.hk_script.specs.declared.walk.Need.TheVariants as need
 use Rattle.hk_sheet.specs.declared.sheet.Sheet.{Sheet}
-use Rattle.hk_dispatch.specs.Tasks.{IsLowSeat, Task, tasks_of, task_at, is_high, is_by}
+use Rattle.hk_dispatch.specs.Tasks.{IsLowSeat, Task, tasks_of, task_at}
 use Rattle.hk_dispatch.specs.Moment.{Course, Moment, core_of, course_at, need_at}
 use Rattle.hk_dispatch.specs.Rows.{IsChoice}
-use Rattle.hk_dispatch.specs.Turns.{Turn, to_task, to_collector, to_nobody, is_operation, is_ready, in_mid_course, turn}
+use Rattle.hk_dispatch.specs.Turns.{Turn, to_task, to_nobody, is_operation, is_ready, in_mid_course, turn}
 use Rattle.hk_dispatch.specs.InStep.{SeatInStep, aside, under_way}
 use Rattle.hk_dispatch.specs.Kept.{CourseKept}
-use Rattle.hk_dispatch.specs.Rules.{ready_now, NoHighReady, NoLow, ToHigh, ToOperation, ToCollector, ToLow, ToNobody, TurnIs, by_high, by_operation, by_collector, by_low, by_nobody}
+use Rattle.hk_dispatch.specs.Rules.{ready_now, NoHighReady, NoLow, TurnIs, by_high, by_operation, by_collector, by_low, by_nobody}
 use Rattle.hk_dispatch.proofs.TurnFacts.{turn_is}
 use Rattle.hk_dispatch.proofs.Sheets.{count_tasks}
 use Rattle.hk_dispatch.specs.Jobs.{JobsKept}

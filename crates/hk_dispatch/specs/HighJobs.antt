@@ -1,5 +1,5 @@
 -- The high jobs of a session's run, and what it means that the run keeps to a schedule of them alone.
-use Rattle.std.specs.Prelude.{◌≡◌, ℕ, zero, suc, ◌+◌, ◌-◌, ◌*◌, ◌<◌, ◌≤◌, ◌↔◌, Bool, true, false, ◌&&◌, nat_lt, nat_eq, is_none, List, filter, length, sum_by, Option, Some, None, if◌then◌else◌}
+use Rattle.std.specs.Prelude.{ℕ, zero, suc, ◌+◌, ◌-◌, Bool, false, ◌&&◌, nat_lt, nat_eq, is_none, List, filter, length, sum_by, if◌then◌else◌}
 use Rattle.hk_words.specs.declared.geometry.Geometry.{Geometry}
 use Rattle.hk_rta.specs.Demand.{starts_in}
 use Rattle.hk_plan.specs.declared.Ready.{Ready}

@@ -1,6 +1,6 @@
 -- The calls in flight are in step with the walks: a seat has a call in flight exactly while its job is in mid-course of an
 -- operation, at the place after the ticks that the job has had of it.
-use Rattle.std.specs.Prelude.{◌≡◌, ℕ, ◌+◌, ◌≤◌, ◌⊎◌, Bool, true, false, Option, Some, None}
+use Rattle.std.specs.Prelude.{◌≡◌, ℕ, ◌+◌, ◌≤◌, ◌⊎◌, false, Option, Some}
 use Rattle.hk_words.specs.declared.geometry.Geometry.{Geometry}
 use Rattle.hk_words.specs.declared.call.Call.{Call}
 use Rattle.hk_words.specs.Bounds.{places_of}

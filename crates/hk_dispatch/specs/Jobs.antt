@@ -1,5 +1,5 @@
 -- What holds of all jobs between two ticks.
-use Rattle.std.specs.Prelude.{◌≡◌, ℕ, ◌<◌, List, length}
+use Rattle.std.specs.Prelude.{◌≡◌, ℕ, ◌<◌, length}
 use Rattle.hk_core.specs.State.{flight_of}
 use Rattle.hk_sheet.specs.declared.sheet.Sheet.{Sheet}
 use Rattle.hk_dispatch.specs.Tasks.{tasks_of, task_at, high_at}

@@ -1,17 +1,8 @@
 -- What holds of a session at every moment of its run, beside what it promises. Each fact takes the columns that it reads.
-use Rattle.std.specs.Prelude.{◌≡◌, ℕ, zero, suc, ◌+◌, ◌*◌, ◌<◌, ◌≤◌, Bool, true, false, ◌&&◌, nat_lt, List, length, slice_index, Contains, Option, Some, None, if◌then◌else◌}
+use Rattle.std.specs.Prelude.{◌≡◌, ℕ, zero, suc, ◌+◌, ◌*◌, ◌<◌, ◌≤◌, Bool, true, false, ◌&&◌, nat_lt, List, length, slice_index, Option, Some, None, if◌then◌else◌}
 use Rattle.hk_words.specs.declared.geometry.Geometry.{Geometry}
-use Rattle.hk_words.specs.Geometry.{tasks, space_words}
-use Rattle.hk_words.specs.Calls.{RegistersFit}
-use Rattle.hk_model.specs.History.{History, is_question}
-use Rattle.hk_core.specs.declared.flight.Flight.{Flight}
-use Rattle.hk_core.specs.declared.spot.Spot.{Spot}
-use Rattle.hk_core.specs.State.{State, flight_of}
+use Rattle.hk_core.specs.State.{flight_of}
 use Rattle.hk_core.specs.Run.{Action}
-use Rattle.hk_core.specs.View.{words_of, names_of}
-use Rattle.hk_core.specs.Flights.{has_raised, cycle_of}
-use Rattle.hk_core.specs.Lines.{cleared}
-use Rattle.hk_core.specs.Lawful.{Lawful}
 use Rattle.hk_collect.specs.Runs.{in_attempt}
 use Rattle.hk_collect.specs.Pays.{HeapKept, ObjectsWithin}
 use Rattle.hk_collect.specs.Cycles.{IsWorked}
@@ -22,16 +13,14 @@ use Rattle.hk_script.specs.declared.walk.Need.{Need}
 use Rattle.hk_script.specs.Walks.{need_of, Fits}
 use Rattle.hk_script.specs.Runs.{need_ticks, need_words, taken_by}
 use Rattle.hk_script.specs.Left.{ticks_left, words_left}
-use Rattle.hk_sheet.specs.declared.sheet.High.{High}
 use Rattle.hk_sheet.specs.declared.sheet.Sheet.{Sheet}
 use Rattle.hk_admit.specs.Analysis.{largest_object, some_makes}
 use Rattle.hk_dispatch.specs.Tasks.{Task, IsLowSeat, tasks_of, task_at, high_at}
 use Rattle.hk_dispatch.specs.Moment.{Course, Moment, core_of, history_of, used_at, course_at, need_at}
-use Rattle.hk_dispatch.specs.Turns.{Turn, to_task, to_collector, to_nobody, is_operation, in_mid_course, first_low, turn}
+use Rattle.hk_dispatch.specs.Turns.{Turn, to_task, to_collector, to_nobody, in_mid_course, first_low, turn}
 use Rattle.hk_dispatch.specs.Session.{state}
 use Rattle.hk_dispatch.specs.Quiet.{NoHighWaits}
-use Rattle.hk_dispatch.specs.InStep.{SeatInStep, MayBegin}
-use Rattle.hk_dispatch.specs.HighJobs.{high_arrivals_before}
+use Rattle.hk_dispatch.specs.InStep.{SeatInStep}
 
 -- A task had a tick since the open attempt began. After a tick of a task that is so where an attempt is open; a tick of the
 -- collector leaves it while the attempt goes on.

@@ -1,5 +1,5 @@
 -- Where a session stands between two ticks. Ticks count from 0; tick t lies between the moments t and t + 1.
-use Rattle.std.specs.Prelude.{ℕ, List, [], length, replicate, slice_index_or, Option, Some, None}
+use Rattle.std.specs.Prelude.{ℕ, List, length, replicate, slice_index_or, Option, None}
 use Rattle.hk_words.specs.declared.geometry.Geometry.{Geometry}
 use Rattle.hk_model.specs.Heap.{Heap, opening_of}
 use Rattle.hk_model.specs.History.{History, after}
@@ -10,7 +10,7 @@ use Rattle.hk_script.specs.declared.walk.Need.{Need}
 use Rattle.hk_script.specs.declared.walk.Walk.{Walk}
 use Rattle.hk_script.specs.Walks.{started, need_of}
 use Rattle.hk_sheet.specs.declared.sheet.Sheet.{Sheet}
-use Rattle.hk_dispatch.specs.Tasks.{Task, tasks_of, task_at}
+use Rattle.hk_dispatch.specs.Tasks.{tasks_of, task_at}
 
 -- A TASK. Where a task stands: the number of the job that is under way or comes next, which is how many have ended; that
 -- job's walk, the ticks that it has had of the statement at which the walk is, and the ticks and the words that it has had

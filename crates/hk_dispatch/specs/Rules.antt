@@ -1,5 +1,5 @@
 -- The five rules, with what each says: it applies, and none of those before it does.
-use Rattle.std.specs.Prelude.{◌≡◌, ◌↔◌, ℕ, ◌<◌, Bool, true, false, List, length, Option, Some, None}
+use Rattle.std.specs.Prelude.{◌≡◌, ◌↔◌, ℕ, ◌<◌, Bool, true, false, List, length, Some, None}
 use Rattle.hk_plan.specs.declared.Ready.{Ready}
 use Rattle.hk_plan.specs.AloneBy.{chosen_task}
 use Rattle.hk_sheet.specs.declared.sheet.Sheet.{Sheet}

@@ -1,6 +1,6 @@
 -- The session of a sheet: where it stands after so many ticks, as a function of the sheet and of the choice among the ready
 -- high jobs.
-use Rattle.std.specs.Prelude.{◌≡◌, ℕ, zero, suc, ◌+◌, ◌<◌, ◌≤◌, nat_lt, ◌&&◌, List, length, Option, Some, None, is_none, if◌then◌else◌}
+use Rattle.std.specs.Prelude.{◌≡◌, ℕ, zero, suc, ◌<◌, ◌≤◌, List, Option, Some, None}
 use Rattle.hk_words.specs.declared.geometry.Geometry.{Geometry}
 use Rattle.hk_words.specs.Geometry.{HasSizes}
 use Rattle.hk_sheet.specs.declared.sheet.Sheet.{Sheet}

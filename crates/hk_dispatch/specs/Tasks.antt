@@ -1,5 +1,5 @@
 -- The tasks of a sheet, each with a seat: the high tasks first, in the order of the sheet, and then the low ones.
-use Rattle.std.specs.Prelude.{ℕ, ◌+◌, ◌-◌, ◌<◌, ◌≤◌, nat_lt, nat_le, Bool, false, List, [], ◌++◌, map, length, slice_index_or, Option, Some, None, if◌then◌else◌}
+use Rattle.std.specs.Prelude.{ℕ, ◌+◌, ◌<◌, ◌≤◌, nat_lt, nat_le, Bool, false, List, [], ◌++◌, map, length, slice_index_or, Option, Some, None}
 use Rattle.hk_rta.specs.Demand.{no_timing}
 use Rattle.hk_script.specs.declared.statement.Statement.{Statement}
 use Rattle.hk_sheet.specs.declared.arrivals.Arrivals.TheVariants as arrivals

@@ -23,7 +23,7 @@ use Rattle.hk_dispatch.specs.declared.tick.End.{End}
 use Rattle.hk_dispatch.specs.declared.tick.Tick.{Tick}
 use Rattle.hk_dispatch.specs.declared.tick.Tick.TheVariants as tick
 use Rattle.hk_dispatch.specs.Tasks.{Task, task_at, is_high}
-use Rattle.hk_dispatch.specs.Moment.{Course, Moment, core_of, course_at, need_at}
+use Rattle.hk_dispatch.specs.Moment.{Moment, core_of, course_at, need_at}
 use Rattle.hk_dispatch.specs.Turns.{Turn, to_task, to_collector, to_nobody, turn}
 use Rattle.hk_dispatch.specs.Ticks.{stay, is_over, left_by, over_in}
 use Rattle.hk_dispatch.specs.Session.{state}

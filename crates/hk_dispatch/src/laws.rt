@@ -1,6 +1,6 @@
 //! Laws of sessions, over definitions alone. These functions take no time; their clauses are the laws.
 ghost use Rattle.hk_dispatch.specs.Rules.{RulesApply, HighFirst, RowsRise, ReadyMomentsRise};
-ghost use Rattle.hk_dispatch.specs.Laws.{RunIsInterleaving, HistoryIsLegal, QuestionsAreAnswered, JobsAreKept, OneLowOperation, IdleExactly, DebtIsAccounted, UsefulWithin, CollectorNeverWaits, LiveOverHasCause, NoTaskIsSpent, UsedIsPaid};
+ghost use Rattle.hk_dispatch.specs.Laws.{RunIsInterleaving, HistoryIsLegal, QuestionsAreAnswered, JobsAreKept, OneLowOperation, IdleExactly, DebtIsAccounted, UsefulWithin, CollectorNeverWaits, LiveOverHasCause, NoTaskIsSpent, UsedIsPaid, LossesAreFew, DebtWithin, QuietAgain, UsedWithin, HighNewsFindRoom, LowNewsBeginQuiet, LowNewsFindRoom, NoNewIsRefused, SessionIsReplay};
 
 /// Each tick goes by one of the five rules, where it applies and none before it does: to a high task exactly where one has a
 /// ready job, and then to that of the row which the choice names. The rows that the choice is told rise, and the jobs of a
@@ -55,4 +55,38 @@ pub fn live_over_has_cause()
 /// No task of a run is refused a call since it has begun as many as it can.
 pub fn no_task_is_spent()
     ensures { NoTaskIsSpent }
+{}
+
+/// The events of all lost attempts are at most an attempt for each high job that has arrived and for each object for which a low
+/// task took words.
+pub fn losses_are_few()
+    ensures { LossesAreFew }
+{}
+
+/// What the collector owes is at most the number of the analysis, and from each quiet moment another follows within the busy
+/// period of the analysis.
+pub fn debt_stays_within()
+    ensures debt { DebtWithin }
+    ensures quiet { QuietAgain }
+{}
+
+/// Each collection cycle ends before the reserve is spent: the words used leave room for the largest object of a low task. Each New
+/// of a high job finds room for its object; each New of a low job begins with nothing owed and finds room beside the reserve, and
+/// room for its object where it takes the words.
+pub fn cycles_end_in_time()
+    ensures used { UsedWithin }
+    ensures high { HighNewsFindRoom }
+    ensures low_begin { LowNewsBeginQuiet }
+    ensures low { LowNewsFindRoom }
+{}
+
+/// No New of a run is refused.
+pub fn no_new_is_refused()
+    ensures { NoNewIsRefused }
+{}
+
+/// What the jobs put out, their faults and their ends are those of the same jobs on the heap that never collects, by who got each
+/// tick.
+pub fn session_is_replay()
+    ensures { SessionIsReplay }
 {}

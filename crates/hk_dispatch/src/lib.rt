@@ -1,7 +1,5 @@
 //! Sessions: who gets each tick. High jobs go by a choice among those that are ready; the collector pays for what was taken
 //! after them, and before low jobs go on.
-//!
-//! Today: the definitions of sessions and of what they promise, the tick of an operation, and the first laws of sessions.
 #![tactic(auto)]
 
 mod laws;
@@ -9,18 +7,18 @@ mod operation;
 mod pick;
 mod roster;
 mod run;
+mod schedule;
 mod session;
 mod tick;
 
-#[cfg(test)]
-mod tests;
-
 pub use hk_plan::Ready;
 pub use laws::{
-    collector_never_waits, debt_is_accounted, heap_is_legal, idle_exactly, jobs_keep_scripts,
-    live_over_has_cause, no_task_is_spent, rules_decide,
+    collector_never_waits, cycles_end_in_time, debt_is_accounted, debt_stays_within, heap_is_legal,
+    idle_exactly, jobs_keep_scripts, live_over_has_cause, losses_are_few, no_new_is_refused,
+    no_task_is_spent, rules_decide, session_is_replay,
 };
 pub use operation::{Left, ask, operate};
 pub use pick::{First, Pick};
+pub use schedule::{ends_are_alone, jobs_end_in_time};
 pub use session::{Session, SessionBy};
 pub use tick::{Chore, End, JobFault, Tick, Who};

@@ -1,9 +1,9 @@
 -- The ticks of a busy interval, kind by kind: what each takes from what is left, and to which high job that becomes ready a
 -- lost attempt is charged. Over abstract counters.
-use Rattle.std.proofs.Common.{◌≡◌, ◌≢◌, ℕ, zero, suc, ◌+◌, ◌-◌, ◌*◌, ◌<◌, ◌≤◌, ◌⊎◌, Bool, true, false, refl, sym, ap, subst, ◌∙◌, arith, inl, inr}
-use Rattle.std.proofs.lemmas.Bool.{cases_eq, cases_lt}
+use Rattle.std.proofs.Common.{◌≡◌, ℕ, zero, suc, ◌+◌, ◌*◌, ◌<◌, ◌≤◌, ◌⊎◌, sym, ap, subst, arith, inl, inr}
+use Rattle.std.proofs.lemmas.Bool.{cases_eq}
 use Rattle.std.proofs.Math.Nat.{mul-le-mul_right}
-use Rattle.hk_plan.proofs.Sums.{total, total-le, total-add, total_zero, total_more, total_but_one}
+use Rattle.hk_plan.proofs.Sums.{total, total-le, total-add, total_zero}
 use Rattle.hk_dispatch.proofs.numbers.Interval.{Begins, GoesOn}
 
 -- one term is larger by c, and none is less

@@ -1,8 +1,8 @@
 -- All lost attempts of a run: at most one for each high job that has become ready and each low New that has taken words. Over
 -- abstract counters.
-use Rattle.std.proofs.Common.{◌≡◌, ℕ, zero, suc, ◌+◌, ◌*◌, ◌<◌, ◌≤◌, ◌⊎◌, refl, sym, ap, arith, inl, inr}
+use Rattle.std.proofs.Common.{◌≡◌, ℕ, suc, ◌+◌, ◌*◌, ◌≤◌, ◌⊎◌, ap, arith, inl, inr}
 use Rattle.std.proofs.lemmas.Bool.{cases_eq}
-use Rattle.std.proofs.Math.Nat.{mul-le-mul_left, mul-le-mul_right}
+use Rattle.std.proofs.Math.Nat.{mul-le-mul_right}
 
 -- `came` counts the high jobs that became ready before a moment, `waiting` those of them that aren't ended
 module _ (attempt : ℕ) (fresh debt liable lost came waiting news : ℕ → ℕ) where

@@ -1,4 +1,4 @@
-use Rattle.std.proofs.Common.{◌≡◌, ◌∙◌}
+use Rattle.std.proofs.Common.{◌∙◌}
 use Rattle.hk_core.proofs.Places.{refused_kept}
 use Rattle.hk_dispatch.proofs.operation.start.Goals as goal
 

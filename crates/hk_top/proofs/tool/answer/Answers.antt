@@ -2,7 +2,7 @@
 use Rattle.std.proofs.Common.{sym, subst}
 use Rattle.hk_top.specs.Tool.{IsSheetOf, BytesCallFor, AdmittedCallsFor}
 use Rattle.hk_top.proofs.ToolLemmas.{ends_as, admitted_calls, read_sheet}
-use Rattle.hk_top.proofs.tool.run_bytes.Goals as goal
+use Rattle.hk_top.proofs.tool.answer.Goals as goal
 
 pub returns-in-Err-clause-ends : goal.returns-in-Err-clause-ends
 returns-in-Err-clause-ends g c = c.refuse_sheet.ensures.ends c.args.bytes.now c.requires c.in-Err.ensures.answer

@@ -1,0 +1,5 @@
+mod Starts
+mod Times
+mod Responses
+mod BusyPeriod
+mod Statements

@@ -44,9 +44,9 @@ module _ (c0 c1 c2 p0 p1 p2 : ℕ) (t : AreTimes c0 c1 c2 p0 p1 p2) where
       omega (
         arith,
         s.enough,
-        brought_least 1 (c0 + 70) p0 x (starts_some (x + 0) p0 some (omega (arith, t.once))),
-        brought_least 1 (c1 + 70) p1 x (starts_some (x + 0) p1 some (omega (arith, t.twice))),
-        brought_least 1 (c2 + 70) p2 x (starts_some (x + 0) p2 some (omega (arith, t.fourth))),
+        brought_least 1 (c0 + 70) p0 x (starts_some (x + 0) p0 some (omega (arith, t.once.some))),
+        brought_least 1 (c1 + 70) p1 x (starts_some (x + 0) p1 some (omega (arith, t.twice.some))),
+        brought_least 1 (c2 + 70) p2 x (starts_some (x + 0) p2 some (omega (arith, t.fourth.some))),
       )
 
   -- and where that is longer than the first period, the first task's share once more
@@ -56,9 +56,9 @@ module _ (c0 c1 c2 p0 p1 p2 : ℕ) (t : AreTimes c0 c1 c2 p0 p1 p2) where
       omega (
         arith,
         s.enough,
-        brought_least 2 (c0 + 70) p0 x (starts_two (x + 0) p0 (omega (arith, t.once)) (omega (arith, long, once_least x s))),
-        brought_least 1 (c1 + 70) p1 x (starts_some (x + 0) p1 some (omega (arith, t.twice))),
-        brought_least 1 (c2 + 70) p2 x (starts_some (x + 0) p2 some (omega (arith, t.fourth))),
+        brought_least 2 (c0 + 70) p0 x (starts_two (x + 0) p0 (omega (arith, t.once.some)) (omega (arith, long, once_least x s))),
+        brought_least 1 (c1 + 70) p1 x (starts_some (x + 0) p1 some (omega (arith, t.twice.some))),
+        brought_least 1 (c2 + 70) p2 x (starts_some (x + 0) p2 some (omega (arith, t.fourth.some))),
       )
 
   bounds : (once ≤ 509) × (452 ≤ once)
@@ -71,8 +71,8 @@ module _ (c0 c1 c2 p0 p1 p2 : ℕ) (t : AreTimes c0 c1 c2 p0 p1 p2) where
   in_one : once ≤ p0 → FoundBusy c0 c1 c2 p0 p1 p2
   in_one fits =
       let firsts = starts_once (once + 0) p0 (omega (arith, bounds.1)) (omega (arith, fits)) in
-      let seconds = starts_once (once + 0) p1 (omega (arith, bounds.1)) (omega (arith, bounds.0, t.twice)) in
-      let thirds = starts_once (once + 0) p2 (omega (arith, bounds.1)) (omega (arith, bounds.0, t.fourth)) in
+      let seconds = starts_once (once + 0) p1 (omega (arith, bounds.1)) (omega (arith, bounds.0, t.twice.some)) in
+      let thirds = starts_once (once + 0) p2 (omega (arith, bounds.1)) (omega (arith, bounds.0, t.fourth.some)) in
       record {
         length = once;
         busy = record {
@@ -94,9 +94,9 @@ module _ (c0 c1 c2 p0 p1 p2 : ℕ) (t : AreTimes c0 c1 c2 p0 p1 p2) where
       let x : ℕ = once + (c0 + 70) in
       let most : x ≤ 649 = omega (arith, bounds.0, t.first.few) in
       let some : 1 ≤ x + 0 = omega (arith, bounds.1) in
-      let firsts = starts_twice (x + 0) p0 (omega (arith, t.once)) (omega (arith, long)) (omega (arith, most, t.once)) in
-      let seconds = starts_once (x + 0) p1 some (omega (arith, most, t.twice)) in
-      let thirds = starts_once (x + 0) p2 some (omega (arith, most, t.fourth)) in
+      let firsts = starts_twice (x + 0) p0 (omega (arith, t.once.some)) (omega (arith, long)) (omega (arith, most, t.once.some)) in
+      let seconds = starts_once (x + 0) p1 some (omega (arith, most, t.twice.some)) in
+      let thirds = starts_once (x + 0) p2 some (omega (arith, most, t.fourth.some)) in
       record {
         length = x;
         busy = record {

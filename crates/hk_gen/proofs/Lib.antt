@@ -3,3 +3,6 @@ mod Times
 mod Responses
 mod BusyPeriod
 mod Statements
+mod Readable
+mod Admissible
+mod Drawn

@@ -38,9 +38,9 @@ module _ (c0 c1 c2 p0 p1 p2 : ℕ) (t : AreTimes c0 c1 c2 p0 p1 p2) where
   second = response_from 1 (c0 + c1) refl
       (record {
         positive = omega (arith, t.first.some);
-        balanced = omega (arith, exactly (c0 + c1) c0 p0 (omega (arith, t.first.some)) (omega (arith, t.first.few, t.second.few, t.once)));
+        balanced = omega (arith, exactly (c0 + c1) c0 p0 (omega (arith, t.first.some)) (omega (arith, t.first.few, t.second.few, t.once.some)));
       })
-      (λ m s. omega (arith, s.balanced, at_least m c0 p0 (omega (arith, s.positive)) (omega (arith, t.once))))
+      (λ m s. omega (arith, s.balanced, at_least m c0 p0 (omega (arith, s.positive)) (omega (arith, t.once.some))))
 
   third : Response tasks 2 (c0 + c1 + c2)
   third =
@@ -49,11 +49,11 @@ module _ (c0 c1 c2 p0 p1 p2 : ℕ) (t : AreTimes c0 c1 c2 p0 p1 p2) where
       response_from 2 (c0 + c1 + c2) refl
       (record {
         positive = some;
-        balanced = omega (arith, exactly (c0 + c1 + c2) c0 p0 some (omega (arith, few, t.once)), exactly (c0 + c1 + c2) c1 p1 some (omega (arith, few, t.twice)));
+        balanced = omega (arith, exactly (c0 + c1 + c2) c0 p0 some (omega (arith, few, t.once.some)), exactly (c0 + c1 + c2) c1 p1 some (omega (arith, few, t.twice.some)));
       })
       (λ m s.
-          let positive : 1 ≤ m = omega (arith, s.positive) in
-          omega (arith, s.balanced, at_least m c0 p0 positive (omega (arith, t.once)), at_least m c1 p1 positive (omega (arith, t.twice))))
+      let positive : 1 ≤ m = omega (arith, s.positive) in
+      omega (arith, s.balanced, at_least m c0 p0 positive (omega (arith, t.once.some)), at_least m c1 p1 positive (omega (arith, t.twice.some))))
 
   abbrev pub responses : List ℕ
   responses = c0 ∷ (c0 + c1) ∷ (c0 + c1 + c2) ∷ []
@@ -65,9 +65,9 @@ module _ (c0 c1 c2 p0 p1 p2 : ℕ) (t : AreTimes c0 c1 c2 p0 p1 p2) where
   each (suc (suc (suc i))) less = absurd (omega arith)
 
   short : (i : ℕ) → i < 3 → slice_index responses i ≤ deadline_at tasks i
-  short zero less = omega (arith, t.first.few, t.once)
-  short (suc zero) less = omega (arith, t.first.few, t.second.few, t.twice)
-  short (suc (suc zero)) less = omega (arith, t.first.few, t.second.few, t.third.few, t.fourth)
+  short zero less = omega (arith, t.first.few, t.once.some)
+  short (suc zero) less = omega (arith, t.first.few, t.second.few, t.twice.some)
+  short (suc (suc zero)) less = omega (arith, t.first.few, t.second.few, t.third.few, t.fourth.some)
   short (suc (suc (suc i))) less = absurd (omega arith)
 
   pub are_responses : AreResponses tasks responses

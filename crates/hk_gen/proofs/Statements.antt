@@ -27,20 +27,20 @@ unfolding line_of
 high_text i work =
     rw (decimal_digit 0 (omega arith), decimal_digit 1 (omega arith), decimal_digit 2 (omega arith), decimal_digit 3 (omega arith))
     (laid
-      (codes "job v0\nnew r1 1 2\nput r1 0 v0\nload r2 r0 ")
-      (codes "if null r2\nelse\nstore r2 0 r3\nget v1 r2 0\nend\nstore r1 0 r2\nstore r0 ")
-      (codes "add v0 v1\nout v0\nclear r1\nclear r2\nwork ")
-      (decimal i) (decimal work))
+    (codes "job v0\nnew r1 1 2\nput r1 0 v0\nload r2 r0 ")
+    (codes "if null r2\nelse\nstore r2 0 r3\nget v1 r2 0\nend\nstore r1 0 r2\nstore r0 ")
+    (codes "add v0 v1\nout v0\nclear r1\nclear r2\nwork ")
+    (decimal i) (decimal work))
 
 pub low_text : (i : ℕ) → codes "job v0\nnew r1 1 3\nput r1 0 v0\nload r2 r0 " ++ (decimal i ++ (codes "\nif null r2\nelse\nstore r2 0 r3\nend\nstore r1 0 r2\nstore r0 " ++ (decimal i ++ codes " r1\nclear r1\nclear r2\n"))) ≡ text_of (low_script i)
 unfolding line_of
 low_text i =
     rw (decimal_digit 0 (omega arith), decimal_digit 1 (omega arith), decimal_digit 2 (omega arith), decimal_digit 3 (omega arith))
     (laid_short
-      (codes "job v0\nnew r1 1 3\nput r1 0 v0\nload r2 r0 ")
-      (codes "if null r2\nelse\nstore r2 0 r3\nend\nstore r1 0 r2\nstore r0 ")
-      (codes "clear r1\nclear r2\n")
-      (decimal i))
+    (codes "job v0\nnew r1 1 3\nput r1 0 v0\nload r2 r0 ")
+    (codes "if null r2\nelse\nstore r2 0 r3\nend\nstore r1 0 r2\nstore r0 ")
+    (codes "clear r1\nclear r2\n")
+    (decimal i))
 
 -- THE GRAMMAR
 

@@ -22,7 +22,7 @@ abbrev pub after : (draws state : ℕ) → ℕ
 after zero state = state
 after (suc draws) state = next (after draws state)
 
--- the number below a limit that is drawn from a state: the low bits of the next state don't count
+-- the number below a limit that is drawn from a state: the next state without its 33 low bits, modulo the limit
 abbrev pub draw : (limit state : ℕ) → ℕ
 draw limit state = next state / 2 ^ 33 % limit
 

@@ -7,7 +7,7 @@ mod making;
 mod scripts;
 mod tasks;
 
-pub use laws::made_sheets_are_admitted;
+pub use laws::{made_sheets_are_admitted, scripts_as_texts};
 pub use making::sheet;
 
 #[cfg(test)]

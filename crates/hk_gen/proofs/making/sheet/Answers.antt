@@ -5,11 +5,12 @@ use Rattle.hk_sheet.specs.declared.sheet.Low.{Low}
 use Rattle.hk_sheet.specs.declared.sheet.Sheet.{Sheet}
 use Rattle.hk_sheet.specs.Valid.{IsSheet}
 use Rattle.hk_gen.specs.Made.{after, high_drawn, low_drawn, sheet_of, made}
+use Rattle.hk_gen.proofs.Drawn.{made_readable}
 use Rattle.hk_gen.proofs.making.sheet.Goals as goal
 
-pub returns-clause-made : goal.returns-clause-made
+is_made : (c : goal.In_ok-low) → sheet_of c.in_ok-high.high.items c.in_ok-low.low.items ≡ made c.args.number
 unfolding made
-returns-clause-made c =
+is_made c =
     let s3 = c.in_ok-high_task.ensures.draws in
     let s6 = c.in_ok-high_task-2.ensures.draws ∙ ap (after 3) s3 in
     let s9 = c.in_ok-high_task-3.ensures.draws ∙ ap (after 3) s6 in
@@ -22,3 +23,9 @@ returns-clause-made c =
     let high = c.in_ok-high.ensures.items ∙ (λ i. h0 i ∷ h1 i ∷ h2 i ∷ []) in
     let low = c.in_ok-low.ensures.items ∙ (λ i. l0 i ∷ l1 i ∷ []) in
     λ i. sheet_of (high i) (low i)
+
+pub returns-clause-made : goal.returns-clause-made
+returns-clause-made c = is_made c
+
+pub returns-clause-readable : goal.returns-clause-readable
+returns-clause-readable c = subst IsSheet (sym (is_made c)) (made_readable c.args.number)

@@ -4,7 +4,7 @@ use Rattle.std.proofs.Math.Nat.{mul-le-mul_right}
 use Rattle.std.proofs.lemmas.Bool.{cases_lt}
 use Rattle.hk_rta.specs.declared.Load.{Load}
 use Rattle.hk_rta.specs.Busy.{Suffices, Busy}
-use Rattle.hk_rta.specs.Demand.{starts_in, work_in}
+use Rattle.hk_rta.specs.Demand.{starts_in}
 use Rattle.hk_gen.proofs.Starts.{starts_some, starts_once, starts_twice, starts_two}
 use Rattle.hk_gen.proofs.Times.{AreTimes}
 

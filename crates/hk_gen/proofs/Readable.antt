@@ -1,5 +1,5 @@
 -- A sheet with numbers in range can be read.
-use Rattle.std.proofs.Common.{◌≡◌, refl, sym, ℕ, ◌+◌, ◌≤◌, true, true≢false, List, [], ◌∷◌, ◌++◌, codes, decimal, arith}
+use Rattle.std.proofs.Common.{◌≡◌, refl, sym, ℕ, ◌+◌, ◌≤◌, true, true≢false, [], ◌∷◌, ◌++◌, codes, decimal, arith}
 use Rattle.std.proofs.lemmas.Fmt.{decimal_digit}
 use Rattle.hk_sheet.specs.Faults.{is_name}
 use Rattle.hk_sheet.specs.Valid.{IsHigh, IsLow, AreDistinct, names_in, IsSheet}

@@ -1,14 +1,14 @@
 -- The response times: each task's cost and those of the tasks before it, since no period begins anew meanwhile.
-use Rattle.std.proofs.Common.{◌≡◌, refl, sym, subst, ℕ, zero, suc, ◌+◌, ◌-◌, ◌*◌, ◌<◌, ◌≤◌, List, [], ◌∷◌, All, length, take, slice_index, arith}
+use Rattle.std.proofs.Common.{◌≡◌, refl, subst, ℕ, zero, suc, ◌+◌, ◌*◌, ◌<◌, ◌≤◌, List, [], ◌∷◌, All, slice_index, arith}
 use Rattle.std.proofs.Math.Nat.{mul-le-mul_right}
 use Rattle.std.proofs.lemmas.List.Elements.{All-nil, All-cons}
 use Rattle.hk_rta.specs.declared.Timing.{Timing}
-use Rattle.hk_rta.specs.Demand.{starts_in, demand, cost_at, deadline_at, jitter_at}
+use Rattle.hk_rta.specs.Demand.{starts_in, deadline_at, jitter_at}
 use Rattle.hk_rta.specs.Least.{IsLeast}
 use Rattle.hk_rta.specs.Response.{Solves, Response}
 use Rattle.hk_admit.specs.Conditions.{AreResponses}
 use Rattle.hk_gen.proofs.Starts.{starts_some, starts_once}
-use Rattle.hk_gen.proofs.Times.{prompt, three, AreTimes}
+use Rattle.hk_gen.proofs.Times.{three, AreTimes}
 
 -- what one task brings in a window of a tick or more, and in one that isn't longer than its period
 at_least : (window cost period : ℕ) → 1 ≤ window → 1 ≤ period → cost ≤ starts_in (window + 0) period * cost

@@ -1,10 +1,9 @@
 -- The scripts of the tasks are scripts, and cost what the tasks declare.
-use Rattle.std.proofs.Common.{◌≡◌, refl, sym, subst, inl, ℕ, ◌+◌, ◌≤◌, List, [], ◌∷◌, ◌++◌, codes, decimal, length, append_assoc, append-nil, arith}
+use Rattle.std.proofs.Common.{◌≡◌, refl, sym, subst, inl, ℕ, ◌+◌, ◌≤◌, List, [], ◌∷◌, ◌++◌, codes, decimal, append_assoc, append-nil, arith}
 use Rattle.std.specs.List.{AllByRecursion}
 use Rattle.std.proofs.lemmas.Fmt.{decimal_digit}
-use Rattle.hk_script.specs.declared.statement.Statement.{Statement}
-use Rattle.hk_script.specs.Blocks.{nest, nested, IsScript}
-use Rattle.hk_script.specs.Cost.{greatest_ticks, greatest_words, largest_of}
+use Rattle.hk_script.specs.Blocks.{nest, IsScript}
+use Rattle.hk_script.specs.Cost.{greatest_ticks, greatest_words}
 use Rattle.hk_script.specs.Limits.{usual}
 use Rattle.hk_script.specs.Printing.{line_of, text_of}
 use Rattle.hk_script.specs.Spelling.{IsStatement}

@@ -1,5 +1,5 @@
 -- The numbers of the tasks, and their ranges.
-use Rattle.std.proofs.Common.{ℕ, ◌+◌, ◌≤◌, List, [], ◌∷◌}
+use Rattle.std.proofs.Common.{ℕ, ◌≤◌, List, [], ◌∷◌}
 use Rattle.hk_rta.specs.declared.Timing.{Timing}
 use Rattle.hk_sheet.specs.declared.sheet.Sheet.{Sheet}
 use Rattle.hk_gen.specs.Made.{high_task, low_task, sheet_of}

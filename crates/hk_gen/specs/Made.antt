@@ -26,8 +26,8 @@ after (suc draws) state = next (after draws state)
 abbrev pub draw : (limit state : ℕ) → ℕ
 draw limit state = next state / 2 ^ 33 % limit
 
--- SCRIPTS. Each job makes an object that refers to the one of the job before, by field i of the board, and cuts that one
--- off from its own: register 3 is never written, so it is null.
+-- SCRIPTS. Each job makes an object that refers to that of the job before, takes its place in field i of the board, and
+-- cuts it off from the one before it, by register 3, which is never written and so is null: a chain has two objects at most.
 
 -- an object of a reference field and two number fields, and one of a reference field and three number fields
 abbrev pub high_shape : Shape
@@ -79,7 +79,8 @@ low_script i =
 
 -- TASKS
 
--- the high task i by its numbers: the ticks of its last statement, its period, and its first arrival
+-- the high task i by its numbers: the ticks of its last statement, its period, which is its deadline too, and its first
+-- arrival
 abbrev pub high_task : (i work period first : ℕ) → High
 high_task i work period first = record {
   name = codes "h" ++ decimal i;
@@ -98,8 +99,8 @@ low_task i period first = record {
   script = low_script (3 + i);
 }
 
--- the high task i of three draws from a state: work of 1 to 20 ticks, a period of 400 to 499 ticks, twice or four times
--- as many, and a first arrival below 100
+-- the high task i of three draws from a state: work of 1 to 20 ticks; a period of 400 to 499 ticks for task 0, of 800 to
+-- 999 for task 1 and of 1600 to 1999 for task 2; and a first arrival below 100
 abbrev pub high_drawn : (i state : ℕ) → High
 high_drawn i state = high_task i (1 + draw 20 state) (400 * 2 ^ i + draw (100 * 2 ^ i) (after 1 state)) (draw 100 (after 2 state))
 

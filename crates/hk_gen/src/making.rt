@@ -1,8 +1,11 @@
 //! The sheet for a number.
 
 ghost use Rattle.std.specs.Prelude.{◌≡◌, IfOk};
+ghost use Rattle.hk_admit.specs.declared.refused.Refused.{Refused};
+ghost use Rattle.hk_admit.specs.declared.refused.Refused.TheVariants as refusal;
+ghost use Rattle.hk_admit.specs.Refusals.{IsRefusal};
 ghost use Rattle.hk_sheet.specs.Valid.{IsSheet};
-ghost use Rattle.hk_gen.specs.Made.{made_heap, made};
+ghost use Rattle.hk_gen.specs.Made.{made};
 
 use crate::draws::Draws;
 use crate::tasks::{high_task, low_task};
@@ -30,6 +33,8 @@ const HEAP: HeapKeys = HeapKeys {
 pub fn sheet(alloc: Global, number: u64) -> Result<Sheet, Memory>
     ensures made { IfOk result (λ sheet. sheet ≡ made number) }
     ensures readable { IfOk result IsSheet }
+    // Nothing is wrong with it.
+    ensures unrefused { IfOk result (λ sheet. (refused : Refused) → IsRefusal sheet refused → refused ≡ refusal.Memory) }
 {
     let mut draws = Draws { state: number };
     let high = vec![in alloc;

@@ -1,11 +1,12 @@
 -- The tasks are drawn one after another, each from the state that the one before left.
-use Rattle.std.proofs.Common.{◌≡◌, ◌∙◌, refl, ap, ℕ, List, [], ◌∷◌, subst, sym}
-use Rattle.hk_sheet.specs.declared.sheet.High.{High}
-use Rattle.hk_sheet.specs.declared.sheet.Low.{Low}
+use Rattle.std.proofs.Common.{◌≡◌, ◌∙◌, ap, [], ◌∷◌, subst, sym}
 use Rattle.hk_sheet.specs.declared.sheet.Sheet.{Sheet}
 use Rattle.hk_sheet.specs.Valid.{IsSheet}
+use Rattle.hk_admit.specs.declared.refused.Refused.{Refused}
+use Rattle.hk_admit.specs.declared.refused.Refused.TheVariants.{Memory}
+use Rattle.hk_admit.specs.Refusals.{IsRefusal}
 use Rattle.hk_gen.specs.Made.{after, high_drawn, low_drawn, sheet_of, made}
-use Rattle.hk_gen.proofs.Drawn.{made_readable}
+use Rattle.hk_gen.proofs.Drawn.{made_readable, made_unrefused}
 use Rattle.hk_gen.proofs.making.sheet.Goals as goal
 
 is_made : (c : goal.In_ok-low) → sheet_of c.in_ok-high.high.items c.in_ok-low.low.items ≡ made c.args.number
@@ -29,3 +30,6 @@ returns-clause-made c = is_made c
 
 pub returns-clause-readable : goal.returns-clause-readable
 returns-clause-readable c = subst IsSheet (sym (is_made c)) (made_readable c.args.number)
+
+pub returns-clause-unrefused : goal.returns-clause-unrefused
+returns-clause-unrefused c = subst (λ (s : Sheet). (refused : Refused) → IsRefusal s refused → refused ≡ Memory) (sym (is_made c)) (made_unrefused c.args.number)

@@ -55,3 +55,7 @@ pub record Headline (g : Geometry) (sheet : Sheet) (responses : List ℕ) : Type
       × (end_in (told g least_task sheet t) ≡ replayed_end (opening_of g) sheet (who_gets g least_task sheet) t)
   -- whatever the interleaving: the run of the heap is a list of begins, steps and events, of which every one keeps these promises
   pub whatever_the_interleaving : (t : ℕ) → IsMoment g least_task sheet t → (actions : List Action) × ((state g least_task sheet t).trace ≡ traced g actions)
+
+-- At no flip of the run of a sheet more words are live than it declares
+abbrev pub LiveIsWithin : Geometry → Sheet → Type 0
+LiveIsWithin g sheet = (t : ℕ) → t ≤ sheet.ticks → ¬ (LiveExceeds g (flip_heap g (state g least_task sheet t)) sheet.heap.live)

@@ -84,3 +84,9 @@ LeavesBy n (left.Faults fault) = Unit {0}
 abbrev pub heard_of : Reply → Reply
 heard_of reply.Full = reply.Unit
 heard_of r = r
+
+-- a tick left the job at the same statement
+abbrev pub stays : Left → Bool
+stays left.Stays = true
+stays (left.Passes r) = false
+stays (left.Faults fault) = false

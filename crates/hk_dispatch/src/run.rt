@@ -10,7 +10,7 @@ ghost use Rattle.hk_dispatch.specs.InStep.{SeatInStep};
 ghost use Rattle.hk_dispatch.specs.Kept.{CourseKept};
 ghost use Rattle.hk_dispatch.specs.Ticks.{words_by, left_by, next_job, passed, course_after};
 ghost use Rattle.hk_dispatch.specs.Told.{out_of, ended, end_past, end_of};
-ghost use Rattle.hk_dispatch.specs.TaskRuns.{ShowsCourse, task_of, shown, wanted, MayWant, core_by, Replies, LeavesBy, heard_of};
+ghost use Rattle.hk_dispatch.specs.TaskRuns.{ShowsCourse, task_of, shown, wanted, MayWant, core_by, Replies, LeavesBy, heard_of, stays};
 
 use crate::operation::{Left, ask, operate};
 use crate::tick::{End, JobFault};
@@ -144,7 +144,9 @@ fn heard(reply: Reply) -> Reply
 }
 
 /// Whether a tick left an operation in mid-course.
-fn is_mid_course(need: Need, left: Left) -> bool {
+fn is_mid_course(need: Need, left: Left) -> bool
+    ensures { result ≡ (is_operation (Some need) && stays left) }
+{
     matches!(need, Need::Heap(_)) && left == Left::Stays
 }
 
@@ -205,6 +207,7 @@ impl TaskRun {
         ensures course { (course : Course) (words : ℕ) → ShowsCourse (task_of task.entry) course self.old
             → ShowsCourse (task_of task.entry) (course_after (task_of task.entry) course tick words left) self.new }
         ensures end { result ≡ end_of (task_of task.entry) self.old.job self.old.walk tick left }
+        ensures mid_course { (is_operation (wanted (task_of task.entry) self.new) && nat_lt 0 self.new.spent) ≡ (is_operation (wanted (task_of task.entry) self.old) && stays left) }
     {
         match left {
             Left::Stays => {
@@ -230,6 +233,7 @@ impl TaskRun {
         ensures course { (course : Course) (words : ℕ) → ShowsCourse (task_of task.entry) course self.old
             → ShowsCourse (task_of task.entry) (passed (task_of task.entry) course tick words (walk_after (task_of task.entry).script course.walk reply)) self.new }
         ensures end { result ≡ end_past (task_of task.entry) self.old.job tick (walk_after (task_of task.entry).script self.old.walk reply) }
+        ensures spent { self.new.spent ≡ 0 }
     {
         let script = task.script();
         self.walk.done(script, heard(reply));
@@ -250,6 +254,7 @@ impl TaskRun {
         ensures course { (course : Course) → ShowsCourse (task_of task.entry) course self.old
             → ShowsCourse (task_of task.entry) (next_job (task_of task.entry) course tick) self.new }
         ensures end { Some result ≡ ended self.old.job ((task_of task.entry).arrival self.old.job) tick fault }
+        ensures spent { self.new.spent ≡ 0 }
     {
         let job = self.job;
         let ticks = match self.arrival {

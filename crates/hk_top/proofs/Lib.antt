@@ -2,10 +2,12 @@ pub mod Written
 pub mod Parts
 pub mod Below
 pub mod Three
+pub mod Four
 pub mod WordLemmas
 pub mod ReportParts
 pub mod ReportLemmas
 pub mod SheetLemmas
+pub mod Endings
 pub mod RunEnds
 pub mod OneRun
 pub mod Headline

@@ -1,7 +1,6 @@
 -- A session ends in one way, and has one text.
 use Rattle.std.proofs.Common.{◌≡◌, ℕ, zero, suc, ◌+◌, ◌-◌, ◌<◌, ◌≤◌, ◌⊎◌, List, ◌++◌, Option, Some, None, refl, sym, ap, ◌∙◌, subst, arith, inl, inr}
-use Rattle.std.proofs.lemmas.Bool.{cases_lt}
-use Rattle.std.proofs.lemmas.Bool.{cases_eq}
+use Rattle.std.proofs.lemmas.Bool.{cases_lt, cases_eq}
 use Rattle.hk_words.specs.declared.geometry.Geometry.{Geometry}
 use Rattle.hk_plan.specs.declared.Ready.{Ready}
 use Rattle.hk_sheet.specs.declared.sheet.Sheet.{Sheet}
@@ -53,6 +52,7 @@ module _ (g : Geometry) (choice : List Ready → ℕ) (sheet : Sheet) where
   none_and_some o words a b = let e : None ≡ Some words = sym a ∙ b in cc
 
   one_end : (end end' : Finish) (ticks ticks' : ℕ) → EndsSo g choice sheet end ticks → EndsSo g choice sheet end' ticks' → (end ≡ end') × (ticks ≡ ticks')
+  unfolding found_in
   one_end end end' ticks ticks' (at_horizon none) (at_horizon none') = (refl, refl)
   one_end end end' ticks ticks' (at_horizon none) (live_over at words t is) =
       let within = t.within in

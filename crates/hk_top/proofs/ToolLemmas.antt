@@ -143,19 +143,19 @@ any_input None = ([], tt)
 any_input (Some left) = (left, refl)
 
 -- why bytes are no sheet
-pub sheet_refused : (before after : Option (List ℕ)) (faults faults_after : ℕ) (Answer : Admitted → Status → List ℕ → Type 0) (bytes : List ℕ) (error : SheetError) (written : Result (Unit {0}) Failed) (result : Status)
+pub sheet_refused : (before after : Option (List ℕ)) (faults faults_after : ℕ) (f : Option Form) (bytes : List ℕ) (error : SheetError) (written : Result (Unit {0}) Failed) (result : Status)
     → length bytes ≤ longest_input → Answers bytes (Err error) → error ≢ unread.Memory → Puts before after faults faults_after (sheet_line error) written
-    → MatchResult written (λ _. result ≡ status.Sheet) (λ _. result ≡ status.WriteFault) → EndsBy (BytesCallFor Answer bytes) before after faults faults_after result
-sheet_refused before after faults faults_after Answer bytes error written result short answers told puts is =
-    ends_written (BytesCallFor Answer bytes) before after faults faults_after status.Sheet (sheet_line error) written result tt
+    → MatchResult written (λ _. result ≡ status.Sheet) (λ _. result ≡ status.WriteFault) → EndsBy (BytesCallFor (answer_for f) bytes) before after faults faults_after result
+sheet_refused before after faults faults_after f bytes error written result short answers told puts is =
+    ends_written (BytesCallFor (answer_for f) bytes) before after faults faults_after status.Sheet (sheet_line error) written result tt
     (no_sheet error (record { short = short; told = told; answers = answers }) refl) puts is
 
 -- why a sheet isn't admitted
-pub admission_refused : (before after : Option (List ℕ)) (faults faults_after : ℕ) (Answer : Admitted → Status → List ℕ → Type 0) (bytes : List ℕ) (sheet : Sheet) (why : Refused) (written : Result (Unit {0}) Failed) (result : Status)
+pub admission_refused : (before after : Option (List ℕ)) (faults faults_after : ℕ) (f : Option Form) (bytes : List ℕ) (sheet : Sheet) (why : Refused) (written : Result (Unit {0}) Failed) (result : Status)
     → IsSheetOf bytes sheet → IsRefusal sheet why → why ≢ refused.Memory → Puts before after faults faults_after (refused_line why) written
-    → MatchResult written (λ _. result ≡ status.NotAdmitted) (λ _. result ≡ status.WriteFault) → EndsBy (BytesCallFor Answer bytes) before after faults faults_after result
-admission_refused before after faults faults_after Answer bytes sheet why written result is refusal told puts ended =
-    ends_written (BytesCallFor Answer bytes) before after faults faults_after status.NotAdmitted (refused_line why) written result tt
+    → MatchResult written (λ _. result ≡ status.NotAdmitted) (λ _. result ≡ status.WriteFault) → EndsBy (BytesCallFor (answer_for f) bytes) before after faults faults_after result
+admission_refused before after faults faults_after f bytes sheet why written result is refusal told puts ended =
+    ends_written (BytesCallFor (answer_for f) bytes) before after faults faults_after status.NotAdmitted (refused_line why) written result tt
     (record { sheet = sheet; is = is; why = why; told = told; refusal = refusal; text_is = refl }) puts ended
 
 pub read_sheet : (bytes : List ℕ) (sheet : Sheet) → length bytes ≤ longest_input → Answers bytes (Ok sheet) → IsSheetOf bytes sheet

@@ -1,5 +1,5 @@
 //! The report of a session, written as it runs. No memory is taken.
-ghost use Rattle.std.specs.Prelude.{◌≡◌, ℕ, ◌<◌, ◌++◌, ◌≤◌, List, length, true, OnOk, OnErr, IfOk, None, Some};
+ghost use Rattle.std.specs.Prelude.{◌≡◌, ℕ, ◌+◌, ◌<◌, ◌++◌, ◌≤◌, List, length, true, OnOk, OnErr, IfOk, None, Some};
 ghost use Rattle.std.specs.Io.KnownBytes.{Appends};
 ghost use Rattle.hk_io.specs.Bytes.{AppendsPrefix, AppendsFront};
 ghost use Rattle.hk_io.specs.Faults.{HasCause};
@@ -282,12 +282,21 @@ fn write_tick<K: Sink>(
     write_ended(form, tick, name, end, gather, sink)
 }
 
+/// The seat of a place.
+fn seat_of(place: usize) -> u8
+    requires { place < 256 }
+    ensures { result ≡ place }
+{
+    place as u8
+}
+
 /// Writes what each high task came to behind what waits.
 fn write_high_ends<P: Pick, K: Sink>(
     session: &SessionBy<P>,
     gather: &mut Gather,
     sink: &mut K,
 ) -> Result<(), Failed>
+    requires few { length session.now.sheet.high + length session.now.sheet.low ≤ 31 }
     requires names { AreNamed session.now.sheet.high }
     ensures ok { OnOk result (AppendsFront (K.taken sink.old) (K.taken sink.new) (gather.old ++ texts_below (line_of_high_end session.now.sheet (state session.now.geometry (P.choice session.now.pick) session.now.sheet session.now.given)) (length session.now.sheet.high)) gather.new) }
     ensures prefix { OnErr result (AppendsPrefix (K.taken sink.old) (K.taken sink.new) (gather.old ++ texts_below (line_of_high_end session.now.sheet (state session.now.geometry (P.choice session.now.pick) session.now.sheet session.now.given)) (length session.now.sheet.high))) }
@@ -295,7 +304,7 @@ fn write_high_ends<P: Pick, K: Sink>(
 {
     let tasks = high_tasks(&session.checked().sheet);
     for (place, task) in tasks.iter().enumerate() {
-        let seat = place as u8;
+        let seat = seat_of(place);
         let line = done_line(bytes_of(&task.name), session.ended(seat), session.latest(seat));
         gather.push(sink, line.bytes())?;
     }
@@ -308,6 +317,7 @@ fn write_low_ends<P: Pick, K: Sink>(
     gather: &mut Gather,
     sink: &mut K,
 ) -> Result<(), Failed>
+    requires few { length session.now.sheet.high + length session.now.sheet.low ≤ 31 }
     requires names { AreLowNamed session.now.sheet.low }
     ensures ok { OnOk result (AppendsFront (K.taken sink.old) (K.taken sink.new) (gather.old ++ texts_below (line_of_low_end session.now.sheet (state session.now.geometry (P.choice session.now.pick) session.now.sheet session.now.given)) (length session.now.sheet.low)) gather.new) }
     ensures prefix { OnErr result (AppendsPrefix (K.taken sink.old) (K.taken sink.new) (gather.old ++ texts_below (line_of_low_end session.now.sheet (state session.now.geometry (P.choice session.now.pick) session.now.sheet session.now.given)) (length session.now.sheet.low))) }
@@ -316,7 +326,7 @@ fn write_low_ends<P: Pick, K: Sink>(
     let sheet = &session.checked().sheet;
     let first = high_tasks(sheet).len();
     for (place, task) in low_tasks(sheet).iter().enumerate() {
-        let seat = (first + place) as u8;
+        let seat = seat_of(first + place);
         let line = done_line(bytes_of(&task.name), session.ended(seat), session.latest(seat));
         gather.push(sink, line.bytes())?;
     }
@@ -329,6 +339,7 @@ fn write_closing<P: Pick, K: Sink>(
     gather: &mut Gather,
     sink: &mut K,
 ) -> Result<(), Failed>
+    requires few { length session.now.sheet.high + length session.now.sheet.low ≤ 31 }
     requires high { AreNamed session.now.sheet.high }
     requires low { AreLowNamed session.now.sheet.low }
     ensures ok { OnOk result (AppendsFront (K.taken sink.old) (K.taken sink.new) (gather.old ++ closing session.now.sheet (state session.now.geometry (P.choice session.now.pick) session.now.sheet session.now.given)) gather.new) }

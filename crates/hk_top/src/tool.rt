@@ -1,15 +1,15 @@
 //! What the program does for its words.
-ghost use Rattle.std.specs.Prelude.{◌≡◌, ◌≢◌, ◌⊎◌, ℕ, ◌≤◌, List, length, map, Ok, Err, Some, IfSome, MatchResult};
+ghost use Rattle.std.specs.Prelude.{◌≡◌, ◌≢◌, ◌⊎◌, ℕ, ◌≤◌, List, length, map, Option, Ok, Err, Some, IfSome, MatchResult};
 ghost use Rattle.std.specs.Io.KnownBytes.{IsAtEnd};
 ghost use Rattle.std.specs.Str.{bytes_eq};
 ghost use Rattle.std.specs.String.{string_bytes};
 ghost use Rattle.hk_io.specs.Faults.{Rose};
 ghost use Rattle.hk_io.specs.Limits.{longest_input};
-ghost use Rattle.hk_admit.specs.declared.checked.Admitted.{Admitted};
 ghost use Rattle.hk_admit.specs.Refusals.{IsRefusal};
 ghost use Rattle.hk_gen.specs.Made.{made};
 ghost use Rattle.hk_sheet.specs.Answers.{Answers, IsRead};
 ghost use Rattle.hk_sheet.specs.declared.sheet.Sheet.{Sheet};
+ghost use Rattle.hk_top.specs.declared.report.Form.{Form};
 ghost use Rattle.hk_top.specs.Tool.{one_word, two_words, asked, AsksNothing, ReadsInput, IsSheetOf, IsAnalysis, IsReport, IsSimulation, answer_for, HasText, CallsFor, BytesCallFor, Writes, WritesPrefix, EndsBy, EndsOn};
 
 use crate::refusals::{put_line, put_refused, put_sheet_error};
@@ -124,8 +124,8 @@ fn run_admitted<K: Sink>(alloc: Global, admitted: Admitted, form: Form, sink: &m
 
 /// Ends the program for bytes that are no sheet.
 fn refuse_sheet<K: Sink>(error: &SheetError, sink: &mut K) -> Status
-    ensures ends { (Answer : Admitted → Status → List ℕ → Type 0) (bytes : List ℕ) → length bytes ≤ longest_input → Answers bytes (Err error.now)
-        → EndsBy (BytesCallFor Answer bytes) (K.taken sink.old) (K.taken sink.new) (K.faults sink.old) (K.faults sink.new) result }
+    ensures ends { (form : Option Form) (bytes : List ℕ) → length bytes ≤ longest_input → Answers bytes (Err error.now)
+        → EndsBy (BytesCallFor (answer_for form) bytes) (K.taken sink.old) (K.taken sink.new) (K.faults sink.old) (K.faults sink.new) result }
     ensures memory { result ≡ Status.Memory → sink.new ≡ sink.old }
 {
     match error {
@@ -136,8 +136,8 @@ fn refuse_sheet<K: Sink>(error: &SheetError, sink: &mut K) -> Status
 
 /// Ends the program for a sheet that isn't admitted.
 fn refuse_admission<K: Sink>(refused: &Refused, sink: &mut K) -> Status
-    ensures ends { (Answer : Admitted → Status → List ℕ → Type 0) (bytes : List ℕ) (sheet : Sheet) → IsSheetOf bytes sheet → IsRefusal sheet refused.now
-        → EndsBy (BytesCallFor Answer bytes) (K.taken sink.old) (K.taken sink.new) (K.faults sink.old) (K.faults sink.new) result }
+    ensures ends { (form : Option Form) (bytes : List ℕ) (sheet : Sheet) → IsSheetOf bytes sheet → IsRefusal sheet refused.now
+        → EndsBy (BytesCallFor (answer_for form) bytes) (K.taken sink.old) (K.taken sink.new) (K.faults sink.old) (K.faults sink.new) result }
     ensures memory { result ≡ Status.Memory → sink.new ≡ sink.old }
 {
     match refused {

@@ -22,3 +22,5 @@ pub mod SessionLive
 pub mod SessionBegun
 pub mod SessionPaid
 pub mod Promises
+pub mod Replied
+pub mod Looking

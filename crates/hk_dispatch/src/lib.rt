@@ -7,7 +7,12 @@
 mod laws;
 mod operation;
 mod pick;
+mod roster;
+mod run;
 mod tick;
+
+#[cfg(test)]
+mod tests;
 
 pub use hk_plan::Ready;
 pub use laws::{

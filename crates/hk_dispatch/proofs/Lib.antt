@@ -24,3 +24,4 @@ pub mod SessionPaid
 pub mod Promises
 pub mod Replied
 pub mod Looking
+pub mod OneTask

@@ -171,7 +171,7 @@ impl TaskRun {
         requires sized { IsSized heap.old }
         requires seat { seat < tasks heap.old.geometry }
         requires early { tick < 2 ^ 24 }
-        requires arrival { self.old.arrival ≡ (task_of task).arrival self.old.job }
+        requires shows { ShowsCourse (task_of task) (shown self.old 0) self.old }
         requires kept { CourseKept (task_of task) (shown self.old 0) tick }
         requires wants { IfSome (wanted (task_of task) self.old) (MayWant heap.old.geometry) }
         requires in_step { SeatInStep (flight_of heap.old.flights seat) (wanted (task_of task) self.old) self.old.spent }

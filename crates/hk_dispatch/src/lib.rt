@@ -9,10 +9,9 @@ mod operation;
 mod pick;
 mod roster;
 mod run;
-mod tick;
-
 #[cfg(test)]
 mod tests;
+mod tick;
 
 pub use hk_plan::Ready;
 pub use laws::{

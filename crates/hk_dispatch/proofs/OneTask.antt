@@ -1,21 +1,17 @@
 -- The run of a task shows its course past a statement and past the end of a job.
 use Rattle.std.proofs.Common.{◌≡◌, ◌≢◌, ℕ, zero, suc, ◌+◌, ◌<◌, ◌≤◌, Bool, true, false, List, length, refl, sym, ◌∙◌, ap, subst, arith, Option, Some, None}
-use Rattle.std.proofs.lemmas.Bool.{lt-ltb, eq-eqb, ne_eqb}
-use Rattle.std.specs.Prelude.{nat_lt, nat_eq, ◌&&◌, if◌then◌else◌}
+use Rattle.std.proofs.lemmas.Bool.{eq-eqb, ne_eqb}
+use Rattle.std.specs.Prelude.{nat_eq, if◌then◌else◌}
 use Rattle.hk_words.specs.declared.call.Reply.{Reply}
 use Rattle.hk_script.specs.declared.walk.Walk.{Walk}
-use Rattle.hk_script.specs.Walks.{need_of, walk_after}
-use Rattle.hk_dispatch.specs.declared.operation.Left.{Left}
-use Rattle.hk_dispatch.specs.declared.operation.Left.TheVariants as left
+use Rattle.hk_script.specs.Walks.{walk_after}
 use Rattle.hk_dispatch.specs.declared.run.TaskRun.{TaskRun}
 use Rattle.hk_dispatch.specs.declared.tick.End.{End}
 use Rattle.hk_dispatch.specs.Tasks.{Task}
 use Rattle.hk_dispatch.specs.Moment.{Course}
-use Rattle.hk_dispatch.specs.Turns.{is_operation}
-use Rattle.hk_dispatch.specs.Ticks.{is_over, next_job, passed, course_after}
+use Rattle.hk_dispatch.specs.Ticks.{is_over, next_job, passed}
 use Rattle.hk_dispatch.specs.Told.{ended, end_past}
-use Rattle.hk_dispatch.specs.TaskRuns.{ShowsCourse, wanted, stays}
-use Rattle.hk_dispatch.proofs.Courses.{passes_spent}
+use Rattle.hk_dispatch.specs.TaskRuns.{ShowsCourse}
 
 -- a run past a statement
 abbrev pub past : TaskRun → Walk → TaskRun
@@ -56,25 +52,3 @@ module _ (task : Task) (job tick : ℕ) (walk next_walk : Walk) (is : walk ≡ n
   end_on more =
       let going : is_over task next_walk ≡ false = ap (is_over task) (sym is) ∙ ne_eqb walk.place (length task.script) more in
       rw going refl
-
--- after a tick the run is in mid-course of an operation exactly where it stayed at one
-neither : (a b : Bool) → (a && false) ≡ (b && false)
-neither true true = refl
-neither true false = refl
-neither false true = refl
-neither false false = refl
-
-module _ (task : Task) (course : Course) (tick words : ℕ) (after : TaskRun) where
-  abbrev IsMidCourse : Left → Type 0
-  IsMidCourse l = (is_operation (need_of task.script course.walk) && stays l) ≡ (is_operation (wanted task after) && nat_lt 0 after.spent)
-
-  pub mid_course_after : (l : Left) → ShowsCourse task (course_after task course tick words l) after → IsMidCourse l
-  mid_course_after left.Stays s =
-      let more : nat_lt 0 after.spent ≡ true = ap (nat_lt 0) s.spent ∙ lt-ltb 0 (course.spent + 1) (omega arith) in
-      rw (more, s.walk) refl
-  mid_course_after (left.Passes r) s =
-      let none : nat_lt 0 after.spent ≡ false = ap (nat_lt 0) (s.spent ∙ passes_spent task course tick words r) in
-      rw none (neither _ _)
-  mid_course_after (left.Faults fault) s =
-      let none : nat_lt 0 after.spent ≡ false = ap (nat_lt 0) s.spent in
-      rw none (neither _ _)

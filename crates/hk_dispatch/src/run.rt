@@ -171,7 +171,7 @@ impl TaskRun {
         requires sized { IsSized heap.old }
         requires seat { seat < tasks heap.old.geometry }
         requires early { tick < 2 ^ 24 }
-        requires shows { ShowsCourse (task_of task) (shown self.old 0) self.old }
+        requires arrival { self.old.arrival ≡ (task_of task).arrival self.old.job }
         requires kept { CourseKept (task_of task) (shown self.old 0) tick }
         requires wants { IfSome (wanted (task_of task) self.old) (MayWant heap.old.geometry) }
         requires in_step { SeatInStep (flight_of heap.old.flights seat) (wanted (task_of task) self.old) self.old.spent }
@@ -207,6 +207,7 @@ impl TaskRun {
         ensures course { (course : Course) (words : ℕ) → ShowsCourse (task_of task.entry) course self.old
             → ShowsCourse (task_of task.entry) (course_after (task_of task.entry) course tick words left) self.new }
         ensures end { result ≡ end_of (task_of task.entry) self.old.job self.old.walk tick left }
+        ensures mid_course { (is_operation (wanted (task_of task.entry) self.new) && nat_lt 0 self.new.spent) ≡ (is_operation (wanted (task_of task.entry) self.old) && stays left) }
     {
         match left {
             Left::Stays => {
@@ -232,6 +233,7 @@ impl TaskRun {
         ensures course { (course : Course) (words : ℕ) → ShowsCourse (task_of task.entry) course self.old
             → ShowsCourse (task_of task.entry) (passed (task_of task.entry) course tick words (walk_after (task_of task.entry).script course.walk reply)) self.new }
         ensures end { result ≡ end_past (task_of task.entry) self.old.job tick (walk_after (task_of task.entry).script self.old.walk reply) }
+        ensures spent { self.new.spent ≡ 0 }
     {
         let script = task.script();
         self.walk.done(script, heard(reply));
@@ -252,6 +254,7 @@ impl TaskRun {
         ensures course { (course : Course) → ShowsCourse (task_of task.entry) course self.old
             → ShowsCourse (task_of task.entry) (next_job (task_of task.entry) course tick) self.new }
         ensures end { Some result ≡ ended self.old.job ((task_of task.entry).arrival self.old.job) tick fault }
+        ensures spent { self.new.spent ≡ 0 }
     {
         let job = self.job;
         let ticks = match self.arrival {

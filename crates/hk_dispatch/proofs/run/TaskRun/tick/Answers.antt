@@ -4,8 +4,7 @@ use Rattle.hk_script.specs.declared.walk.Need.{Need}
 use Rattle.hk_script.specs.Walks.{need_of}
 use Rattle.hk_dispatch.specs.InStep.{SeatInStep}
 use Rattle.hk_dispatch.specs.Turns.{is_operation}
-use Rattle.hk_dispatch.specs.TaskRuns.{task_of, shown, wanted, stays}
-use Rattle.hk_dispatch.proofs.OneTask.{mid_course_after}
+use Rattle.hk_dispatch.specs.TaskRuns.{task_of, wanted, stays}
 use Rattle.hk_dispatch.proofs.run.TaskRun.tick.Goals as goal
 
 pub advance-left-requires-clause-in_step : goal.advance-left-requires-clause-in_step
@@ -17,7 +16,5 @@ advance-left-requires-clause-in_step c =
 pub returns-clause-mid_course : goal.returns-clause-mid_course
 returns-clause-mid_course c =
     let a = c.args.self.now in
-    let task = task_of c.args.task in
-    let is : Some c.in-Some.need ≡ wanted task a = c.in-Some.ensures.need ∙ ap (λ s. need_of s a.walk) c.script-script.ensures in
-    c.is_mid_course.ensures ∙ ap (λ (o : Option Need). is_operation o && stays c.advance-left.result) is
-    ∙ mid_course_after task (shown a 0) c.args.tick 0 c.leave.new.self c.advance-left.result (c.leave.ensures.course (shown a 0) 0 c.requires.shows)
+    let is : Some c.in-Some.need ≡ wanted (task_of c.args.task) a = c.in-Some.ensures.need ∙ ap (λ s. need_of s a.walk) c.script-script.ensures in
+    c.is_mid_course.ensures ∙ ap (λ (o : Option Need). is_operation o && stays c.advance-left.result) is ∙ sym c.leave.ensures.mid_course

@@ -24,4 +24,13 @@ pub mod SessionPaid
 pub mod Promises
 pub mod Replied
 pub mod Looking
+pub mod RosterAfter
+pub mod ShownAfter
 pub mod OneTask
+pub mod SeatCore
+pub mod SeatTick
+pub mod WentOn
+pub mod Started
+pub mod SeatGiven
+pub mod StandsFrom
+pub mod TurnTaken

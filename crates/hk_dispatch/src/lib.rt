@@ -9,9 +9,11 @@ mod operation;
 mod pick;
 mod roster;
 mod run;
+mod session;
+mod tick;
+
 #[cfg(test)]
 mod tests;
-mod tick;
 
 pub use hk_plan::Ready;
 pub use laws::{
@@ -20,4 +22,5 @@ pub use laws::{
 };
 pub use operation::{Left, ask, operate};
 pub use pick::{First, Pick};
+pub use session::{Session, SessionBy};
 pub use tick::{Chore, End, JobFault, Tick, Who};

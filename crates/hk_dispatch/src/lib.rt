@@ -4,16 +4,25 @@
 //! Today: the definitions of sessions and of what they promise, the tick of an operation, and the first laws of sessions.
 #![tactic(auto)]
 
+#[cfg(test)]
+mod attempts;
+#[cfg(test)]
+mod choices;
 mod laws;
 mod operation;
 mod pick;
 mod roster;
+#[cfg(test)]
+mod rows;
 mod run;
 mod session;
-mod tick;
-
 #[cfg(test)]
 mod tests;
+mod tick;
+#[cfg(test)]
+mod watch;
+#[cfg(test)]
+mod written;
 
 pub use hk_plan::Ready;
 pub use laws::{

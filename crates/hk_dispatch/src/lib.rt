@@ -9,6 +9,7 @@ mod attempts;
 #[cfg(test)]
 mod choices;
 mod laws;
+mod needs;
 mod operation;
 mod pick;
 mod roster;

@@ -9,7 +9,7 @@ ghost use Rattle.hk_sheet.specs.Valid.{IsSheet};
 ghost use Rattle.hk_dispatch.specs.Tasks.{IsLowSeat, tasks_of, task_at};
 ghost use Rattle.hk_dispatch.specs.Moment.{Moment, opening, course_at};
 ghost use Rattle.hk_dispatch.specs.Turns.{to_task, to_collector, to_nobody, ready_rows, turn};
-ghost use Rattle.hk_dispatch.specs.Session.{state};
+ghost use Rattle.hk_dispatch.specs.Session.{state, IsSession};
 ghost use Rattle.hk_dispatch.specs.declared.tick.Tick.TheVariants.{Ran};
 ghost use Rattle.hk_dispatch.specs.Ticks.{over_in};
 ghost use Rattle.hk_dispatch.specs.Told.{who_is, told_event, told};
@@ -320,6 +320,7 @@ impl<P: Pick> SessionBy<P> {
     pub fn checked(&self) -> &Checked
         ensures sheet { result.now.sheet ≡ self.now.sheet }
         ensures numbers { (result.now.work ≡ self.now.work) × (result.now.attempt ≡ self.now.attempt) × (result.now.busy ≡ self.now.busy) × (result.now.debt ≡ self.now.debt) }
+        ensures session { IsSession self.now.geometry (P.choice self.now.pick) self.now.sheet self.now.work self.now.attempt self.now.busy self.now.debt }
     {
         &self.checked
     }

@@ -1,4 +1,4 @@
-use Rattle.std.proofs.Common.{◌≡◌, ◌∙◌, ◌+◌, ◌-◌, ◌≤◌, ◌^◌, ap, arith, refl, sym}
+use Rattle.std.proofs.Common.{◌∙◌, ◌+◌, ◌-◌, ap, arith, refl}
 use Rattle.hk_collect.specs.Used.{is_flip}
 use Rattle.hk_dispatch.proofs.WentOn.{counted, collect_went}
 use Rattle.hk_dispatch.proofs.session.Stand.collect.Goals as goal

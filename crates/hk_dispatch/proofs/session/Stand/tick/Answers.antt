@@ -1,4 +1,4 @@
-use Rattle.std.proofs.Common.{◌≡◌, ◌∙◌, ◌<◌, ◌≤◌, length, arith, ap, sym, subst}
+use Rattle.std.proofs.Common.{◌∙◌, arith, sym, subst}
 use Rattle.hk_dispatch.specs.Turns.{Turn}
 use Rattle.hk_dispatch.specs.Opened.{Went}
 use Rattle.hk_dispatch.proofs.TurnTaken.{rows_rise, some_rows, no_rows, high_turn, operation_turn, operation_is, operation_only, collector_turn, low_turn, low_is, low_only, nobody_turn}

@@ -1,14 +1,28 @@
 //! Sessions: who gets each tick. High jobs go by a choice among those that are ready; the collector pays for what was taken
 //! after them, and before low jobs go on.
-//!
-//! Today: the definitions of sessions and of what they promise, the tick of an operation, and the first laws of sessions.
 #![tactic(auto)]
 
+#[cfg(test)]
+mod attempts;
+#[cfg(test)]
+mod choices;
 mod laws;
+mod needs;
 mod operation;
 mod pick;
+mod roster;
+#[cfg(test)]
+mod rows;
+mod run;
 mod schedule;
+mod session;
+#[cfg(test)]
+mod tests;
 mod tick;
+#[cfg(test)]
+mod watch;
+#[cfg(test)]
+mod written;
 
 pub use hk_plan::Ready;
 pub use laws::{
@@ -19,4 +33,5 @@ pub use laws::{
 pub use operation::{Left, ask, operate};
 pub use pick::{First, Pick};
 pub use schedule::{ends_are_alone, jobs_end_in_time};
+pub use session::{Session, SessionBy};
 pub use tick::{Chore, End, JobFault, Tick, Who};

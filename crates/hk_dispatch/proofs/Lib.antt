@@ -42,8 +42,6 @@ pub mod SessionLive
 pub mod SessionBegun
 pub mod SessionPaid
 pub mod Promises
-pub mod Replied
-pub mod Looking
 pub mod RoomWords
 pub mod RoomNews
 pub mod RoomSteps
@@ -62,6 +60,8 @@ pub mod AloneRun
 pub mod AloneEnds
 pub mod InTime
 pub mod Whole
+pub mod Replied
+pub mod Looking
 pub mod RosterAfter
 pub mod ShownAfter
 pub mod OneTask

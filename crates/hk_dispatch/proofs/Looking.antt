@@ -1,5 +1,5 @@
 -- What the roster finds as it looks through the tasks, seat by seat.
-use Rattle.std.proofs.Common.{◌≡◌, ◌≢◌, ℕ, zero, suc, ◌+◌, ◌<◌, ◌≤◌, Bool, true, false, List, [], ◌∷◌, ◌++◌, length, refl, sym, ◌∙◌, ap, subst, arith, inl, inr, Option, Some, None, get_or, set, take, length-set, ◌-◌}
+use Rattle.std.proofs.Common.{◌≡◌, ℕ, zero, suc, ◌+◌, ◌<◌, ◌≤◌, Bool, true, false, List, [], ◌∷◌, ◌++◌, length, refl, sym, ◌∙◌, ap, subst, arith, inl, inr, Option, Some, None, get_or, set, take, length-set, ◌-◌}
 use Rattle.std.proofs.Math.Seq.{take-suc-set}
 use Rattle.std.proofs.lemmas.List.{append-nil}
 use Rattle.std.proofs.lemmas.Bool.{cases_lt, lt-ltb, le-ltb, leb-true, lt-leb, le-leb}
@@ -11,8 +11,8 @@ use Rattle.hk_sheet.specs.declared.sheet.Sheet.{Sheet}
 use Rattle.hk_dispatch.specs.declared.run.TaskRun.{TaskRun}
 use Rattle.hk_dispatch.specs.declared.roster.Roster.{Roster}
 use Rattle.hk_dispatch.specs.Tasks.{Task, tasks_of, task_at, high_task, high_at, no_high, is_by}
-use Rattle.hk_dispatch.specs.Moment.{Course, Moment, course_at}
-use Rattle.hk_dispatch.specs.Turns.{is_ready, arrived, row_of, ready_row, ready_rows, first_low}
+use Rattle.hk_dispatch.specs.Moment.{Moment, course_at}
+use Rattle.hk_dispatch.specs.Turns.{arrived, row_of, ready_row, ready_rows, first_low}
 use Rattle.hk_dispatch.specs.Rules.{ready_now, FirstLowIs, NoLow}
 use Rattle.hk_dispatch.specs.TaskRuns.{ShowsCourse}
 use Rattle.hk_dispatch.specs.Opened.{ShowsCourses, ShowsReady}

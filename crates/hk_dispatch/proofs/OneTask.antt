@@ -1,7 +1,6 @@
 -- The run of a task shows its course past a statement and past the end of a job.
-use Rattle.std.proofs.Common.{◌≡◌, ◌≢◌, ℕ, zero, suc, ◌+◌, ◌<◌, ◌≤◌, Bool, true, false, List, length, refl, sym, ◌∙◌, ap, subst, arith, Option, Some, None}
+use Rattle.std.proofs.Common.{◌≡◌, ◌≢◌, ℕ, ◌+◌, true, false, length, refl, sym, ◌∙◌, ap, Option, None}
 use Rattle.std.proofs.lemmas.Bool.{eq-eqb, ne_eqb}
-use Rattle.std.specs.Prelude.{nat_eq, if◌then◌else◌}
 use Rattle.hk_words.specs.declared.call.Reply.{Reply}
 use Rattle.hk_script.specs.declared.walk.Walk.{Walk}
 use Rattle.hk_script.specs.Walks.{walk_after}

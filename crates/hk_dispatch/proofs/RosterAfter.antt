@@ -3,8 +3,8 @@
 use Rattle.std.proofs.Common.{◌≡◌, ◌≢◌, ℕ, zero, suc, ◌+◌, ◌<◌, ◌≤◌, Bool, true, false, List, [], ◌∷◌, ◌++◌, length, refl, sym, ◌∙◌, ap, subst, arith, inl, inr, Option, Some, None, get_or, set, take, length-append, get_or-take}
 use Rattle.std.proofs.Math.Seq.{take-set-lt}
 use Rattle.std.proofs.lemmas.List.{get_or_append_left, get_or-append-add, set-append_left, set-append_right}
-use Rattle.std.proofs.lemmas.Bool.{cases_Bool, cases_lt, cases_eq, le-leb, lt-ltb}
-use Rattle.std.specs.Prelude.{find, nat_le, nat_lt, if◌then◌else◌, slice_set, slice_index_or}
+use Rattle.std.proofs.lemmas.Bool.{cases_lt, le-leb}
+use Rattle.std.specs.Prelude.{find, if◌then◌else◌}
 use Rattle.std.specs.List.{range_with_len}
 use Rattle.hk_plan.specs.declared.Ready.{Ready}
 use Rattle.hk_plan.specs.AloneBy.{rows_below, no_ready, ready_at}
@@ -12,9 +12,9 @@ use Rattle.hk_plan.proofs.ReadyRows.{row_from}
 use Rattle.hk_sheet.specs.declared.sheet.High.{High}
 use Rattle.hk_sheet.specs.declared.sheet.Sheet.{Sheet}
 use Rattle.hk_dispatch.specs.declared.roster.Roster.{Roster}
-use Rattle.hk_dispatch.specs.Tasks.{IsLowSeat, Task, tasks_of, task_at, high_at, is_by}
+use Rattle.hk_dispatch.specs.Tasks.{IsLowSeat, tasks_of, task_at, high_at, is_by}
 use Rattle.hk_dispatch.specs.Moment.{Course, Moment, course_at}
-use Rattle.hk_dispatch.specs.Turns.{is_ready, row_of, ready_row, ready_rows, first_low}
+use Rattle.hk_dispatch.specs.Turns.{row_of, ready_row, ready_rows, first_low}
 use Rattle.hk_dispatch.specs.Rules.{ready_now}
 use Rattle.hk_dispatch.specs.Opened.{ShowsReady}
 use Rattle.hk_dispatch.proofs.Sheets.{count_tasks}

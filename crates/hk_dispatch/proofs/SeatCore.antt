@@ -1,9 +1,8 @@
 -- The machine after a tick of a job is that of the run of the heap.
-use Rattle.std.proofs.Common.{◌≡◌, ◌≢◌, ℕ, zero, suc, ◌+◌, ◌<◌, ◌≤◌, Bool, true, false, Option, Some, None, refl, sym, ◌∙◌, ap, subst, arith, inl, inr}
+use Rattle.std.proofs.Common.{◌≡◌, ℕ, zero, suc, ◌<◌, ◌≤◌, true, Option, Some, None, refl, sym, ◌∙◌, ap, subst, arith, inl, inr}
 use Rattle.std.proofs.lemmas.Bool.{and_from, lt-ltb, eq-eqb, ne_eqb}
-use Rattle.std.specs.Prelude.{nat_lt, not, ◌&&◌}
+use Rattle.std.specs.Prelude.{not}
 use Rattle.hk_words.specs.declared.call.Call.{Call}
-use Rattle.hk_words.specs.declared.geometry.Geometry.{Geometry}
 use Rattle.hk_words.specs.Geometry.{tasks}
 use Rattle.hk_core.specs.declared.outcome.Fault.{Fault}
 use Rattle.hk_core.specs.State.{State, IsSized, flight_of}
@@ -11,7 +10,6 @@ use Rattle.hk_core.specs.Begin.{refusal, after_begin}
 use Rattle.hk_core.specs.Step.{next}
 use Rattle.hk_core.specs.Run.{Running, begin, step, act, is_busy, may_begin}
 use Rattle.hk_core.proofs.Registers.{registers_tested}
-use Rattle.hk_core.proofs.Turns.{begin_sized}
 use Rattle.hk_collect.specs.Used.{Trace, trace_act}
 use Rattle.hk_script.specs.declared.walk.Need.{Need}
 use Rattle.hk_script.specs.declared.walk.Need.TheVariants as need
@@ -19,7 +17,7 @@ use Rattle.hk_dispatch.specs.InStep.{SeatInStep, aside, under_way, MayBegin}
 use Rattle.hk_dispatch.specs.Ticks.{core_first, core_on, run_first, run_on, run_by}
 use Rattle.hk_dispatch.specs.TaskRuns.{core_by}
 use Rattle.hk_dispatch.proofs.Begun.{begun_flying, begun_seat}
-use Rattle.hk_dispatch.proofs.Tracing.{traced_begin, traced_step}
+use Rattle.hk_dispatch.proofs.Tracing.{traced_step}
 
 acts_busy : (r : Running) (seat : ℕ) → is_busy r.core seat ≡ true → (act r (step seat)).core ≡ next r.core seat
 unfolding act

@@ -1,18 +1,18 @@
 -- What the tick of a seat's job leaves in the fields.
-use Rattle.std.proofs.Common.{◌≡◌, ℕ, suc, ◌+◌, ◌*◌, ◌^◌, ◌<◌, ◌≤◌, List, length, refl, sym, ◌∙◌, ap, subst, arith, get_or, set}
+use Rattle.std.proofs.Common.{◌≡◌, ℕ, suc, ◌+◌, ◌*◌, ◌^◌, ◌<◌, ◌≤◌, List, length, sym, ◌∙◌, subst, get_or, set}
 use Rattle.std.specs.Prelude.{nat_lt, ◌&&◌}
 use Rattle.hk_sheet.specs.declared.sheet.Sheet.{Sheet}
 use Rattle.hk_dispatch.specs.declared.run.Done.{Done}
 use Rattle.hk_dispatch.specs.declared.run.TaskRun.{TaskRun}
 use Rattle.hk_dispatch.specs.declared.session.Stand.{Stand}
 use Rattle.hk_dispatch.specs.Tasks.{Task, tasks_of, task_at}
-use Rattle.hk_dispatch.specs.Moment.{Course, Moment, core_of, course_at}
+use Rattle.hk_dispatch.specs.Moment.{Course, Moment, course_at}
 use Rattle.hk_dispatch.specs.Turns.{is_operation}
 use Rattle.hk_dispatch.specs.Ticks.{words_by, left_by, course_after, after_task}
 use Rattle.hk_dispatch.specs.Told.{out_of, end_of}
 use Rattle.hk_dispatch.specs.TaskRuns.{ShowsCourse, wanted, core_by}
 use Rattle.hk_dispatch.specs.Opened.{ShowsCourses, Before, Gave}
-use Rattle.hk_dispatch.proofs.SeatTick.{core_is, words_is, out_is, end_is, course_shown, mid_course_is, debt_after_is, debt_within}
+use Rattle.hk_dispatch.proofs.SeatTick.{core_is, out_is, end_is, course_shown, mid_course_is, debt_after_is, debt_within}
 use Rattle.hk_dispatch.proofs.ShownAfter.{courses_gone}
 
 module _ (sheet : Sheet) (m : Moment) (tick : ℕ) (s : Stand) (b : Before sheet m tick s) (seat : ℕ) (below : seat < length (tasks_of sheet)) where

@@ -1,5 +1,5 @@
 -- The tick of a seat's job: what it asks holds of the run that shows the course, and what it leaves shows the course after it.
-use Rattle.std.proofs.Common.{◌≡◌, ℕ, zero, suc, ◌+◌, ◌*◌, ◌^◌, ◌<◌, ◌≤◌, Bool, true, false, List, length, Option, Some, None, refl, sym, ◌∙◌, ap, subst, arith}
+use Rattle.std.proofs.Common.{◌≡◌, ℕ, suc, ◌+◌, ◌*◌, ◌^◌, ◌<◌, ◌≤◌, true, List, length, Option, Some, None, refl, sym, ◌∙◌, ap, subst, arith}
 use Rattle.std.proofs.lemmas.Nat.{mul-le}
 use Rattle.std.specs.Prelude.{nat_lt, ◌&&◌, IfSome}
 use Rattle.hk_words.specs.declared.call.Call.{Call}
@@ -21,7 +21,6 @@ use Rattle.hk_script.specs.Walks.{need_of}
 use Rattle.hk_script.proofs.Needs.{need_fits}
 use Rattle.hk_sheet.specs.declared.sheet.Sheet.{Sheet}
 use Rattle.hk_dispatch.specs.declared.run.TaskRun.{TaskRun}
-use Rattle.hk_dispatch.specs.declared.tick.End.{End}
 use Rattle.hk_dispatch.specs.Tasks.{Task, tasks_of, task_at}
 use Rattle.hk_dispatch.specs.Moment.{Course, Moment, core_of, course_at, need_at}
 use Rattle.hk_dispatch.specs.Turns.{is_operation, in_mid_course}

@@ -1,6 +1,6 @@
 -- The fields after a tick show the moment after it: where a task had the tick, and where none had.
-use Rattle.std.proofs.Common.{◌≡◌, ◌≢◌, ℕ, zero, suc, ◌+◌, ◌*◌, ◌^◌, ◌<◌, ◌≤◌, Bool, true, false, List, length, refl, sym, ◌∙◌, ap, subst, arith, inl, inr, Option, Some, None, get_or, set, take, length-set, get_or-set_same, get_or-set_other}
-use Rattle.std.proofs.lemmas.Bool.{cases_Bool, cases_eq}
+use Rattle.std.proofs.Common.{◌≡◌, ◌≢◌, ℕ, suc, ◌+◌, ◌<◌, Bool, true, false, List, length, refl, sym, ◌∙◌, ap, subst, arith, inl, inr, Option, Some, None, get_or, set, length-set, get_or-set_same, get_or-set_other}
+use Rattle.std.proofs.lemmas.Bool.{cases_eq}
 use Rattle.std.specs.Prelude.{nat_lt, ◌&&◌, slice_index_or, if◌then◌else◌}
 use Rattle.hk_plan.specs.declared.Ready.{Ready}
 use Rattle.hk_plan.specs.AloneBy.{no_ready, ready_at}
@@ -12,13 +12,13 @@ use Rattle.hk_dispatch.specs.declared.roster.Roster.{Roster}
 use Rattle.hk_dispatch.specs.declared.run.TaskRun.{TaskRun}
 use Rattle.hk_dispatch.specs.declared.tick.End.{End}
 use Rattle.hk_dispatch.specs.Tasks.{IsLowSeat, Task, tasks_of, task_at}
-use Rattle.hk_dispatch.specs.Moment.{Course, Moment, no_course, core_of, course_at, need_at}
+use Rattle.hk_dispatch.specs.Moment.{Course, Moment, no_course, course_at}
 use Rattle.hk_dispatch.specs.Turns.{is_operation, ready_rows, in_mid_course, first_low}
-use Rattle.hk_dispatch.specs.Ticks.{is_over, next_job, passed, course_after, after_task}
-use Rattle.hk_dispatch.specs.Told.{end_of, end_past, ended}
+use Rattle.hk_dispatch.specs.Ticks.{is_over, next_job, course_after, after_task}
+use Rattle.hk_dispatch.specs.Told.{end_of, ended}
 use Rattle.hk_dispatch.specs.Opened.{ShowsCourses, ShowsReady, OnlyLow, roster_after}
 use Rattle.hk_dispatch.specs.TaskRuns.{ShowsCourse}
-use Rattle.hk_dispatch.proofs.Courses.{by_test, left_now, words_now, course_now, own_course, other_course}
+use Rattle.hk_dispatch.proofs.Courses.{left_now, words_now, course_now, own_course, other_course}
 use Rattle.hk_dispatch.proofs.FirstLow.{first_low_law}
 use Rattle.hk_dispatch.proofs.RosterAfter.{first_low_same, roster_waits, roster_gone}
 

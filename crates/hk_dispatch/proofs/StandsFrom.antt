@@ -1,5 +1,5 @@
 -- Where a session stands: at its start, and after each tick.
-use Rattle.std.proofs.Common.{◌≡◌, ℕ, zero, suc, ◌+◌, ◌<◌, ◌≤◌, Bool, true, false, List, length, Option, Some, None, refl, sym, ◌∙◌, ap, subst, arith, inl, inr}
+use Rattle.std.proofs.Common.{◌≡◌, ℕ, suc, ◌+◌, ◌<◌, ◌≤◌, Bool, true, false, List, length, Some, None, refl, sym, ◌∙◌, ap, subst, arith, inl, inr}
 use Rattle.std.proofs.lemmas.Bool.{lt-ltb, le-ltb}
 use Rattle.std.specs.Prelude.{nat_lt, ◌&&◌, slice_index_or, if◌then◌else◌}
 use Rattle.hk_words.specs.declared.geometry.Geometry.{Geometry}
@@ -13,7 +13,6 @@ use Rattle.hk_script.specs.Walks.{need_of}
 use Rattle.hk_sheet.specs.declared.sheet.Sheet.{Sheet}
 use Rattle.hk_sheet.specs.Faults.{sizes_of}
 use Rattle.hk_admit.specs.Facts.{IsChecked}
-use Rattle.hk_dispatch.specs.declared.roster.Roster.{Roster}
 use Rattle.hk_dispatch.specs.declared.run.TaskRun.{TaskRun}
 use Rattle.hk_dispatch.specs.declared.session.Stand.{Stand}
 use Rattle.hk_dispatch.specs.declared.tick.Tick.{Tick}
@@ -26,7 +25,7 @@ use Rattle.hk_dispatch.specs.Ticks.{after_turn}
 use Rattle.hk_dispatch.specs.Told.{told_turn, told_by, told}
 use Rattle.hk_dispatch.specs.Session.{after_tick, state}
 use Rattle.hk_dispatch.specs.TaskRuns.{ShowsCourse}
-use Rattle.hk_dispatch.specs.Opened.{ShowsStart, ShowsCourses, Shows, Fit, Stands, MayGo, Before, Went}
+use Rattle.hk_dispatch.specs.Opened.{ShowsStart, ShowsCourses, Shows, Fit, Stands, Before, Went}
 use Rattle.hk_dispatch.proofs.FirstLow.{first_low_law}
 use Rattle.hk_dispatch.proofs.Runs.{geometry_at, lawful_at}
 use Rattle.hk_dispatch.proofs.SessionJobs.{jobs_kept, one_low}

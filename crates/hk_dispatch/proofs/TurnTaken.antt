@@ -3,23 +3,22 @@ use Rattle.std.proofs.Common.{◌≡◌, ℕ, zero, suc, ◌+◌, ◌^◌, ◌<�
 use Rattle.std.proofs.lemmas.Bool.{lt-ltb, le-ltb, eqb-true}
 use Rattle.std.specs.Prelude.{map, nat_lt, ◌==◌, if◌then◌else◌}
 use Rattle.std.specs.List.{AllByRecursion}
-use Rattle.hk_words.specs.Geometry.{tasks}
 use Rattle.hk_plan.specs.declared.Ready.{Ready}
 use Rattle.hk_plan.specs.AloneBy.{ready_at, chosen_task}
 use Rattle.hk_sheet.specs.declared.sheet.High.{High}
 use Rattle.hk_sheet.specs.declared.sheet.Low.{Low}
 use Rattle.hk_sheet.specs.declared.sheet.Sheet.{Sheet}
-use Rattle.hk_sheet.specs.Arrivals.{in_word, arrival_of, delay_of, ready_after}
+use Rattle.hk_sheet.specs.Arrivals.{arrival_of, delay_of, ready_after}
 use Rattle.hk_sheet.specs.Valid.{IsHigh}
 use Rattle.hk_dispatch.specs.declared.roster.Roster.{Roster}
 use Rattle.hk_dispatch.specs.declared.run.TaskRun.{TaskRun}
 use Rattle.hk_dispatch.specs.declared.session.Stand.{Stand}
-use Rattle.hk_dispatch.specs.Tasks.{Task, high_task, low_task, no_task, no_high, tasks_of, task_at}
+use Rattle.hk_dispatch.specs.Tasks.{Task, high_task, low_task, no_task, no_high, tasks_of}
 use Rattle.hk_dispatch.specs.Moment.{Moment, core_of, course_at}
 use Rattle.hk_dispatch.specs.Rows.{TasksRise}
 use Rattle.hk_dispatch.specs.Turns.{Turn, to_task, to_collector, to_nobody, arrived, ready_rows, first_low, in_mid_course, or_else, turn}
 use Rattle.hk_dispatch.specs.Rules.{ready_now, FirstLowIs, NoLow}
-use Rattle.hk_dispatch.specs.Opened.{MayLook, ShowsCourses, ShowsReady, Shows, Before, AtTurn, OnlyLow}
+use Rattle.hk_dispatch.specs.Opened.{MayLook, ShowsCourses, ShowsReady, Before, AtTurn, OnlyLow}
 use Rattle.hk_dispatch.proofs.FirstLow.{first_low_law}
 use Rattle.hk_dispatch.proofs.Sheets.{count_tasks}
 use Rattle.hk_dispatch.proofs.TurnFacts.{rows_rise_law}

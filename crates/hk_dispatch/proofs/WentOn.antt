@@ -1,9 +1,8 @@
 -- What a tick leaves: of nobody, of the collector, and of a task.
-use Rattle.std.proofs.Common.{◌≡◌, ◌≢◌, ℕ, zero, suc, ◌+◌, ◌-◌, ◌*◌, ◌^◌, ◌<◌, ◌≤◌, Bool, true, false, List, length, refl, sym, ◌∙◌, ap, subst, arith, Option, Some, None, get_or, set, take, length-take}
+use Rattle.std.proofs.Common.{◌≡◌, ℕ, suc, ◌+◌, ◌^◌, ◌<◌, ◌≤◌, Bool, true, false, List, length, refl, sym, ◌∙◌, ap, subst, arith, Option, Some, None, get_or, set, take, length-take}
 use Rattle.std.specs.Bool.{then_some}
-use Rattle.std.specs.Prelude.{if◌then◌else◌, slice_index_or}
+use Rattle.std.specs.Prelude.{if◌then◌else◌}
 use Rattle.hk_core.specs.declared.spot.Work.{Work}
-use Rattle.hk_core.specs.State.{State}
 use Rattle.hk_core.specs.Collect.{next_collected, work_by_collector}
 use Rattle.hk_collect.specs.Pays.{lost_in, debt_after}
 use Rattle.hk_collect.specs.Used.{is_flip}

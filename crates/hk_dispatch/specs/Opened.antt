@@ -1,8 +1,8 @@
 -- A session as contracts see it, and how its fields show where it stands.
-use Rattle.std.specs.Prelude.{◌≡◌, ℕ, suc, ◌*◌, ◌^◌, ◌<◌, ◌≤◌, Bool, true, false, List, length, slice_index_or, take, Option, Some, None}
+use Rattle.std.specs.Prelude.{◌≡◌, ℕ, suc, ◌*◌, ◌^◌, ◌<◌, ◌≤◌, true, List, length, slice_index_or, take, Option, Some, None}
 use Rattle.hk_words.specs.declared.geometry.Geometry.{Geometry}
 use Rattle.hk_words.specs.Geometry.{HasSizes, tasks}
-use Rattle.hk_core.specs.State.{State, IsSized}
+use Rattle.hk_core.specs.State.{IsSized}
 use Rattle.hk_plan.specs.declared.Ready.{Ready}
 use Rattle.hk_sheet.specs.declared.sheet.High.{High}
 use Rattle.hk_sheet.specs.declared.sheet.Sheet.{Sheet}
@@ -15,7 +15,7 @@ use Rattle.hk_dispatch.specs.declared.session.Stand.{Stand}
 use Rattle.hk_dispatch.specs.declared.tick.End.{End}
 use Rattle.hk_dispatch.specs.declared.tick.Tick.{Tick}
 use Rattle.hk_dispatch.specs.Tasks.{IsLowSeat, tasks_of, no_high, task_at}
-use Rattle.hk_dispatch.specs.Moment.{Moment, no_course, core_of, course_at, need_at, opening}
+use Rattle.hk_dispatch.specs.Moment.{Moment, no_course, core_of, course_at, need_at}
 use Rattle.hk_dispatch.specs.Turns.{Turn, is_ready, arrived, ready_rows, first_low, in_mid_course}
 use Rattle.hk_dispatch.specs.Kept.{OneLow}
 use Rattle.hk_dispatch.specs.Jobs.{JobsKept}

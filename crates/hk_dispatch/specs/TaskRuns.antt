@@ -1,5 +1,5 @@
 -- The run of one task, as the code keeps it: what its tick needs, and how it shows the task's course.
-use Rattle.std.specs.Prelude.{◌≡◌, ℕ, ◌+◌, ◌<◌, ◌≤◌, ◌⊎◌, Bool, true, false, Option, Some, None}
+use Rattle.std.specs.Prelude.{◌≡◌, ℕ, ◌⊎◌, Bool, true, false, Option, Some, None}
 use Rattle.hk_words.specs.declared.geometry.Geometry.{Geometry}
 use Rattle.hk_words.specs.Calls.{RegistersFit}
 use Rattle.hk_words.specs.declared.call.Call.{Call}

@@ -4,12 +4,13 @@ ghost use Rattle.hk_words.specs.Geometry.{HasSizes};
 ghost use Rattle.hk_collect.specs.Pays.{lost_in};
 ghost use Rattle.hk_collect.specs.Used.{is_flip};
 ghost use Rattle.hk_plan.specs.AloneBy.{least_task, ready_at};
+ghost use Rattle.hk_sheet.specs.declared.sheet.Sheet.{Sheet};
 ghost use Rattle.hk_sheet.specs.Faults.{sizes_of};
 ghost use Rattle.hk_sheet.specs.Valid.{IsSheet};
 ghost use Rattle.hk_dispatch.specs.Tasks.{IsLowSeat, tasks_of, task_at};
 ghost use Rattle.hk_dispatch.specs.Moment.{Moment, opening, course_at};
 ghost use Rattle.hk_dispatch.specs.Turns.{to_task, to_collector, to_nobody, ready_rows, turn};
-ghost use Rattle.hk_dispatch.specs.Session.{state};
+ghost use Rattle.hk_dispatch.specs.Session.{state, IsSession};
 ghost use Rattle.hk_dispatch.specs.declared.tick.Tick.TheVariants.{Ran};
 ghost use Rattle.hk_dispatch.specs.Ticks.{over_in};
 ghost use Rattle.hk_dispatch.specs.Told.{who_is, told_event, told};
@@ -131,12 +132,12 @@ impl Stand {
             return self.low_tick(sheet, seat, tick);
         }
         if self.debt > 0 {
-            return self.collect(sheet, tick);
+            return self.collect();
         }
         if let Some(seat) = self.roster.low() {
             return self.low_tick(sheet, seat, tick);
         }
-        self.pass(sheet, tick)
+        self.pass()
     }
 
     /// Looks through the tasks, where that is due.
@@ -187,10 +188,10 @@ impl Stand {
     }
 
     /// Gives a tick to the collector: one event, which pays for one that is owed.
-    fn collect(&mut self, sheet: &Sheet, tick: u64) -> Tick
-        requires at { (m : Moment) × AtTurn sheet.now m tick self.old }
+    fn collect(&mut self) -> Tick
+        requires at { (sheet : Sheet) × (m : Moment) × (tick : ℕ) × AtTurn sheet m tick self.old }
         requires owed { 0 < self.old.debt }
-        ensures { (m : Moment) → AtTurn sheet.now m tick self.old → Went sheet.now m tick to_collector self.new result }
+        ensures { (sheet : Sheet) (m : Moment) (tick : ℕ) → AtTurn sheet m tick self.old → Went sheet m tick to_collector self.new result }
     {
         let work = self.heap.collect();
         self.debt = self.debt - 1 + u64::from(lost_in(work));
@@ -201,9 +202,9 @@ impl Stand {
     }
 
     /// Gives a tick to nobody.
-    fn pass(&mut self, sheet: &Sheet, tick: u64) -> Tick
-        requires { (m : Moment) × AtTurn sheet.now m tick self.old }
-        ensures { (m : Moment) → AtTurn sheet.now m tick self.old → Went sheet.now m tick to_nobody self.new result }
+    fn pass(&mut self) -> Tick
+        requires { (sheet : Sheet) × (m : Moment) × (tick : ℕ) × AtTurn sheet m tick self.old }
+        ensures { (sheet : Sheet) (m : Moment) (tick : ℕ) → AtTurn sheet m tick self.old → Went sheet m tick to_nobody self.new result }
     {
         self.idle += 1;
         Tick::Ran {
@@ -320,6 +321,7 @@ impl<P: Pick> SessionBy<P> {
     pub fn checked(&self) -> &Checked
         ensures sheet { result.now.sheet ≡ self.now.sheet }
         ensures numbers { (result.now.work ≡ self.now.work) × (result.now.attempt ≡ self.now.attempt) × (result.now.busy ≡ self.now.busy) × (result.now.debt ≡ self.now.debt) }
+        ensures session { IsSession self.now.geometry (P.choice self.now.pick) self.now.sheet self.now.work self.now.attempt self.now.busy self.now.debt }
     {
         &self.checked
     }

@@ -12,19 +12,12 @@ use Rattle.hk_dispatch.specs.Told.{told}
 use Rattle.hk_top.specs.declared.report.Form.{Form}
 use Rattle.hk_top.specs.declared.report.Finish.{Finish}
 use Rattle.hk_top.specs.declared.report.Finish.TheVariants as finish
-use Rattle.hk_top.specs.Report.{ticks_text, last_lines, EndsSo, at_horizon, live_over, IsRunText}
+use Rattle.hk_top.specs.Report.{ticks_text, last_lines, live_in, EndsSo, at_horizon, live_over, IsRunText}
 use Rattle.hk_top.proofs.RunEnds.{GoesOn, ran, stands, tick_goes_on}
 
--- what an answer found too much
-found_in : Tick → Option ℕ
-found_in (tick.LiveOver words) = Some words
-found_in (tick.Ran who out end) = None
-found_in tick.Over = None
-
-found_over : (answer : Tick) (over : Option ℕ) → GoesOn answer over → over ≡ found_in answer
-unfolding found_in
-found_over answer over (ran who out end is none) = none ∙ sym (ap found_in is)
-found_over answer over (stands words is some) = some ∙ sym (ap found_in is)
+found_over : (answer : Tick) (over : Option ℕ) → GoesOn answer over → over ≡ live_in answer
+found_over answer over (ran who out end is none) = none ∙ sym (ap live_in is)
+found_over answer over (stands words is some) = some ∙ sym (ap live_in is)
 
 module _ (g : Geometry) (choice : List Ready → ℕ) (sheet : Sheet) where
   -- a session that stands stays so
@@ -45,15 +38,13 @@ module _ (g : Geometry) (choice : List Ready → ℕ) (sheet : Sheet) where
       let e : from + (later - from) ≡ later = omega (arith, le) in subst (λ t. (state g choice sheet t).over ≡ Some words) e (stands_on from (later - from) words some)
 
   found : (at words : ℕ) → IsTick g choice sheet at → told g choice sheet at ≡ tick.LiveOver words → (state g choice sheet (suc at)).over ≡ Some words
-  unfolding found_in
-  found at words t is = found_over (told g choice sheet at) (state g choice sheet (suc at)).over (tick_goes_on g choice sheet at t) ∙ ap found_in is
+    found at words t is = found_over (told g choice sheet at) (state g choice sheet (suc at)).over (tick_goes_on g choice sheet at t) ∙ ap live_in is
 
   none_and_some : (o : Option ℕ) (words : ℕ) → o ≡ None → o ≡ Some words → ⊥
   none_and_some o words a b = let e : None ≡ Some words = sym a ∙ b in cc
 
   one_end : (end end' : Finish) (ticks ticks' : ℕ) → EndsSo g choice sheet end ticks → EndsSo g choice sheet end' ticks' → (end ≡ end') × (ticks ≡ ticks')
-  unfolding found_in
-  one_end end end' ticks ticks' (at_horizon none) (at_horizon none') = (refl, refl)
+    one_end end end' ticks ticks' (at_horizon none) (at_horizon none') = (refl, refl)
   one_end end end' ticks ticks' (at_horizon none) (live_over at words t is) =
       let within = t.within in
       absurd (none_and_some (state g choice sheet sheet.ticks).over words none (stands_at (suc at) sheet.ticks words (omega (arith, within)) (found at words t is)))
@@ -71,7 +62,7 @@ module _ (g : Geometry) (choice : List Ready → ℕ) (sheet : Sheet) where
       by_tick : at ≡ at' → (finish.Live words ≡ finish.Live words') × (suc at ≡ suc at')
       by_tick same =
           let answers : tick.LiveOver words ≡ tick.LiveOver words' = sym is ∙ ap (told g choice sheet) same ∙ is' in
-          let w : Some words ≡ Some words' = ap found_in answers in
+          let w : Some words ≡ Some words' = ap live_in answers in
           (let e : words ≡ words' = cc in ap finish.Live e, ap suc same)
 
   pub one_run : (f : Form) (end end' : Finish) (text text' : List ℕ) → IsRunText f g choice sheet end text → IsRunText f g choice sheet end' text' → (end ≡ end') × (text ≡ text')

@@ -1,14 +1,13 @@
 //! The report of a session, written as it runs. No memory is taken.
-ghost use Rattle.std.specs.Prelude.{◌≡◌, ℕ, ◌+◌, ◌<◌, ◌++◌, ◌≤◌, List, length, true, OnOk, OnErr, IfOk, None, Some};
+ghost use Rattle.std.specs.Prelude.{◌≡◌, ℕ, ◌+◌, ◌<◌, ◌++◌, ◌≤◌, List, length, OnOk, OnErr, IfOk};
 ghost use Rattle.std.specs.Io.KnownBytes.{Appends};
 ghost use Rattle.hk_io.specs.Bytes.{AppendsPrefix, AppendsFront};
 ghost use Rattle.hk_io.specs.Faults.{HasCause};
-ghost use Rattle.hk_dispatch.specs.Tasks.{tasks_of};
-ghost use Rattle.hk_dispatch.specs.Session.{state};
-ghost use Rattle.hk_dispatch.specs.declared.tick.Tick.TheVariants.{Ran, LiveOver};
+ghost use Rattle.hk_dispatch.specs.Session.{state, IsTick};
+ghost use Rattle.hk_dispatch.specs.Told.{told};
+ghost use Rattle.hk_dispatch.specs.declared.tick.Tick.TheVariants.{Ran};
 ghost use Rattle.hk_top.specs.Names.{AreNamed, AreLowNamed};
-ghost use Rattle.hk_top.specs.Text.{live_line};
-ghost use Rattle.hk_top.specs.Report.{high_lines, low_lines, analysis, name_of, who_text, event_text, out_text, fault_in, fault_text, ended_text, traced, voiced, text_of_tick, texts_below, line_of_high_end, line_of_low_end, closing, IsRunText};
+ghost use Rattle.hk_top.specs.Report.{high_lines, low_lines, analysis, name_of, who_text, out_text, fault_text, ended_text, traced, voiced, text_of_tick, live_in, texts_below, line_of_high_end, line_of_low_end, closing, IsRunText};
 
 use crate::lines::{
     cycles_line, done_line, end_line, ended_line, event_line, fault_line, heap_line, high_line,
@@ -353,6 +352,37 @@ fn write_closing<P: Pick, K: Sink>(
     gather.push(sink, end_line(session.checked().sheet.ticks).bytes())
 }
 
+/// Gives a session a tick, and writes what it was behind what waits. It answers the words that the collector found reserved,
+/// where these were more than the space has for evacuation.
+fn write_next<P: Pick, K: Sink>(
+    session: &mut SessionBy<P>,
+    form: Form,
+    tick: u64,
+    gather: &mut Gather,
+    sink: &mut K,
+) -> Result<Option<u64>, Failed>
+    requires at { session.old.given ≡ tick }
+    requires before { IsTick session.old.geometry (P.choice session.old.pick) session.old.sheet tick }
+    ensures opened { session.new ≡ record session.old { given = tick + 1 } }
+    ensures ok { OnOk result (AppendsFront (K.taken sink.old) (K.taken sink.new) (gather.old ++ text_of_tick form session.old.sheet tick (told session.old.geometry (P.choice session.old.pick) session.old.sheet tick)) gather.new) }
+    ensures live { IfOk result (λ live. live ≡ live_in (told session.old.geometry (P.choice session.old.pick) session.old.sheet tick)) }
+    ensures prefix { OnErr result (AppendsPrefix (K.taken sink.old) (K.taken sink.new) (gather.old ++ text_of_tick form session.old.sheet tick (told session.old.geometry (P.choice session.old.pick) session.old.sheet tick))) }
+    ensures cause { HasCause (K.faults sink.old) (K.faults sink.new) result }
+{
+    match session.tick() {
+        Tick::Ran { who, out, end } => {
+            let sheet = &session.checked().sheet;
+            write_tick(form, sheet, tick, (who, out, end), gather, sink)?;
+            Ok(None)
+        }
+        Tick::LiveOver(words) => {
+            trace(form, &event_line(tick, b"live"), gather, sink)?;
+            Ok(Some(words))
+        }
+        Tick::Over => unreachable!(),
+    }
+}
+
 /// Runs a session that has had no tick to its end, and writes the lines of its ticks and the last lines. It answers how the
 /// session ended: at its horizon, or with the words that the collector found reserved, more than the space has for evacuation.
 /// It takes no memory.
@@ -374,19 +404,11 @@ pub fn write_run<P: Pick, K: Sink>(
     let ticks = session.checked().sheet.ticks;
     let mut gather = Gather::new();
     for tick in 0..ticks {
-        match session.tick() {
-            Tick::Ran { who, out, end } => {
-                let sheet = &session.checked().sheet;
-                write_tick(form, sheet, tick, (who, out, end), &mut gather, sink)?;
-            }
-            Tick::LiveOver(words) => {
-                let limit = session.checked().sheet.heap.live;
-                trace(form, &event_line(tick, b"live"), &mut gather, sink)?;
-                gather.push(sink, live_line(tick, words, u64::from(limit)).bytes())?;
-                gather.flush(sink)?;
-                return Ok(Finish::Live(words));
-            }
-            Tick::Over => unreachable!(),
+        if let Some(words) = write_next(session, form, tick, &mut gather, sink)? {
+            let limit = session.checked().sheet.heap.live;
+            gather.push(sink, live_line(tick, words, u64::from(limit)).bytes())?;
+            gather.flush(sink)?;
+            return Ok(Finish::Live(words));
         }
     }
     write_closing(session, &mut gather, sink)?;

@@ -1,5 +1,4 @@
-use Rattle.std.proofs.Common.{◌≡◌, ◌<◌, ◌∙◌, arith, ap, sym, subst, length}
-use Rattle.hk_dispatch.specs.declared.run.TaskRun.{TaskRun}
+use Rattle.std.proofs.Common.{◌∙◌, arith, ap, subst, length}
 use Rattle.hk_dispatch.specs.Tasks.{Task}
 use Rattle.hk_dispatch.specs.Moment.{no_course}
 use Rattle.hk_dispatch.specs.TaskRuns.{ShowsCourse}

@@ -1,12 +1,10 @@
-use Rattle.std.proofs.Common.{◌≡◌, ℕ, ◌+◌, ◌<◌, ◌≤◌, true, false, length, get_or, set, List, Option, Some, None, refl, ap, sym, subst, ◌∙◌, arith, rules}
+use Rattle.std.proofs.Common.{◌≡◌, ℕ, true, false, length, get_or, set, List, Option, Some, refl, ap, sym, subst, ◌∙◌, arith, rules}
 use Rattle.std.proofs.lemmas.List.{get_or_default}
 use Rattle.std.specs.Prelude.{not}
 use Rattle.std.specs.Option.{is_some}
-use Rattle.hk_plan.specs.declared.Ready.{Ready}
 use Rattle.hk_sheet.specs.declared.sheet.High.{High}
 use Rattle.hk_dispatch.specs.declared.roster.Roster.{Roster}
 use Rattle.hk_dispatch.specs.Tasks.{no_high}
-use Rattle.hk_dispatch.specs.Turns.{arrived}
 use Rattle.hk_dispatch.proofs.Looking.{Looked, no_run, row_by, looked_first, looked_waits, looked_high, looked_low, looked_all, not_by, not_yet, by_now}
 use Rattle.hk_dispatch.proofs.roster.Roster.look.Goals as goal
 use Rattle.hk_dispatch.proofs.roster.Roster.look.Goals.{then-ready-tick, else-ready-tick+then-seat-high, else-ready-tick+else-seat-high+then-is_none, else-ready-tick+else-seat-high+else-is_none}

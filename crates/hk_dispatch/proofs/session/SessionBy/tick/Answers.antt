@@ -1,7 +1,7 @@
-use Rattle.std.proofs.Common.{◌≡◌, ◌∙◌, ◌+◌, ap}
+use Rattle.std.proofs.Common.{◌∙◌, ◌+◌, ap}
 use Rattle.hk_dispatch.specs.Told.{told}
 use Rattle.hk_dispatch.specs.Opened.{Opened}
-use Rattle.hk_dispatch.proofs.StandsFrom.{at, told_over, told_end, before, told_went, same_geometry, stands_next}
+use Rattle.hk_dispatch.proofs.StandsFrom.{told_over, told_end, before, told_went, same_geometry, stands_next}
 use Rattle.hk_dispatch.proofs.session.SessionBy.tick.Goals as goal
 
 pub returns-in-Some-clause-answer : goal.returns-in-Some-clause-answer

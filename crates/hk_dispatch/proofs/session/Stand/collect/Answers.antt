@@ -1,15 +1,15 @@
-use Rattle.std.proofs.Common.{◌≡◌, ◌∙◌, ◌+◌, ◌-◌, ◌≤◌, ◌^◌, ap, arith, refl, sym}
+use Rattle.std.proofs.Common.{◌∙◌, ◌+◌, ◌-◌, ap, arith, refl}
 use Rattle.hk_collect.specs.Used.{is_flip}
 use Rattle.hk_dispatch.proofs.WentOn.{counted, collect_went}
 use Rattle.hk_dispatch.proofs.session.Stand.collect.Goals as goal
 
 pub returns : goal.returns
-returns c = λ m h.
+returns c = λ sheet m tick h.
     let s = c.args.self.now in
     let work = c.collect-work.result in
     let lost = c.from.ensures ∙ c.lost_in.ensures in
     let few = c.lost_in.type_inv in
-    collect_went c.args.sheet.now m c.args.tick s h c.requires.owed work c.collect-work.ensures.work (let e = c.lost_in.ensures in omega (arith, few, e)) _
+    collect_went sheet m tick s h c.requires.owed work c.collect-work.ensures.work (let e = c.lost_in.ensures in omega (arith, few, e)) _
     (record {
       heap = c.collect-work.ensures.next;
       tasks = refl;

@@ -1,4 +1,4 @@
-use Rattle.std.proofs.Common.{◌∙◌, ◌+◌, ◌<◌, length, arith}
+use Rattle.std.proofs.Common.{◌∙◌, arith}
 use Rattle.hk_dispatch.proofs.Sheets.{count_tasks}
 use Rattle.hk_dispatch.proofs.WentOn.{some_if, low_went}
 use Rattle.hk_dispatch.proofs.session.Stand.low_tick.Goals as goal

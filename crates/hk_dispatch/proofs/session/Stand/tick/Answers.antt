@@ -1,4 +1,4 @@
-use Rattle.std.proofs.Common.{◌≡◌, ◌∙◌, ◌<◌, ◌≤◌, length, arith, ap, sym, subst}
+use Rattle.std.proofs.Common.{◌∙◌, arith, sym, subst}
 use Rattle.hk_dispatch.specs.Turns.{Turn}
 use Rattle.hk_dispatch.specs.Opened.{Went}
 use Rattle.hk_dispatch.proofs.TurnTaken.{rows_rise, some_rows, no_rows, high_turn, operation_turn, operation_is, operation_only, collector_turn, low_turn, low_is, low_only, nobody_turn}
@@ -36,7 +36,7 @@ returns-then-self-gt0 g c = λ m b.
     let none = no_rows rows (sym c.is_empty.ensures ∙ c.if-not-is_empty.false) in
     subst (λ (o : Turn). Went c.args.sheet.now m c.args.tick o c.collect.new.self c.collect.result)
     (collector_turn (g.P.Pick.choice c.args.pick.now) c.args.sheet.now m c.args.tick c.look.new.self h rows c.rows-rows.ensures none c.in_default.is c.if-self-gt0.true)
-    (c.collect.ensures m h)
+    (c.collect.ensures c.args.sheet.now m c.args.tick h)
 
 pub low_tick-requires-in-Some-low-clause-low : goal.low_tick-requires-in-Some-low-clause-low
 low_tick-requires-in-Some-low-clause-low g c =
@@ -63,7 +63,7 @@ returns g c = λ m b.
     let not = c.if-self-gt0.false in
     subst (λ (o : Turn). Went c.args.sheet.now m c.args.tick o c.pass.new.self c.pass.result)
     (nobody_turn (g.P.Pick.choice c.args.pick.now) c.args.sheet.now m c.args.tick c.look.new.self h rows c.rows-rows.ensures none c.in_default.is (omega (arith, not)) (sym c.low.ensures ∙ c.in_default-low.is))
-    (c.pass.ensures m h)
+    (c.pass.ensures c.args.sheet.now m c.args.tick h)
 
 pub high_tick-requires-clause-at : goal.high_tick-requires-clause-at
 high_tick-requires-clause-at g c = (c.requires.0, c.look.ensures c.requires.0 c.requires.1)
@@ -72,10 +72,10 @@ pub low_tick-requires-clause-at : goal.low_tick-requires-clause-at
 low_tick-requires-clause-at g c = (c.requires.0, c.look.ensures c.requires.0 c.requires.1)
 
 pub collect-requires-clause-at : goal.collect-requires-clause-at
-collect-requires-clause-at g c = (c.requires.0, c.look.ensures c.requires.0 c.requires.1)
+collect-requires-clause-at g c = (c.args.sheet.now, c.requires.0, c.args.tick, c.look.ensures c.requires.0 c.requires.1)
 
 pub low_tick-requires-in-Some-low-clause-at : goal.low_tick-requires-in-Some-low-clause-at
 low_tick-requires-in-Some-low-clause-at g c = (c.requires.0, c.look.ensures c.requires.0 c.requires.1)
 
 pub pass-requires : goal.pass-requires
-pass-requires g c = (c.requires.0, c.look.ensures c.requires.0 c.requires.1)
+pass-requires g c = (c.args.sheet.now, c.requires.0, c.args.tick, c.look.ensures c.requires.0 c.requires.1)

@@ -5,7 +5,7 @@ use Rattle.hk_script.specs.declared.walk.Need.TheVariants as need
 use Rattle.hk_dispatch.specs.InStep.{SeatInStep}
 use Rattle.hk_dispatch.specs.TaskRuns.{LeavesBy}
 use Rattle.hk_dispatch.proofs.Replied.{leaves_by}
-use Rattle.hk_dispatch.proofs.run.advance.Goals as goal
+use Rattle.hk_dispatch.proofs.needs.advance.Goals as goal
 
 pub operate-requires-clause-in_step : goal.operate-requires-clause-in_step
 operate-requires-clause-in_step c =

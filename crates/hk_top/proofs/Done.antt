@@ -9,7 +9,6 @@ use Rattle.hk_sheet.specs.Faults.{sizes_of}
 use Rattle.hk_admit.specs.declared.checked.Admitted.{Admitted}
 use Rattle.hk_gen.specs.Made.{made}
 use Rattle.hk_gen.proofs.Drawn.{made_admitted}
-use Rattle.hk_dispatch.specs.Moment.{opening}
 use Rattle.hk_dispatch.specs.Session.{state, IsTick}
 use Rattle.hk_dispatch.specs.Told.{told}
 use Rattle.hk_dispatch.specs.declared.tick.Tick.TheVariants as tick
@@ -24,15 +23,11 @@ use Rattle.hk_top.specs.Headline.{LiveIsWithin}
 use Rattle.hk_top.specs.Tool.{analysis_of, needs_input, IsSheetOf, IsReport, CommandCallsFor}
 use Rattle.hk_top.proofs.Headline.{headline}
 use Rattle.hk_top.proofs.OneRun.{found}
-use Rattle.hk_top.proofs.RunEnds.{Ends, ends_from}
+use Rattle.hk_top.proofs.RunEnds.{Ends, ends_from, opened}
 
 module _ (a : Admitted) (g : Geometry) (sizes : HasSizes g (sizes_of a.checked.sheet)) where
   abbrev sheet : Sheet
   sheet = a.checked.sheet
-
-  opened : (state g least_task sheet 0).over ≡ None
-  unfolding state opening
-  opened = refl
 
   module _ (f : Form) (few : LiveIsWithin g sheet) where
     not_live : (at words : ℕ) → IsTick g least_task sheet at → told g least_task sheet at ≡ tick.LiveOver words → ⊥
@@ -61,7 +56,7 @@ module _ (a : Admitted) (g : Geometry) (sizes : HasSizes g (sizes_of a.checked.s
 
     -- the report of a run that comes to its horizon
     pub report_done : (text : List ℕ) × IsReport f a status.Done text
-    report_done = reported (ends_from g least_task sheet 0 (omega arith) opened)
+    report_done = reported (ends_from g least_task sheet 0 (omega arith) (opened g least_task sheet))
 
 -- what is asked for of an admitted sheet
 pub done : (c : Option Command) (bytes : List ℕ) (a : Admitted) (g : Geometry) → needs_input c ≡ true → IsSheetOf bytes a.checked.sheet → HasSizes g (sizes_of a.checked.sheet)

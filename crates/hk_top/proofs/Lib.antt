@@ -9,6 +9,7 @@ pub mod ReportLemmas
 pub mod SheetLemmas
 pub mod Endings
 pub mod RunEnds
+pub mod RunText
 pub mod OneRun
 pub mod Headline
 pub mod Done

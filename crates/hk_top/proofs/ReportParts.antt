@@ -1,15 +1,17 @@
 -- The analysis, a tick and the last lines, by their parts.
-use Rattle.std.proofs.Common.{◌≡◌, ℕ, List, ◌++◌, length, Option, refl, ap, ◌∙◌}
+use Rattle.std.proofs.Common.{◌≡◌, ℕ, List, ◌++◌, length, Option, refl, sym, ap, ◌∙◌}
+use Rattle.std.specs.Prelude.{codes}
 use Rattle.hk_sheet.specs.declared.sheet.High.{High}
 use Rattle.hk_sheet.specs.declared.sheet.Low.{Low}
 use Rattle.hk_sheet.specs.declared.sheet.Sheet.{Sheet}
 use Rattle.hk_dispatch.specs.declared.tick.Who.{Who}
 use Rattle.hk_dispatch.specs.declared.tick.End.{End}
-use Rattle.hk_dispatch.specs.declared.tick.Tick.TheVariants.{Ran}
+use Rattle.hk_dispatch.specs.declared.tick.Tick.{Tick}
+use Rattle.hk_dispatch.specs.declared.tick.Tick.TheVariants.{Ran, LiveOver}
 use Rattle.hk_dispatch.specs.Moment.{Moment}
 use Rattle.hk_top.specs.declared.report.Form.{Form}
 use Rattle.hk_top.specs.Report.{high_lines, low_lines, analysis, name_of, who_text, out_text, fault_text, ended_text, traced, voiced, text_of_tick, texts_below, line_of_high_end, line_of_low_end, closing}
-use Rattle.hk_top.specs.Text.{heap_line, cycles_line, end_line}
+use Rattle.hk_top.specs.Text.{heap_line, event_line, cycles_line, end_line}
 
 pub analysis_parts : (sheet : Sheet) (work attempt busy debt : ℕ) (times : List ℕ) (heap : List ℕ) (hs : List High) (rs : List ℕ) (ls : List Low)
     → heap ≡ heap_line work attempt busy debt → hs ≡ sheet.high → rs ≡ times → ls ≡ sheet.low
@@ -27,6 +29,12 @@ unfolding text_of_tick
 tick_parts f sheet at who out end line name is_line is_name =
     ap (λ x. ((traced f x ++ voiced f (out_text at name out)) ++ voiced f (fault_text at name end)) ++ traced f (ended_text at name end)) is_line
     ∙ ap (λ x. ((traced f (who_text sheet at who) ++ voiced f (out_text at x out)) ++ voiced f (fault_text at x end)) ++ traced f (ended_text at x end)) is_name
+
+-- a tick at which the collector found too much
+pub live_text : (f : Form) (sheet : Sheet) (at words : ℕ) (line : List ℕ) (answer : Tick) → line ≡ event_line at (codes "live") → answer ≡ LiveOver words
+    → traced f line ≡ text_of_tick f sheet at answer
+unfolding text_of_tick
+live_text f sheet at words line answer is_line is = ap (traced f) is_line ∙ sym (ap (text_of_tick f sheet at) is)
 
 module _ (sheet : Sheet) (m : Moment) where
   abbrev pub high_ends : List ℕ

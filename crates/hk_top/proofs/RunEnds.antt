@@ -10,7 +10,7 @@ use Rattle.hk_dispatch.specs.declared.tick.Who.{Who}
 use Rattle.hk_dispatch.specs.declared.tick.End.{End}
 use Rattle.hk_dispatch.specs.declared.tick.Tick.{Tick}
 use Rattle.hk_dispatch.specs.declared.tick.Tick.TheVariants as tick
-use Rattle.hk_dispatch.specs.Moment.{Moment, core_of}
+use Rattle.hk_dispatch.specs.Moment.{Moment, core_of, opening}
 use Rattle.hk_dispatch.specs.Turns.{Turn, to_task, to_collector, to_nobody, turn}
 use Rattle.hk_dispatch.specs.Ticks.{over_in, after_task, after_event, after_turn}
 use Rattle.hk_dispatch.specs.Session.{after_tick, state, IsTick}
@@ -23,6 +23,10 @@ use Rattle.hk_top.specs.Report.{EndsSo, at_horizon, live_over}
 pub data GoesOn (answer : Tick) (over : Option ℕ) : Type 0 where
   ran : (who : Who) (out : Option ℕ) (end : Option End) → answer ≡ tick.Ran who out end → over ≡ None → GoesOn answer over
   stands : (words : ℕ) → answer ≡ tick.LiveOver words → over ≡ Some words → GoesOn answer over
+
+pub not_over : (answer : Tick) (over : Option ℕ) → GoesOn answer over → answer ≡ tick.Over → ⊥
+not_over answer over (ran who out end is none) e = let x : tick.Over ≡ tick.Ran who out end = sym e ∙ is in cc
+not_over answer over (stands words is some) e = let x : tick.Over ≡ tick.LiveOver words = sym e ∙ is in cc
 
 event_goes_on : (done : Work) (found : Option ℕ) → GoesOn (told_event done found) found
 event_goes_on done None = ran _ _ _ refl refl
@@ -60,9 +64,8 @@ module _ (g : Geometry) (choice : List Ready → ℕ) (sheet : Sheet) where
     pub later : from ≤ ticks
 
   ends_by : (from : ℕ) → IsTick g choice sheet from → ((state g choice sheet (suc from)).over ≡ None → Ends (suc from))
-      → GoesOn (told g choice sheet from) (state g choice sheet (suc from)).over → Ends from
-  ends_by from t on (ran who out end answer goes) =
-      let e = on goes in let l = e.later in record { end = e.end; ticks = e.ticks; so = e.so; later = omega (arith, l) }
+      → GoesOn (told g choice sheet from) (state g choice sheet (suc from)).over → Ends (suc from)
+  ends_by from t on (ran who out end answer goes) = on goes
   ends_by from t on (stands words answer over) = record { end = finish.Live words; ticks = suc from; so = live_over from words t answer; later = omega arith }
 
   ends_after : (left from : ℕ) → from + left ≡ sheet.ticks → (state g choice sheet from).over ≡ None → Ends from
@@ -71,7 +74,18 @@ module _ (g : Geometry) (choice : List Ready → ℕ) (sheet : Sheet) where
       record { end = finish.AtEnd; ticks = sheet.ticks; so = at_horizon (subst (λ t. (state g choice sheet t).over ≡ None) same none); later = omega (arith, same) }
   ends_after (suc left) from here none =
       let t : IsTick g choice sheet from = record { within = omega (arith, here); before_over = none } in
-      ends_by from t (λ goes. ends_after left (suc from) (omega (arith, here)) goes) (tick_goes_on from t)
+      let e = ends_by from t (λ goes. ends_after left (suc from) (omega (arith, here)) goes) (tick_goes_on from t) in
+      let l = e.later in
+      record { end = e.end; ticks = e.ticks; so = e.so; later = omega (arith, l) }
 
   pub ends_from : (from : ℕ) → from ≤ sheet.ticks → (state g choice sheet from).over ≡ None → Ends from
   ends_from from le none = ends_after (sheet.ticks - from) from (omega (arith, le)) none
+
+  -- and with a tick, after that
+  pub ends_past : (from : ℕ) → IsTick g choice sheet from → Ends (suc from)
+  ends_past from t = let within = t.within in ends_by from t (λ goes. ends_from (suc from) (omega (arith, within)) goes) (tick_goes_on from t)
+
+  -- the session is open at first
+  pub opened : (state g choice sheet 0).over ≡ None
+  unfolding state opening
+  opened = refl

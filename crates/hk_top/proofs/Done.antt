@@ -1,5 +1,5 @@
 -- What is asked for of an admitted sheet is done to its end, where no more words are live than the sheet declares.
-use Rattle.std.proofs.Common.{◌≡◌, ℕ, zero, suc, ◌<◌, ◌≤◌, false, true, List, ◌++◌, Option, Some, None, refl, sym, ap, ◌∙◌, subst, arith}
+use Rattle.std.proofs.Common.{◌≡◌, ℕ, suc, ◌≤◌, false, true, List, ◌++◌, Option, Some, None, refl, sym, subst, arith}
 use Rattle.hk_words.specs.declared.geometry.Geometry.{Geometry}
 use Rattle.hk_words.specs.Geometry.{HasSizes}
 use Rattle.hk_io.specs.declared.Status.TheVariants as status
@@ -9,7 +9,7 @@ use Rattle.hk_sheet.specs.Faults.{sizes_of}
 use Rattle.hk_admit.specs.declared.checked.Admitted.{Admitted}
 use Rattle.hk_gen.specs.Made.{made}
 use Rattle.hk_gen.proofs.Drawn.{made_admitted}
-use Rattle.hk_dispatch.specs.Session.{state, IsTick}
+use Rattle.hk_dispatch.specs.Session.{IsTick}
 use Rattle.hk_dispatch.specs.Told.{told}
 use Rattle.hk_dispatch.specs.declared.tick.Tick.TheVariants as tick
 use Rattle.hk_top.specs.declared.report.Form.{Form}
@@ -41,17 +41,19 @@ module _ (a : Admitted) (g : Geometry) (sizes : HasSizes g (sizes_of a.checked.s
       where
         by_end : (end : Finish) (ticks : ℕ) → EndsSo g least_task sheet end ticks → (text : List ℕ) × IsReport f a status.Done text
         by_end end ticks (at_horizon none) =
-            let run = ticks_text f g least_task sheet sheet.ticks ++ last_lines g least_task sheet finish.AtEnd sheet.ticks in
-            (analysis_of a ++ run, record {
-              geometry = g;
-              sizes = sizes;
-              headline = headline a g sizes;
-              finish = finish.AtEnd;
-              ended_is = refl;
-              run = run;
-              run_is = record { ticks = sheet.ticks; ends = at_horizon none; is = refl };
-              text_is = refl;
-            })
+            let run = ticks_text f g least_task sheet sheet.ticks ++ last_lines g least_task sheet finish.AtEnd sheet.ticks in (
+              analysis_of a ++ run,
+              record {
+                geometry = g;
+                sizes = sizes;
+                headline = headline a g sizes;
+                finish = finish.AtEnd;
+                ended_is = refl;
+                run = run;
+                run_is = record { ticks = sheet.ticks; ends = at_horizon none; is = refl };
+                text_is = refl;
+              },
+            )
         by_end end ticks (live_over at words t answer) = absurd (not_live at words t answer)
 
     -- the report of a run that comes to its horizon

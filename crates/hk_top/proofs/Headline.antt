@@ -1,5 +1,5 @@
 -- The headline holds of the run of every admitted sheet: each sentence is a promise of sessions.
-use Rattle.std.proofs.Common.{◌≡◌, ℕ, refl}
+use Rattle.std.proofs.Common.{ℕ}
 use Rattle.hk_words.specs.declared.geometry.Geometry.{Geometry}
 use Rattle.hk_words.specs.Geometry.{HasSizes}
 use Rattle.hk_plan.specs.AloneBy.{least_task}

@@ -1,5 +1,5 @@
 -- Words and bytes call for one end, and for one text.
-use Rattle.std.proofs.Common.{◌≡◌, ◌≢◌, ℕ, ◌-◌, ◌<◌, ◌≤◌, ◌⊎◌, inl, inr, List, ◌++◌, length, Option, Some, None, Result, Ok, Err, refl, sym, ap, ◌∙◌, subst, arith, slice_index}
+use Rattle.std.proofs.Common.{◌≡◌, ◌≢◌, ℕ, ◌-◌, ◌<◌, ◌⊎◌, inl, inr, List, ◌++◌, length, Option, Some, None, Result, Ok, Err, refl, sym, ap, ◌∙◌, subst, arith, slice_index}
 use Rattle.std.proofs.lemmas.Grind.{same_number_lists}
 use Rattle.std.specs.Prelude.{unwrap_or}
 use Rattle.toml.specs.Data.{Members}
@@ -13,14 +13,11 @@ use Rattle.hk_sheet.specs.declared.sheet.Sheet.{Sheet}
 use Rattle.hk_sheet.specs.Answers.{IsDocument, IsRead, Answers}
 use Rattle.hk_sheet.specs.Faults.{sheet_of, sizes_of}
 use Rattle.hk_admit.specs.declared.checked.Admitted.{Admitted}
-use Rattle.hk_admit.specs.declared.refused.Refused.{Refused}
-use Rattle.hk_admit.specs.declared.refused.Refused.TheVariants as refused
 use Rattle.hk_admit.specs.Analysis.{timings_of, IsBusy, cycle_work, attempt_events, most_owed}
 use Rattle.hk_admit.specs.Conditions.{AreResponses}
 use Rattle.hk_admit.specs.Refusals.{IsRefusal}
 use Rattle.hk_admit.proofs.Excluded.{admitted_excludes, one_busy}
 use Rattle.hk_admit.proofs.Unique.{one_refusal}
-use Rattle.hk_words.specs.declared.geometry.Geometry.{Geometry}
 use Rattle.hk_words.specs.Geometry.{HasSizes}
 use Rattle.hk_words.proofs.OneGeometry.{one_geometry}
 use Rattle.hk_plan.specs.AloneBy.{least_task}
@@ -28,9 +25,9 @@ use Rattle.hk_top.specs.declared.report.Form.{Form}
 use Rattle.hk_top.specs.declared.report.Form.TheVariants as form
 use Rattle.hk_top.specs.declared.tool.Command.{Command}
 use Rattle.hk_top.specs.declared.tool.Command.TheVariants as command
-use Rattle.hk_top.specs.Refusals.{usage_line, sheet_line, refused_line}
+use Rattle.hk_top.specs.Refusals.{sheet_line, refused_line}
 use Rattle.hk_top.specs.Report.{analysis, IsRunText}
-use Rattle.hk_top.specs.Tool.{analysis_of, status_of, IsSheetOf, IsNoSheet, IsUnread, too_long, no_sheet, IsNotAdmitted, IsAnalysis, IsReport, IsAnswer, IsSimulation, answer_for, BytesCallFor, CommandCallsFor}
+use Rattle.hk_top.specs.Tool.{analysis_of, status_of, IsSheetOf, IsNoSheet, IsUnread, too_long, no_sheet, IsNotAdmitted, IsAnalysis, IsReport, IsAnswer, answer_for, BytesCallFor, CommandCallsFor}
 use Rattle.hk_top.proofs.OneRun.{one_run}
 
 -- A SHEET

@@ -1,5 +1,5 @@
 -- A session ends in one way, and has one text.
-use Rattle.std.proofs.Common.{◌≡◌, ℕ, zero, suc, ◌+◌, ◌-◌, ◌<◌, ◌≤◌, ◌⊎◌, List, ◌++◌, Option, Some, None, refl, sym, ap, ◌∙◌, subst, arith, inl, inr}
+use Rattle.std.proofs.Common.{◌≡◌, ℕ, zero, suc, ◌+◌, ◌-◌, ◌≤◌, List, ◌++◌, Option, Some, None, refl, sym, ap, ◌∙◌, subst, arith, inl, inr}
 use Rattle.std.proofs.lemmas.Bool.{cases_lt, cases_eq}
 use Rattle.hk_words.specs.declared.geometry.Geometry.{Geometry}
 use Rattle.hk_plan.specs.declared.Ready.{Ready}
@@ -37,14 +37,14 @@ module _ (g : Geometry) (choice : List Ready → ℕ) (sheet : Sheet) where
   stands_at from later words le some =
       let e : from + (later - from) ≡ later = omega (arith, le) in subst (λ t. (state g choice sheet t).over ≡ Some words) e (stands_on from (later - from) words some)
 
-  found : (at words : ℕ) → IsTick g choice sheet at → told g choice sheet at ≡ tick.LiveOver words → (state g choice sheet (suc at)).over ≡ Some words
-    found at words t is = found_over (told g choice sheet at) (state g choice sheet (suc at)).over (tick_goes_on g choice sheet at t) ∙ ap live_in is
+  pub found : (at words : ℕ) → IsTick g choice sheet at → told g choice sheet at ≡ tick.LiveOver words → (state g choice sheet (suc at)).over ≡ Some words
+  found at words t is = found_over (told g choice sheet at) (state g choice sheet (suc at)).over (tick_goes_on g choice sheet at t) ∙ ap live_in is
 
   none_and_some : (o : Option ℕ) (words : ℕ) → o ≡ None → o ≡ Some words → ⊥
   none_and_some o words a b = let e : None ≡ Some words = sym a ∙ b in cc
 
   one_end : (end end' : Finish) (ticks ticks' : ℕ) → EndsSo g choice sheet end ticks → EndsSo g choice sheet end' ticks' → (end ≡ end') × (ticks ≡ ticks')
-    one_end end end' ticks ticks' (at_horizon none) (at_horizon none') = (refl, refl)
+  one_end end end' ticks ticks' (at_horizon none) (at_horizon none') = (refl, refl)
   one_end end end' ticks ticks' (at_horizon none) (live_over at words t is) =
       let within = t.within in
       absurd (none_and_some (state g choice sheet sheet.ticks).over words none (stands_at (suc at) sheet.ticks words (omega (arith, within)) (found at words t is)))

@@ -1,5 +1,5 @@
 -- The text of a run, and first parts of it.
-use Rattle.std.proofs.Common.{◌≡◌, ℕ, suc, ◌+◌, ◌-◌, ◌<◌, List, [], ◌++◌, Option, Some, None, refl, sym, ap, ◌∙◌, subst, arith}
+use Rattle.std.proofs.Common.{◌≡◌, ℕ, suc, ◌-◌, List, [], ◌++◌, Option, Some, None, refl, ap, subst, arith}
 use Rattle.std.specs.Io.KnownBytes.{Appends}
 use Rattle.hk_words.specs.declared.geometry.Geometry.{Geometry}
 use Rattle.hk_io.specs.Bytes.{AppendsPrefix, AppendsFront}
@@ -55,10 +55,13 @@ module _ (f : Form) (g : Geometry) (choice : List Ready → ℕ) (sheet : Sheet)
     pub cut_tick : IsTick g choice sheet n → AppendsPrefix b c (w ++ tick_text n) → IsCut a c
     cut_tick t part =
         let e = ends_past g choice sheet n t in
-        let later = e.later in
-        (e.end, ticks e.ticks ++ last e.end e.ticks, record { ticks = e.ticks; ends = e.so; is = refl },
-        AppendsPrefix-append a c (ticks e.ticks) (last e.end e.ticks)
-        (prefix_below tick_text a b c [] w (tick_text n) n refl e.ticks (omega (arith, later)) front part))
+        let later = e.later in (
+          e.end,
+          ticks e.ticks ++ last e.end e.ticks,
+          record { ticks = e.ticks; ends = e.so; is = refl },
+          AppendsPrefix-append a c (ticks e.ticks) (last e.end e.ticks)
+              (prefix_below tick_text a b c [] w (tick_text n) n refl e.ticks (omega (arith, later)) front part),
+        )
 
     pub next_front : (w1 : List ℕ) → AppendsFront b c (w ++ tick_text n) w1 → AppendsFront a c (ticks (suc n)) w1
     next_front w1 more = subst (λ x. AppendsFront a c x w1) (below_more tick_text n (tick_text n) refl) (AppendsFront-trans a b c (ticks n) w (tick_text n) w1 front more)

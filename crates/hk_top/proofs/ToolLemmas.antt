@@ -1,17 +1,23 @@
 -- From what the parts of the program answer to what its top call answers.
-use Rattle.std.proofs.Common.{◌≡◌, ◌≢◌, ℕ, ◌+◌, ◌<◌, ◌≤◌, ◌⊎◌, inl, inr, true, List, [], length, Option, None, Some, Result, Ok, Err, refl, sym, ap, ◌∙◌, subst, arith, String, Global}
+use Rattle.std.proofs.Common.{◌≡◌, ◌≢◌, ℕ, ◌+◌, ◌<◌, ◌≤◌, ◌⊎◌, inl, inr, List, [], ◌++◌, length, Option, None, Some, Result, Ok, Err, refl, sym, ap, ◌∙◌, subst, arith, String, Global}
 use Rattle.std.proofs.lemmas.List.{length-append}
 use Rattle.std.specs.Prelude.{IfSome, MatchResult, map}
 use Rattle.std.specs.String.{string_bytes}
 use Rattle.hk_io.specs.declared.Status.{Status}
 use Rattle.hk_io.specs.declared.Status.TheVariants as status
 use Rattle.hk_io.specs.declared.faults.Failed.{Failed}
-use Rattle.hk_io.specs.Bytes.{ConsumesFront}
+use Rattle.std.specs.Io.KnownBytes.{Appends}
+use Rattle.hk_words.specs.declared.geometry.Geometry.{Geometry}
+use Rattle.hk_words.specs.Geometry.{HasSizes}
+use Rattle.hk_io.specs.Bytes.{AppendsPrefix, ConsumesFront}
+use Rattle.hk_io.specs.Faults.{Rose}
 use Rattle.hk_io.specs.Limits.{longest_input}
 use Rattle.hk_sheet.specs.declared.error.SheetError.{SheetError}
 use Rattle.hk_sheet.specs.declared.error.SheetError.TheVariants as unread
 use Rattle.hk_sheet.specs.declared.sheet.Sheet.{Sheet}
 use Rattle.hk_sheet.specs.Answers.{Answers}
+use Rattle.hk_sheet.specs.Faults.{sizes_of}
+use Rattle.hk_plan.specs.AloneBy.{least_task}
 use Rattle.hk_admit.specs.declared.checked.Admitted.{Admitted}
 use Rattle.hk_admit.specs.declared.refused.Refused.{Refused}
 use Rattle.hk_admit.specs.declared.refused.Refused.TheVariants as refused
@@ -20,8 +26,11 @@ use Rattle.hk_top.specs.Refusals.{sheet_line, refused_line}
 use Rattle.hk_top.specs.declared.report.Form.{Form}
 use Rattle.hk_top.specs.declared.report.Finish.{Finish}
 use Rattle.hk_top.specs.declared.report.Finish.TheVariants as finish
-use Rattle.hk_top.specs.Tool.{status_of, asked, IsSheetOf, IsUnread, too_long, no_sheet, IsNotAdmitted, IsAnalysis, IsReport, answer_for, BytesCallFor, CallsFor, HasText, Writes, WritesPrefix, EndsBy, EndsOn}
+use Rattle.hk_top.specs.declared.tool.Command.{Command}
+use Rattle.hk_top.specs.Report.{analysis, IsRunText}
+use Rattle.hk_top.specs.Tool.{analysis_of, status_of, asked, IsSheetOf, no_sheet, IsAnalysis, IsReport, answer_for, BytesCallFor, CommandCallsFor, CallsFor, HasText, Writes, WritesPrefix, EndsBy, EndsOn}
 use Rattle.hk_top.specs.Words.{Puts}
+use Rattle.hk_top.proofs.Headline.{headline}
 use Rattle.hk_top.proofs.OneCall.{one_end}
 
 -- ENDS
@@ -80,6 +89,63 @@ module _ (Calls : Status → List ℕ → Type 0) (before after : Option (List �
     later = ends.later;
   }
 
+module _ (Calls : Status → List ℕ → Type 0) (before after : Option (List ℕ)) (faults faults_after : ℕ) (owed : Status) (text : List ℕ) (called : Calls owed text) where
+  -- a text was written whole
+  pub ends_whole : HasText owed → Appends before after text → faults_after ≡ faults → EndsBy Calls before after faults faults_after owed
+  ends_whole has appended kept = record {
+    whole = λ _. (text, called, appended);
+    prefix = λ w. absurd (subst HasText w has);
+    cause = λ w. absurd (subst HasText w has);
+    no_read = λ r. subst HasText r has;
+    kept = λ _. kept;
+    later = omega (arith, kept);
+  }
+
+  -- or in part
+  pub ends_cut : AppendsPrefix before after text → Rose faults faults_after → faults ≤ faults_after → EndsBy Calls before after faults faults_after status.WriteFault
+  ends_cut part rose later = record {
+    whole = λ h. absurd h;
+    prefix = λ _. (owed, text, called, part);
+    cause = λ _. rose;
+    no_read = λ r. subst IsWriteFault r tt;
+    kept = λ other. absurd (other refl);
+    later = later;
+  }
+
+-- the analysis by equal numbers
+pub analysis_by : (sheet sheet' : Sheet) (work work' attempt attempt' busy busy' debt debt' : ℕ) (responses : List ℕ) → sheet ≡ sheet' → work ≡ work' → attempt ≡ attempt' → busy ≡ busy' → debt ≡ debt'
+    → analysis sheet work attempt busy debt responses ≡ analysis sheet' work' attempt' busy' debt' responses
+analysis_by sheet sheet' work work' attempt attempt' busy busy' debt debt' responses same w t b d =
+    ap (λ s. analysis s work attempt busy debt responses) same
+    ∙ ap (λ n. analysis sheet' n attempt busy debt responses) w
+    ∙ ap (λ n. analysis sheet' work' n busy debt responses) t
+    ∙ ap (λ n. analysis sheet' work' attempt' n debt responses) b
+    ∙ ap (λ n. analysis sheet' work' attempt' busy' n responses) d
+
+-- the report of an admitted sheet, by the numbers of its session
+module _ (f : Form) (a : Admitted) (sheet : Sheet) (work attempt busy debt : ℕ) (responses : List ℕ) (g : Geometry) (same : sheet ≡ a.checked.sheet)
+    (w : work ≡ a.checked.work) (t : attempt ≡ a.checked.attempt) (b : busy ≡ a.checked.busy) (d : debt ≡ a.checked.debt) (r : responses ≡ a.responses)
+    (sizes : HasSizes g (sizes_of sheet)) where
+  own_analysis : analysis sheet work attempt busy debt responses ≡ analysis_of a
+  own_analysis =
+      analysis_by sheet a.checked.sheet work a.checked.work attempt a.checked.attempt busy a.checked.busy debt a.checked.debt responses same w t b d
+      ∙ ap (analysis a.checked.sheet a.checked.work a.checked.attempt a.checked.busy a.checked.debt) r
+
+  pub own_report : (s : Status) (end : Finish) (run : List ℕ) → s ≡ status_of end → IsRunText f g least_task sheet end run
+      → IsReport f a s (analysis sheet work attempt busy debt responses ++ run)
+  own_report s end run ended is =
+      let own : HasSizes g (sizes_of a.checked.sheet) = subst (λ (x : Sheet). HasSizes g (sizes_of x)) same sizes in
+      record {
+        geometry = g;
+        sizes = own;
+        headline = headline a g own;
+        finish = end;
+        ended_is = ended;
+        run = run;
+        run_is = subst (λ (x : Sheet). IsRunText f g least_task x end run) same is;
+        text_is = ap (λ x. x ++ run) own_analysis;
+      }
+
 -- an admitted sheet of these bytes, whose answer ends the program by Done or by Live
 answered : (Answer : Admitted → Status → List ℕ → Type 0) (bytes : List ℕ) (a : Admitted) → IsSheetOf bytes a.checked.sheet → (s : Status) (t : List ℕ)
     → (s ≡ status.Done) ⊎ (s ≡ status.Live) → Answer a s t → BytesCallFor Answer bytes s t
@@ -99,7 +165,19 @@ analysis_calls bytes a is s t answer = answered (answer_for None) bytes a is s t
 pub report_calls : (f : Form) (bytes : List ℕ) (a : Admitted) → IsSheetOf bytes a.checked.sheet → (s : Status) (t : List ℕ) → IsReport f a s t → BytesCallFor (answer_for (Some f)) bytes s t
 report_calls f bytes a is s t answer = answered (answer_for (Some f)) bytes a is s t (by_finish s answer.finish answer.ended_is) answer
 
--- THE TOP CALL
+-- what is called for by what the words ask for
+pub asked_as : (words : List (String Global)) (c : Option Command) → asked (map string_bytes words) ≡ c → (bytes : List ℕ) (s : Status) (t : List ℕ) → CommandCallsFor c bytes s t → CallsFor words bytes s t
+asked_as words c asks bytes s t called = subst (λ o. CommandCallsFor o bytes s t) (sym asks) called
+
+pub no_read_fault : (ended : Status) → ended ≡ status.WriteFault → ended ≢ status.ReadFault
+no_read_fault ended e r = subst IsWriteFault (sym e ∙ r) tt
+
+-- THE TOP CALL. What needs no input ends so on whatever the input is
+pub on_any_input : (Calls : Status → List ℕ → Type 0) (input before after : Option (List ℕ)) (faults faults_after : ℕ) (ended : Status) → EndsBy Calls before after faults faults_after ended
+    → EndsOn (λ bytes. Calls) input before after faults faults_after ended
+on_any_input Calls None before after faults faults_after ended e = record { bytes = []; told = tt; ends = e }
+on_any_input Calls (Some left) before after faults faults_after ended e = record { bytes = left; told = refl; ends = e }
+
 module _ (Calls : List ℕ → Status → List ℕ → Type 0) (words : List (String Global)) (input before after : Option (List ℕ)) (faults faults_after : ℕ) (ended : Status)
     (turns : (bytes : List ℕ) (s : Status) (t : List ℕ) → Calls bytes s t → CallsFor words bytes s t) (e : EndsOn Calls input before after faults faults_after ended) where
   pub writes : HasText ended → Writes words input before after ended

@@ -1,5 +1,5 @@
 -- What the run of an admitted sheet promises, sentence by sentence.
-use Rattle.std.specs.Prelude.{◌≡◌, ◌≢◌, ℕ, ◌+◌, ◌-◌, ◌<◌, ◌≤◌, ◌↔◌, List, length, slice_index_or, Option, Some, None}
+use Rattle.std.specs.Prelude.{◌≡◌, ◌≢◌, ℕ, ◌+◌, ◌-◌, ◌<◌, ◌≤◌, ◌↔◌, List, length, slice_index_or, Some}
 use Rattle.hk_words.specs.declared.geometry.Geometry.{Geometry}
 use Rattle.hk_words.specs.declared.call.Call.{Call}
 use Rattle.hk_words.specs.declared.call.Reply.TheVariants.{Full}
@@ -16,7 +16,7 @@ use Rattle.hk_sheet.specs.Arrivals.{arrival_of}
 use Rattle.hk_admit.specs.Analysis.{largest_low}
 use Rattle.hk_dispatch.specs.declared.operation.Left.TheVariants.{Passes}
 use Rattle.hk_dispatch.specs.Tasks.{high_at}
-use Rattle.hk_dispatch.specs.Moment.{Moment, core_of, history_of, used_at, plain_heap, flip_heap, course_at, need_at}
+use Rattle.hk_dispatch.specs.Moment.{core_of, history_of, used_at, plain_heap, flip_heap, course_at, need_at}
 use Rattle.hk_dispatch.specs.Turns.{to_task, turn}
 use Rattle.hk_dispatch.specs.Ticks.{asked, left_by}
 use Rattle.hk_dispatch.specs.Session.{state, who_gets, IsMoment, IsTick, JobEndsAt}

@@ -173,12 +173,7 @@ fn who_line(sheet: &Sheet, tick: u64, who: Who) -> Line
 }
 
 /// Writes a line behind what waits, where a trace is asked for.
-fn trace<K: Sink>(
-    form: Form,
-    line: &Line,
-    gather: &mut Gather,
-    sink: &mut K,
-) -> Result<(), Failed>
+fn trace<K: Sink>(form: Form, line: &Line, gather: &mut Gather, sink: &mut K) -> Result<(), Failed>
     ensures ok { OnOk result (AppendsFront (K.taken sink.old) (K.taken sink.new) (gather.old ++ traced form line.now) gather.new) }
     ensures prefix { OnErr result (AppendsPrefix (K.taken sink.old) (K.taken sink.new) (gather.old ++ traced form line.now)) }
     ensures cause { HasCause (K.faults sink.old) (K.faults sink.new) result }
@@ -228,11 +223,13 @@ fn write_fault<K: Sink>(
     match (form, end) {
         (
             Form::Plain | Form::Trace,
-            Some(End {
-                job,
-                ticks: _,
-                fault: Some(fault),
-            }),
+            Some(
+                End {
+                    job,
+                    ticks: _,
+                    fault: Some(fault),
+                },
+            ),
         ) => gather.push(sink, fault_line(tick, name, job, fault).bytes()),
         _ => Ok(()),
     }
@@ -253,7 +250,12 @@ fn write_ended<K: Sink>(
     ensures cause { HasCause (K.faults sink.old) (K.faults sink.new) result }
 {
     match end {
-        Some(end) => trace(form, &ended_line(tick, name, end.job, end.ticks), gather, sink),
+        Some(end) => trace(
+            form,
+            &ended_line(tick, name, end.job, end.ticks),
+            gather,
+            sink,
+        ),
         None => Ok(()),
     }
 }
@@ -304,7 +306,11 @@ fn write_high_ends<P: Pick, K: Sink>(
     let tasks = high_tasks(&session.checked().sheet);
     for (place, task) in tasks.iter().enumerate() {
         let seat = seat_of(place);
-        let line = done_line(bytes_of(&task.name), session.ended(seat), session.latest(seat));
+        let line = done_line(
+            bytes_of(&task.name),
+            session.ended(seat),
+            session.latest(seat),
+        );
         gather.push(sink, line.bytes())?;
     }
     Ok(())
@@ -326,7 +332,11 @@ fn write_low_ends<P: Pick, K: Sink>(
     let first = high_tasks(sheet).len();
     for (place, task) in low_tasks(sheet).iter().enumerate() {
         let seat = seat_of(first + place);
-        let line = done_line(bytes_of(&task.name), session.ended(seat), session.latest(seat));
+        let line = done_line(
+            bytes_of(&task.name),
+            session.ended(seat),
+            session.latest(seat),
+        );
         gather.push(sink, line.bytes())?;
     }
     Ok(())

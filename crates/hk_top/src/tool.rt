@@ -1,21 +1,25 @@
 //! What the program does for its words.
-ghost use Rattle.std.specs.Prelude.{◌≡◌, ◌≢◌, ◌⊎◌, ℕ, ◌≤◌, List, length, map, Option, Ok, Err, Some, IfSome, MatchResult};
-ghost use Rattle.std.specs.Io.KnownBytes.{IsAtEnd};
+ghost use Rattle.std.specs.Prelude.{◌≡◌, ◌≢◌, ◌⊎◌, ℕ, ◌≤◌, List, ◌++◌, length, map, Option, Ok, Err, Some, IfOk, OnErr, IfSome, MatchResult};
+ghost use Rattle.std.specs.Io.KnownBytes.{Appends, IsAtEnd};
 ghost use Rattle.std.specs.Str.{bytes_eq};
 ghost use Rattle.std.specs.String.{string_bytes};
-ghost use Rattle.hk_io.specs.Faults.{Rose};
+ghost use Rattle.hk_io.specs.Bytes.{AppendsPrefix};
+ghost use Rattle.hk_io.specs.Faults.{Rose, HasCause};
 ghost use Rattle.hk_io.specs.Limits.{longest_input};
 ghost use Rattle.hk_admit.specs.Refusals.{IsRefusal};
+ghost use Rattle.hk_plan.specs.AloneBy.{least_task};
 ghost use Rattle.hk_gen.specs.Made.{made};
 ghost use Rattle.hk_sheet.specs.Answers.{Answers, IsRead};
 ghost use Rattle.hk_sheet.specs.declared.sheet.Sheet.{Sheet};
 ghost use Rattle.hk_top.specs.declared.report.Form.{Form};
+ghost use Rattle.hk_top.specs.declared.report.Finish.{Finish};
+ghost use Rattle.hk_top.specs.Report.{analysis, IsRunText};
 ghost use Rattle.hk_top.specs.Tool.{one_word, two_words, asked, AsksNothing, ReadsInput, IsSheetOf, IsAnalysis, IsReport, IsSimulation, answer_for, HasText, CallsFor, BytesCallFor, Writes, WritesPrefix, EndsBy, EndsOn};
 
 use crate::refusals::{put_line, put_refused, put_sheet_error};
 use crate::report::{Finish, Form, write_analysis, write_run};
 use hk_admit::{Admitted, Refused, admit};
-use hk_dispatch::Session;
+use hk_dispatch::{First, Pick, Session};
 use hk_gen::sheet;
 use hk_io::{Failed, Sink, Source, Status, TakeFault, number, put_all, take_all};
 use hk_sheet::{SheetError, read, text};
@@ -101,7 +105,14 @@ fn check_admitted<K: Sink>(admitted: &Admitted, sink: &mut K) -> Status
 }
 
 /// Writes the analysis of the sheet of a session that has had no tick, runs it, and writes its report.
-fn write_report<K: Sink>(session: &mut Session, form: Form, sink: &mut K) -> Result<Finish, Failed> {
+fn write_report<K: Sink>(session: &mut Session, form: Form, sink: &mut K) -> Result<Finish, Failed>
+    requires start { session.old.by.given ≡ 0 }
+    requires whole { length session.old.responses ≡ length session.old.by.sheet.high }
+    requires choice { ⟦<First as Pick>⟧.choice session.old.by.pick ≡ least_task }
+    ensures ok { IfOk result (λ finish. (run : List ℕ) × IsRunText form session.old.by.geometry least_task session.old.by.sheet finish run × Appends (K.taken sink.old) (K.taken sink.new) (analysis session.old.by.sheet session.old.by.work session.old.by.attempt session.old.by.busy session.old.by.debt session.old.responses ++ run)) }
+    ensures prefix { OnErr result ((finish : Finish) × (run : List ℕ) × IsRunText form session.old.by.geometry least_task session.old.by.sheet finish run × AppendsPrefix (K.taken sink.old) (K.taken sink.new) (analysis session.old.by.sheet session.old.by.work session.old.by.attempt session.old.by.busy session.old.by.debt session.old.responses ++ run)) }
+    ensures cause { HasCause (K.faults sink.old) (K.faults sink.new) result }
+{
     write_analysis(session.by.checked(), &session.responses, sink)?;
     write_run(&mut session.by, form, sink)
 }

@@ -1,5 +1,5 @@
 -- One line behind another.
-use Rattle.std.proofs.Common.{◌≡◌, ℕ, ◌+◌, ◌<◌, List, length, refl, ap, ◌∙◌, subst, arith}
+use Rattle.std.proofs.Common.{◌≡◌, ◌<◌, List, length, refl, ap, ◌∙◌, subst, arith}
 use Rattle.hk_sheet.specs.declared.sheet.High.{High}
 use Rattle.std.proofs.lemmas.Result.{err_from_is_err_and}
 use Rattle.hk_sheet.specs.declared.sheet.Sheet.{Sheet}

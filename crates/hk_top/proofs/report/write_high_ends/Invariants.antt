@@ -1,5 +1,5 @@
 -- The lines of the tasks so far were written or wait, and no write failed.
-use Rattle.std.proofs.Common.{◌≡◌, ◌++◌, ◌≤◌, length}
+use Rattle.std.proofs.Common.{◌≡◌, ◌++◌, ◌≤◌}
 use Rattle.hk_io.specs.Bytes.{AppendsFront}
 use Rattle.hk_dispatch.specs.Session.{state}
 use Rattle.hk_top.specs.Report.{texts_below, line_of_high_end}

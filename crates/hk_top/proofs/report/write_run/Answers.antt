@@ -1,5 +1,5 @@
 -- The ticks one behind another, and the last lines.
-use Rattle.std.proofs.Common.{◌≡◌, ℕ, suc, ◌+◌, ◌<◌, ◌++◌, None, refl, sym, ap, ◌∙◌, subst, arith}
+use Rattle.std.proofs.Common.{◌≡◌, suc, ◌+◌, ◌<◌, ◌++◌, None, refl, sym, ap, ◌∙◌, subst, arith}
 use Rattle.std.proofs.lemmas.Result.{err_from_is_err_and}
 use Rattle.hk_io.specs.Bytes.{AppendsPrefix, AppendsFront}
 use Rattle.hk_sheet.specs.declared.sheet.Sheet.{Sheet}
@@ -9,7 +9,7 @@ use Rattle.hk_dispatch.specs.Session.{state, IsTick}
 use Rattle.hk_dispatch.specs.Told.{told}
 use Rattle.hk_top.specs.declared.report.Finish.TheVariants as finish
 use Rattle.hk_top.specs.Names.{AreNamed, AreLowNamed}
-use Rattle.hk_top.specs.Report.{text_of_tick, live_in, closing, EndsSo, at_horizon, live_over}
+use Rattle.hk_top.specs.Report.{live_in, closing, EndsSo, at_horizon, live_over}
 use Rattle.hk_top.specs.Text.{live_line}
 use Rattle.hk_top.proofs.Below.{none_below, front_below}
 use Rattle.hk_top.proofs.RunEnds.{tick_goes_on, opened}

@@ -1,5 +1,4 @@
 -- What a tick says, one part behind another.
-use Rattle.std.proofs.Common.{ℕ}
 use Rattle.std.proofs.lemmas.Result.{err_from_is_err_and, on_ok_weaker, on_err_weaker}
 use Rattle.hk_top.specs.Report.{out_text, fault_text, ended_text, traced, voiced}
 use Rattle.hk_top.proofs.Four.{four_first, four_second, four_third, four_last, four_all}

@@ -8,6 +8,7 @@
 mod attempts;
 #[cfg(test)]
 mod choices;
+mod events;
 mod laws;
 mod needs;
 mod operation;
@@ -16,7 +17,9 @@ mod roster;
 #[cfg(test)]
 mod rows;
 mod run;
+mod seats;
 mod session;
+mod stand;
 #[cfg(test)]
 mod tests;
 mod tick;

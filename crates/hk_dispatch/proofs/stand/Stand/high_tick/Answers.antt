@@ -3,7 +3,7 @@ use Rattle.hk_plan.specs.AloneBy.{ready_at}
 use Rattle.hk_dispatch.proofs.RosterAfter.{row_is_high}
 use Rattle.hk_dispatch.specs.declared.run.TaskRun.{TaskRun}
 use Rattle.hk_dispatch.proofs.WentOn.{row_below, row_task, row_within, row_first, high_went}
-use Rattle.hk_dispatch.proofs.session.Stand.high_tick.Goals as goal
+use Rattle.hk_dispatch.proofs.stand.Stand.high_tick.Goals as goal
 
 pub give-done-requires-clause-seat : goal.give-done-requires-clause-seat
 give-done-requires-clause-seat c =

@@ -3,7 +3,7 @@ use Rattle.hk_dispatch.specs.Tasks.{Task}
 use Rattle.hk_dispatch.specs.Moment.{no_course}
 use Rattle.hk_dispatch.specs.TaskRuns.{ShowsCourse}
 use Rattle.hk_dispatch.proofs.Started.{start_more, starts_all}
-use Rattle.hk_dispatch.proofs.session.start_all.Goals as goal
+use Rattle.hk_dispatch.proofs.seats.start_all.Goals as goal
 
 pub loop-seat-init : goal.loop-seat-init
 loop-seat-init c = record { all = ap length c.new-tasks.ensures.items; each = λ seat d lt. absurd (omega (arith, lt)) }

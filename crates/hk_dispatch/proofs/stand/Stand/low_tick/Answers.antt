@@ -1,7 +1,7 @@
 use Rattle.std.proofs.Common.{◌∙◌, arith}
 use Rattle.hk_dispatch.proofs.Sheets.{count_tasks}
 use Rattle.hk_dispatch.proofs.WentOn.{some_if, low_went}
-use Rattle.hk_dispatch.proofs.session.Stand.low_tick.Goals as goal
+use Rattle.hk_dispatch.proofs.stand.Stand.low_tick.Goals as goal
 
 pub returns : goal.returns
 returns c = λ m h only.

@@ -2,7 +2,7 @@ use Rattle.std.proofs.Common.{◌∙◌, arith, sym, subst}
 use Rattle.hk_dispatch.specs.Turns.{Turn}
 use Rattle.hk_dispatch.specs.Opened.{Went}
 use Rattle.hk_dispatch.proofs.TurnTaken.{rows_rise, some_rows, no_rows, high_turn, operation_turn, operation_is, operation_only, collector_turn, low_turn, low_is, low_only, nobody_turn}
-use Rattle.hk_dispatch.proofs.session.Stand.tick.Goals as goal
+use Rattle.hk_dispatch.proofs.stand.Stand.tick.Goals as goal
 
 pub pick-place-requires-clause-rising : goal.pick-place-requires-clause-rising
 pick-place-requires-clause-rising g c = rows_rise (g.P.Pick.choice c.args.pick.now) c.args.sheet.now c.requires.0 c.args.tick c.look.new.self (c.look.ensures c.requires.0 c.requires.1) c.rows-rows.result.now c.rows-rows.ensures

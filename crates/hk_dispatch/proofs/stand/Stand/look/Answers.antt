@@ -1,7 +1,7 @@
 use Rattle.std.proofs.Common.{◌∙◌, ap, sym}
 use Rattle.hk_sheet.specs.declared.sheet.Sheet.{Sheet}
 use Rattle.hk_dispatch.proofs.TurnTaken.{may_look, courses_seen, looked}
-use Rattle.hk_dispatch.proofs.session.Stand.look.Goals as goal
+use Rattle.hk_dispatch.proofs.stand.Stand.look.Goals as goal
 
 pub refresh-requires-clause-may : goal.refresh-requires-clause-may
 refresh-requires-clause-may c = may_look c.args.sheet.now c.requires.0 c.args.tick c.args.self.now c.requires.1 c.deref.result.now c.deref-2.result.now

@@ -1,6 +1,6 @@
 use Rattle.std.proofs.Common.{refl}
 use Rattle.hk_dispatch.proofs.StandsFrom.{sizes_first, own_opening, shows_first}
-use Rattle.hk_dispatch.proofs.session.Stand.open.Goals as goal
+use Rattle.hk_dispatch.proofs.stand.Stand.open.Goals as goal
 
 pub returns-clause-sizes : goal.returns-clause-sizes
 returns-clause-sizes c = sizes_first c.geometry-geometry.result c.in_ok-heap.heap c.args.sheet.now c.in_ok-heap.ensures.state c.geometry-geometry.ensures

@@ -1,7 +1,7 @@
 use Rattle.std.proofs.Common.{◌+◌, ◌*◌, refl, ap}
 use Rattle.hk_dispatch.proofs.SeatGiven.{shows_at, seat_gave}
 use Rattle.hk_dispatch.proofs.SeatTick.{course_kept, wants_fit, in_step}
-use Rattle.hk_dispatch.proofs.session.Stand.give.Goals as goal
+use Rattle.hk_dispatch.proofs.stand.Stand.give.Goals as goal
 
 pub tick-done-requires-clause-kept : goal.tick-done-requires-clause-kept
 tick-done-requires-clause-kept c =

@@ -5,7 +5,7 @@ use Rattle.hk_dispatch.specs.declared.run.TaskRun.{TaskRun}
 use Rattle.hk_dispatch.specs.Tasks.{task_at}
 use Rattle.hk_dispatch.specs.Moment.{no_course}
 use Rattle.hk_dispatch.specs.TaskRuns.{ShowsCourse}
-use Rattle.hk_dispatch.proofs.session.start_all.Given as goal
+use Rattle.hk_dispatch.proofs.seats.start_all.Given as goal
 
 abbrev pub invariant-loop-seat : goal.invariant-loop-seat
 invariant-loop-seat l = record {

@@ -1,7 +1,7 @@
 use Rattle.std.proofs.Common.{◌∙◌, ◌+◌, ◌-◌, ap, arith, refl}
 use Rattle.hk_collect.specs.Used.{is_flip}
 use Rattle.hk_dispatch.proofs.WentOn.{counted, collect_went}
-use Rattle.hk_dispatch.proofs.session.Stand.collect.Goals as goal
+use Rattle.hk_dispatch.proofs.stand.Stand.collect.Goals as goal
 
 pub returns : goal.returns
 returns c = λ sheet m tick h.

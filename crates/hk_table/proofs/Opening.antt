@@ -12,7 +12,7 @@ use Rattle.hk_words.specs.Row.{InRow, index_of, register_at, slot_at}
 use Rattle.hk_words.specs.Row.Slot.{Register}
 use Rattle.hk_words.proofs.RowLaws.{slot_at-index_of, index_below}
 use Rattle.hk_core.specs.State as state
-use Rattle.hk_core.specs.State.{opening_row, opening_word, opening_register, flight_of, idle}
+use Rattle.hk_core.specs.State.{opening_row, opening_word, opening_register, opening_spot, flight_of, idle}
 use Rattle.hk_core.specs.Begin.{register_word}
 use Rattle.hk_core.specs.Run.{Running, run, run_from_opening}
 use Rattle.hk_model.specs.History.{of_seat}
@@ -64,3 +64,12 @@ opens_so g = record {
       },
     )
     only (suc i) v at = absurd (some-ne-none v (sym at))
+
+pub row_length_is : (g : Geometry) → length (opening_row g) ≡ row_length g
+unfolding opening_row
+row_length_is g = length-map-range_with_len (λ index. opening_word g (slot_at g index)) 0 (row_length g)
+
+-- the collector is at its first spot
+pub opening_stands : (g : Geometry) → (run_from_opening g []).core.spot ≡ opening_spot
+unfolding run_from_opening run state.opening
+opening_stands g = refl

@@ -1,6 +1,6 @@
 -- What a pass's own registers say of the heap that never collects: the entries of other seats leave them as they are, so
 -- what is so after the whole history is so after what the pass has seen.
-use Rattle.std.proofs.Common.{◌≡◌, ◌≢◌, ℕ, ◌<◌, Bool, true, false, List, [], ◌++◌, refl, sym, ◌∙◌, ap, subst, arith, Option, Some, None, IsTrue, ◌↔◌}
+use Rattle.std.proofs.Common.{◌≡◌, ◌≢◌, ℕ, ◌<◌, Bool, true, false, List, [], ◌++◌, refl, sym, ◌∙◌, ap, subst, arith, Option, Some, None, IsTrue, ◌↔◌, eqb-true, eq-eqb}
 use Rattle.std.proofs.lemmas.List.Elements.{filter-append}
 use Rattle.std.proofs.lemmas.List.Sums.{fold-append}
 use Rattle.std.specs.Prelude.{nat_eq, nat_lt, is_none, slice_index, if◌then◌else◌}
@@ -36,6 +36,10 @@ use Rattle.hk_table.proofs.Stepping.{nothing_more}
 after-more : (start : Heap) (first later : History) → after start (first ++ later) ≡ after (after start first) later
 unfolding after
 after-more start first later = fold-append after_entry start first later
+
+-- a test of two numbers
+pub means_same : (a b x y : ℕ) → x ≡ a → y ≡ b → IsTrue (nat_eq x y) ↔ (a ≡ b)
+means_same a b x y first second = ((λ e. sym first ∙ eqb-true x y e ∙ second), (λ e. eq-eqb x y (first ∙ e ∙ sym second)))
 
 -- two heaps that agree on a register, and on whether the object in it has the field, refuse a call alike
 same_fault : (o o' : Option ℕ) → o' ≡ o → (has has' : ℕ → Bool) (done done' : ℕ → Reply) (answer : Reply) → ((b : ℕ) → o ≡ Some b → has' b ≡ has b)

@@ -6,3 +6,5 @@ pub mod Seats
 pub mod Calls
 pub mod Passes
 pub mod Errors
+pub mod Taken
+pub mod Ends

@@ -27,7 +27,7 @@ use Rattle.hk_table.specs.Seats.{learnt_of, Collects, CollectsFrom}
 use Rattle.hk_table.specs.declared.view.View.{View}
 use Rattle.hk_table.proofs.Collecting.{spot_leaves}
 use Rattle.hk_table.proofs.Keeps.{run_more, begins_more, below_more}
-use Rattle.hk_table.proofs.Stepping.{nothing_more}
+use Rattle.hk_table.proofs.Knowing.{nothing_more}
 
 module _ (fits-law : LawfulSpotFits) (can-law : LawfulCanCollect) (g : Geometry) (log : List Action) where
   abbrev r : Running
@@ -178,6 +178,7 @@ keeper_step fits-law can-law g slots id me k e f is asks same s h homes at small
             between = fits.begins.0;
             others = nothing_more (collects k.log) (collects fits.begins.0) (fits.acts ∙ ap collects fits.begins.1 ∙ filter-append is_collect k.log fits.begins.0);
             log = ap (λ (l : List Action). l ++ collect ∷ []) fits.begins.1;
+            stands = sym spot;
             met = subst (λ (l : List Action). (run_from_opening g l).core.spot ≡ k.spot) fits.begins.1 fits.spot;
             finds = subst (λ (l : List Action). found_by_collector (run_from_opening g l).core ≡ learnt_of (spot_event g k.spot) n) fits.begins.1 learnt-so;
             made = refl;

@@ -13,6 +13,7 @@ use Rattle.hk_words.specs.declared.geometry.Geometry.{Geometry}
 use Rattle.hk_words.specs.Geometry.{tasks}
 use Rattle.hk_model.specs.History.{History}
 use Rattle.hk_core.specs.Run.{Action, begin, step, collect, Running, run, run_from_opening}
+use Rattle.hk_collect.proofs.Running.{legal_from_opening}
 use Rattle.hk_table.specs.Actions.{Begins, SeatsBelow, is_by, is_collect, acts_of, collects}
 use Rattle.hk_table.specs.Knows.{PassView, Closing, KeeperView, Knows, pass, told, note, ended, keeper, spent}
 use Rattle.hk_table.specs.Rule.{StandsIn, PassFits, KeeperFits, Fits, HasNot, SeatApart, NoKeeper, Apart, InOneRun}
@@ -20,7 +21,7 @@ use Rattle.hk_table.specs.Seats.{Looks, LooksFrom, longer, closing, taken_in, cl
 use Rattle.hk_table.specs.declared.view.View.{View}
 use Rattle.hk_table.proofs.Keeps.{IsPass, seat_acts}
 use Rattle.hk_table.proofs.Seats.{tie, view}
-use Rattle.hk_table.proofs.Stepping.{nothing_more}
+use Rattle.hk_table.proofs.Knowing.{nothing_more}
 
 pub look_allows : (g : Geometry) (slots id word : ℕ) (me : Me (Unit {0}) View) (p : PassView) (h' : History) → me.0.knows ≡ told g p h'
     → Allows (InOneRun g) slots id me word (λ n. n) (λ n m. (m.1 ≡ me.1) × LooksFrom me.0.knows m.0.knows)
@@ -60,6 +61,7 @@ look_allows g slots id word me p h' is s h homes at small =
             mine = refl;
             saw = fits.stands.saw;
             learnt = all.2;
+            legal = legal_from_opening g h.log;
             between = longer'.0;
             others = nothing_more (acts_of p.seat p.log) (acts_of p.seat longer'.0) (fits.stands.acts ∙ ap (acts_of p.seat) longer'.1 ∙ filter-append (is_by p.seat) p.log longer'.0);
             log = longer'.1;

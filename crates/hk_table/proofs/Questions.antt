@@ -30,8 +30,8 @@ use Rattle.hk_core.proofs.RefusedPlain.{refused_plain}
 use Rattle.hk_collect.proofs.Running.{lawful_from_opening, geometry_from_opening}
 use Rattle.hk_table.specs.Knows.{PassView}
 use Rattle.hk_table.specs.Deeds.{Stands, refused_by}
-use Rattle.hk_table.proofs.Deeds.{refusal_same}
-use Rattle.hk_table.proofs.Stepping.{nothing_more}
+use Rattle.hk_table.proofs.Beginning.{refusal_same}
+use Rattle.hk_table.proofs.Knowing.{nothing_more}
 
 after-more : (start : Heap) (first later : History) → after start (first ++ later) ≡ after (after start first) later
 unfolding after

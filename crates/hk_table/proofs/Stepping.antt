@@ -1,4 +1,5 @@
--- Each atomic step of a pass keeps the rule, and tells what the pass knows afterwards.
+-- The actions of one atomic step of a pass, on the run of any log that the pass fits: what they change, and what the pass knows
+-- afterwards.
 use Rattle.std.proofs.Common.{◌≡◌, ◌≢◌, ◌⊎◌, ℕ, zero, suc, ◌+◌, ◌<◌, ◌≤◌, ◌^◌, Bool, true, false, List, [], ◌∷◌, ◌++◌, map, length, refl, sym, ◌∙◌, ap, subst, arith, inl, inr, ⊎_elim, append-nil, append_assoc, get_or-set_same, get_or-set_other, eq-eqb, ne_eqb, Option, Some, None}
 use Rattle.std.proofs.lemmas.Bool.{cases_Bool, cases_eq, eqb-true}
 use Rattle.std.proofs.lemmas.Bool.Decides.{nat_tests}
@@ -36,104 +37,9 @@ use Rattle.hk_table.specs.Deeds.{Accepts, RestsFit, answered, LastStep, quiet, a
 use Rattle.hk_table.specs.declared.view.View.{View}
 use Rattle.hk_table.proofs.Alone.{IsAlone}
 use Rattle.hk_table.proofs.Keeps.{ActBy, ActsBy, run_more, acts_alone, begins_more, IsPass, seat_acts}
-use Rattle.hk_table.proofs.Deeds.{SeatAt, IsRun, run_acts, can, seated, step_at, begins, rests_at, last_step, rests_fit, settled_used, idle_settled, begin_at, refusal_same, first_same}
-
--- LISTS
-
-pub nothing_more : {A : Type 0} (xs ys : List A) → xs ≡ xs ++ ys → ys ≡ []
-nothing_more {A} xs ys e = empty ys (let l : length xs ≡ length xs + length ys = ap length e ∙ length-append xs ys in omega arith)
-  where
-    empty : (l : List A) → length l ≡ 0 → l ≡ []
-    empty [] e = refl
-    empty (x ∷ l) e = absurd (omega arith)
-
--- a list is empty, or has a last element
-pub data Ending {A : Type 0} : List A → Type 0 where
-  no_end : Ending []
-  ends : (front : List A) (last : A) → Ending (front ++ last ∷ [])
-
-pub ending : {A : Type 0} (l : List A) → Ending l
-ending [] = no_end
-ending (x ∷ l) = more x l (ending l)
-  where
-    more : {A : Type 0} (x : A) (l : List A) → Ending l → Ending (x ∷ l)
-    more x [] no_end = ends [] x
-    more x _ (ends front last) = ends (x ∷ front) last
-
--- WHAT THE SEAT KNOWS AFTER ITS ACTIONS
-
-module _ (g : Geometry) (log : List Action) (p : PassView) (fits : PassFits g log (run_from_opening g log) p) (acts : List Action) (by' : ActsBy p.seat acts) where
-  abbrev before : Running
-  before = run_from_opening g log
-
-  abbrev after : Running
-  after = run before acts
-
-  abbrev new_registers : List ℕ
-  new_registers = map (register_word after.core p.seat) (range_with_len 0 g.registers)
-
-  -- with what it has seen
-  abbrev knowing : History → PassView
-  knowing seen = record {
-    seat = p.seat;
-    registers = new_registers;
-    flight = flight_of after.core.flights p.seat;
-    begun = slice_index after.core.begun p.seat;
-    log = log ++ acts;
-    seen = seen;
-    mine = of_seat after.history p.seat;
-  }
-
-  fits_so : (seen : History) → Begins after.history seen → of_seat seen p.seat ≡ of_seat after.history p.seat → PassFits g (log ++ acts) after (knowing seen)
-  fits_so seen saw own = record {
-    seat = fits.seat;
-    stands = record { begins = ([], sym (append-nil (log ++ acts))); acts = refl; saw = saw; seen_mine = own; all_mine = refl };
-    flight = refl;
-    begun = refl;
-    registers = λ reg there. sym (get_or-map-range_with_len (register_word after.core p.seat) 0 g.registers reg reg 0 there (omega arith));
-    count = length-map-range_with_len (register_word after.core p.seat) 0 g.registers;
-  }
-
-  alone : IsAlone g p.seat before after
-  alone = acts_alone g p.seat fits.seat acts log by'
-
-  mine_longer : of_seat after.history p.seat ≡ p.mine ++ alone.longer.0
-  unfolding of_seat
-  mine_longer =
-      ap (λ (h : History). of_seat h p.seat) alone.longer.1 ∙ filter-append (λ e. nat_eq e.seat p.seat) before.history alone.longer.0
-      ∙ (λ i. fits.stands.all_mine i ++ alone.longer.2 i)
-
-  -- what it knows, and what it adds
-  pub record Knowing : Type 0 where
-    pub seen : History
-    pub so : PassFits g (log ++ acts) after (knowing seen)
-    pub more : History
-    pub trail : Trail p (knowing seen) more
-
-  knows_so : (more : History) → after.history ≡ before.history ++ more → of_seat after.history p.seat ≡ p.mine ++ more → Ending more → Knowing
-  knows_so _ longer mine no_end =
-      let same : of_seat after.history p.seat ≡ p.mine = mine ∙ append-nil p.mine in
-      let saw = fits.stands.saw in
-      record {
-        seen = p.seen;
-        so = fits_so p.seen (saw.0, longer ∙ append-nil before.history ∙ saw.1) (fits.stands.seen_mine ∙ sym same);
-        more = [];
-        trail = quiet same refl;
-      }
-  knows_so _ longer mine (ends front last) =
-      let saw = fits.stands.saw in
-      record {
-        seen = after.history;
-        so = fits_so after.history ([], sym (append-nil after.history)) refl;
-        more = front ++ last ∷ [];
-        trail = acted front last (before.history ++ front) mine (longer ∙ sym (append_assoc before.history front (last ∷ [])))
-            (saw.0 ++ front, ap (λ (h : History). h ++ front) saw.1 ∙ append_assoc p.seen saw.0 front);
-      }
-
-  pub knows_more : Knowing
-  knows_more = knows_so alone.longer.0 alone.longer.1 mine_longer (ending alone.longer.0)
-
--- THE ACTIONS OF A STEP
+use Rattle.hk_table.proofs.Deeds.{SeatAt, IsRun, run_acts, can, seated, step_at, rests_at, last_step, rests_fit, settled_used, idle_settled}
+use Rattle.hk_table.proofs.Beginning.{begins, begin_at, refusal_same, first_same}
+use Rattle.hk_table.proofs.Knowing.{nothing_more, Knowing, knowing, knows_more}
 
 pub is_run : (g : Geometry) (log : List Action) (s : ℕ) → s < tasks g → IsRun g s (run_from_opening g log)
 is_run g log s below = record { lawful = lawful_from_opening g log; geometry = geometry_from_opening g log; below = below }
@@ -247,7 +153,7 @@ module _ (g : Geometry) (d : Deed) (log : List Action) (p : PassView) (fits : Pa
         (subst (λ (f : Flight). FindsNumber f f.call (found_by opened.core p.seat)) is_open.at.flight can_do.finds)
 
     -- after the event and the rests
-    deeds_at : SeatAt (run here (deeds g d found)) p.seat (fired here.core.row e) (settled most_rests g (taken g d found)) (p.begun + (if d.begins then 1 else 0))
+    pub deeds_at : SeatAt (run here (deeds g d found)) p.seat (fired here.core.row e) (settled most_rests g (taken g d found)) (p.begun + (if d.begins then 1 else 0))
     unfolding run fired_if
     deeds_at =
         let o = is_open in
@@ -318,13 +224,13 @@ module _ (g : Geometry) (d : Deed) (log : List Action) (p : PassView) (fits : Pa
     abbrev by' : ActsBy p.seat (deeds g d found)
     by' = deeds_by g d found p.seat is_open.own
 
-    known : Knowing g log p fits (deeds g d found) by'
+    pub known : Knowing g log p fits (deeds g d found) by'
     known = knows_more g log p fits (deeds g d found) by'
 
-    abbrev q : PassView
+    abbrev pub q : PassView
     q = knowing g log p fits (deeds g d found) by' known.seen
 
-    goes : Goes g d p found q
+    pub goes : Goes g d p found q
     unfolding register_word
     goes =
         let longer = fits.stands.begins in
@@ -354,61 +260,3 @@ module _ (g : Geometry) (d : Deed) (log : List Action) (p : PassView) (fits : Pa
           more = known.more;
           trail = known.trail;
         }
-
--- THE STEP
-
-pub pass_step : (g : Geometry) (d : Deed) (slots id : ℕ) (me : Me (Unit {0}) View) (p : PassView) (e : Event) (f : ℕ → ℕ) → me.0.knows ≡ pass g p → MayDo g d p
-    → event_of g d.flight ≡ Some e → ((n : ℕ) → AmountFits e n → n < 18446744073709551616 → f n ≡ word_after e n)
-    → Allows (InOneRun g) slots id me (word_of e) f (Stepped d me)
-unfolding fired old_of
-pass_step g d slots id me p e f is may asks same s h homes at small =
-    let here = run_from_opening g h.log in
-    let fits : PassFits g h.log here p = (subst (λ (k : Knows). KnowsFits g h.log here k) is (h.views id me.0 at)).1 in
-    let n = slice_index s.words (word_of e) in
-    let found' = old_of here.core.row e in
-    let same_word : n ≡ found' = ap (λ (row : List ℕ). slice_index row (word_of e)) h.words in
-    let after = q g d h.log p fits may e asks in
-    let w : View = record { knows = pass g after } in
-    let own = (is_open g d h.log p fits may).own in
-    let there = (deeds_at g d h.log p fits may e asks) in
-    let amount = (can_fire g d h.log p fits may e asks).amount in
-    let row_same : (run here (deeds g d found')).core.row ≡ slice_set s.words (word_of e) (f n) =
-    there.row ∙ (λ i. slice_set (sym h.words i) (word_of e) (word_after e found'))
-    ∙ ap (slice_set s.words (word_of e)) (ap (word_after e) (sym same_word) ∙ sym (same n (subst (AmountFits e) (sym same_word) amount) small)) in
-    let pass_is : IsPass me.0.knows p = subst (λ (k : Knows). IsPass k p) (sym is) refl in (
-      w,
-      keeps,
-      tt,
-      subst (λ (words : List ℕ). InOneRun g (record { words = words; homes = s.homes; views = slice_set s.views id w })) row_same
-          (seat_acts g s h id me.0 p after (deeds g d found') at pass_is fits.seat (deeds_by g d found' p.seat own) refl (known g d h.log p fits may e asks).so),
-      (refl, subst (λ (k : Knows). StepsFrom d k n (pass g after)) (sym is) (after, refl, subst (λ (m : ℕ). Goes g d p m after) (sym same_word) (goes g d h.log p fits may e asks))),
-    )
-
--- what was found tells no more than what was learnt
-goes_so : (g : Geometry) (d : Deed) (p q : PassView) (m n : ℕ) → learnt_by (event_of g d.flight) m ≡ learnt_by (event_of g d.flight) n → Goes g d p m q → Goes g d p n q
-goes_so g d p q m n same go = record {
-  stands = go.stands;
-  seat = go.seat;
-  between = go.between;
-  others = go.others;
-  log = go.log ∙ ap (λ (x : ℕ). (p.log ++ go.between) ++ (opens d ++ step d.flight.seat ∷ rests most_rests g (took_of g d.flight x))) same;
-  met = go.met;
-  last = λ few. subst (λ (x : ℕ). LastStep g p.seat (run (run_from_opening g (p.log ++ go.between)) (opens d)) d.flight q.flight (step d.flight.seat ∷ rests most_rests g (took_of g d.flight x)) (answered most_rests g (took_of g d.flight x) (step_of d.flight))) same
-      (go.last few);
-  accepted = go.accepted;
-  flight = go.flight ∙ ap (λ (x : ℕ). settled most_rests g (took_of g d.flight x)) same;
-  begun = go.begun;
-  registers = go.registers;
-  finds = subst (λ (x : ℕ). FindsNumber d.flight d.flight.call x) same go.finds;
-  fit = subst (λ (x : ℕ). RestsFit most_rests g (took_of g d.flight x)) same go.fit;
-  used = go.used;
-  more = go.more;
-  trail = go.trail;
-}
-
-pub same_found : (d : Deed) (k : Knows) (g : Geometry) (p : PassView) → k ≡ pass g p → (e : Event) → event_of g d.flight ≡ Some e → (k' : Knows) (m n : ℕ)
-    → learnt_from e m ≡ learnt_from e n → StepsFrom d k m k' → StepsFrom d k n k'
-same_found d k g p is e asks k' m n same t =
-    let t' : StepsFrom d (pass g p) m k' = subst (λ (x : Knows). StepsFrom d x m k') is t in
-    let by : (x : ℕ) → learnt_by (event_of g d.flight) x ≡ learnt_from e x = λ x. ap (λ (o : Option Event). learnt_by o x) asks in
-    subst (λ (x : Knows). StepsFrom d x n k') (sym is) (t'.0, t'.1, goes_so g d p t'.0 m n (by m ∙ same ∙ sym (by n)) t'.2)

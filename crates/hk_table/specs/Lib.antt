@@ -8,3 +8,4 @@ pub mod Passes
 pub mod Errors
 pub mod Taken
 pub mod Ends
+pub mod Laws

@@ -8,6 +8,7 @@ mod finish;
 mod fire;
 mod heap;
 mod keeper;
+mod laws;
 mod mirror;
 mod note;
 mod open;
@@ -18,6 +19,8 @@ mod question;
 mod rest;
 mod rule;
 mod steps;
+#[cfg(test)]
+mod tests;
 mod view;
 
 pub use closed::Closed;
@@ -25,6 +28,7 @@ pub use error::HeapError;
 pub use finish::close;
 pub use heap::{Heap, Seat};
 pub use keeper::Keeper;
+pub use laws::one_lawful_run;
 pub use note::Note;
 pub use pass::Pass;
 pub use steps::Steps;

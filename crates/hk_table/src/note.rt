@@ -19,6 +19,7 @@ impl Heap {
     pub fn note(&self, pass: &mut Pass) -> Note
         requires pass { IsPassOf self.now pass.old }
         ensures pass { IsPassOf self.now pass.new }
+        ensures number { pass.new.number ≡ pass.old.number }
         ensures same { known pass.new ≡ known pass.old }
         ensures note { IsNoteOf self.now result × (noted_in result ≡ (known pass.old).seen) }
     {
@@ -33,6 +34,7 @@ impl Heap {
         requires pass { IsPassOf self.now pass.old }
         requires note { IsNoteOf self.now note }
         ensures pass { IsPassOf self.now pass.new }
+        ensures number { pass.new.number ≡ pass.old.number }
         ensures learnt { Looks self.now.geometry (known pass.old) (noted_in note) (known pass.new) }
     {
         self.table

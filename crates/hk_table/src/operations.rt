@@ -41,6 +41,7 @@ impl Heap {
         requires question { is_question call ≡ false }
         requires registers { RegistersFit self.now.geometry.registers call }
         ensures pass { IsPassOf self.now pass.new }
+        ensures number { pass.new.number ≡ pass.old.number }
         ensures called { IfOk result (λ outcome. Called self.now.geometry (known pass.old) call outcome (known pass.new)) }
         ensures refused { IfErr result (λ error. Refuses self.now.geometry (known pass.old) call error × (pass.new ≡ pass.old) × (steps.new ≡ steps.old)) }
         ensures steps { steps.new ≤ steps.old + places_of call }
@@ -65,6 +66,7 @@ impl Heap {
         requires pass { IsPassOf self.now pass.old }
         requires register { reg < self.now.geometry.registers }
         ensures pass { IsPassOf self.now pass.new }
+        ensures number { pass.new.number ≡ pass.old.number }
         ensures value { IfOk result (λ value. Called self.now.geometry (known pass.old) (Get reg field) (Done (Num value)) (known pass.new)) }
         ensures refused { IfErr result (λ error. Refuses self.now.geometry (known pass.old) (Get reg field) error × (pass.new ≡ pass.old) × (steps.new ≡ steps.old)) }
         ensures steps { steps.new ≤ steps.old + 3 }
@@ -84,6 +86,7 @@ impl Heap {
         requires pass { IsPassOf self.now pass.old }
         requires register { reg < self.now.geometry.registers }
         ensures pass { IsPassOf self.now pass.new }
+        ensures number { pass.new.number ≡ pass.old.number }
         ensures done { IfOk result (λ _. Called self.now.geometry (known pass.old) (Put reg field value) (Done NoValue) (known pass.new)) }
         ensures refused { IfErr result (λ error. Refuses self.now.geometry (known pass.old) (Put reg field value) error × (pass.new ≡ pass.old) × (steps.new ≡ steps.old)) }
         ensures steps { steps.new ≤ steps.old + 3 }
@@ -104,6 +107,7 @@ impl Heap {
         requires pass { IsPassOf self.now pass.old }
         requires registers { RegistersFit self.now.geometry.registers (Load dest reg field) }
         ensures pass { IsPassOf self.now pass.new }
+        ensures number { pass.new.number ≡ pass.old.number }
         ensures done { IfOk result (λ _. Called self.now.geometry (known pass.old) (Load dest reg field) (Done NoValue) (known pass.new)) }
         ensures refused { IfErr result (λ error. Refuses self.now.geometry (known pass.old) (Load dest reg field) error × (pass.new ≡ pass.old) × (steps.new ≡ steps.old)) }
         ensures steps { steps.new ≤ steps.old + 10 }
@@ -124,6 +128,7 @@ impl Heap {
         requires pass { IsPassOf self.now pass.old }
         requires registers { RegistersFit self.now.geometry.registers (Store reg field from) }
         ensures pass { IsPassOf self.now pass.new }
+        ensures number { pass.new.number ≡ pass.old.number }
         ensures done { IfOk result (λ _. Called self.now.geometry (known pass.old) (Store reg field from) (Done NoValue) (known pass.new)) }
         ensures refused { IfErr result (λ error. Refuses self.now.geometry (known pass.old) (Store reg field from) error × (pass.new ≡ pass.old) × (steps.new ≡ steps.old)) }
         ensures steps { steps.new ≤ steps.old + 7 }
@@ -143,6 +148,7 @@ impl Heap {
         requires pass { IsPassOf self.now pass.old }
         requires registers { RegistersFit self.now.geometry.registers (Move dest from) }
         ensures pass { IsPassOf self.now pass.new }
+        ensures number { pass.new.number ≡ pass.old.number }
         ensures done { IfOk result (λ _. Called self.now.geometry (known pass.old) (Move dest from) (Done NoValue) (known pass.new)) }
         ensures refused { IfErr result (λ error. Refuses self.now.geometry (known pass.old) (Move dest from) error × (pass.new ≡ pass.old) × (steps.new ≡ steps.old)) }
         ensures steps { steps.new ≤ steps.old + 3 }
@@ -161,6 +167,7 @@ impl Heap {
         requires pass { IsPassOf self.now pass.old }
         requires registers { RegistersFit self.now.geometry.registers (Clear dest) }
         ensures pass { IsPassOf self.now pass.new }
+        ensures number { pass.new.number ≡ pass.old.number }
         ensures done { IfOk result (λ _. Called self.now.geometry (known pass.old) (Clear dest) (Done NoValue) (known pass.new)) }
         ensures refused { IfErr result (λ error. Refuses self.now.geometry (known pass.old) (Clear dest) error × (pass.new ≡ pass.old) × (steps.new ≡ steps.old)) }
         ensures steps { steps.new ≤ steps.old + 1 }
@@ -180,6 +187,7 @@ impl Heap {
         requires pass { IsPassOf self.now pass.old }
         requires registers { RegistersFit self.now.geometry.registers (New dest shape) }
         ensures pass { IsPassOf self.now pass.new }
+        ensures number { pass.new.number ≡ pass.old.number }
         ensures done { IfOk result (λ _. Called self.now.geometry (known pass.old) (New dest shape) (Done NoValue) (known pass.new)) }
         ensures failed { IfErr result (λ error. RefusedOrFull error
             (Refuses self.now.geometry (known pass.old) (New dest shape) error × (pass.new ≡ pass.old) × (steps.new ≡ steps.old))

@@ -1,0 +1,134 @@
+-- What a seat knows after actions of its own: what the run of the longer log says of it, and all that was seen where it added
+-- an entry.
+use Rattle.std.proofs.Common.{◌≡◌, ◌≢◌, ◌⊎◌, ℕ, zero, suc, ◌+◌, ◌<◌, ◌≤◌, ◌^◌, Bool, true, false, List, [], ◌∷◌, ◌++◌, map, length, refl, sym, ◌∙◌, ap, subst, arith, inl, inr, ⊎_elim, append-nil, append_assoc, get_or-set_same, get_or-set_other, eq-eqb, ne_eqb, Option, Some, None}
+use Rattle.std.proofs.lemmas.Bool.{cases_Bool, cases_eq, eqb-true}
+use Rattle.std.proofs.lemmas.Bool.Decides.{nat_tests}
+use Rattle.std.proofs.lemmas.List.{length-append}
+use Rattle.std.proofs.lemmas.List.Elements.{filter-append}
+use Rattle.std.proofs.lemmas.List.FromFn.{get_or-map-range_with_len, length-map-range_with_len}
+use Rattle.std.proofs.lemmas.List.Sums.{fold-append}
+use Rattle.std.specs.Prelude.{nat_eq, ⊤, ◌==◌, slice_index, slice_set, if◌then◌else◌, filter}
+use Rattle.std.specs.List.{range_with_len}
+use mathlib.Core.Option.{some}
+use lib.ListN.{get_elem?}
+use Rattle.atomic_table.specs.Table.{State as TableState, Me, Act, keeps, Allows, stepped}
+use Rattle.hk_words.specs.declared.geometry.Geometry.{Geometry}
+use Rattle.hk_words.specs.declared.call.Call.{Call}
+use Rattle.hk_words.specs.declared.call.Call.TheVariants as call
+use Rattle.hk_words.specs.Geometry.{tasks}
+use Rattle.hk_words.specs.Row.{register_at}
+use Rattle.hk_model.specs.History.{Entry, History, of_seat}
+use Rattle.hk_core.specs.declared.event.Event.{Event}
+use Rattle.hk_core.specs.declared.flight.Flight.{Flight}
+use Rattle.hk_core.specs.Event.{fired, fired_if, learnt, learnt_from, old_of, word_of, word_after, AmountFits, CanFire, CanFireIf}
+use Rattle.hk_core.specs.State.{State, flight_of}
+use Rattle.hk_core.specs.Step.{step_of, event_of, took_of, event_by, found_by}
+use Rattle.hk_words.specs.Bounds.{places_of}
+use Rattle.hk_core.specs.Begin.{register_word, refusal, first_flight}
+use Rattle.hk_core.specs.View.{flight_at}
+use Rattle.hk_core.specs.Fits.{CanStep, FindsNumber}
+use Rattle.hk_core.specs.Run.{Action, Running, begin, step, act, run, run_from_opening}
+use Rattle.hk_core.proofs.Entries.{took_seat}
+use Rattle.hk_collect.proofs.Running.{lawful_from_opening, geometry_from_opening}
+use Rattle.hk_table.specs.Actions.{Begins, is_by, acts_of}
+use Rattle.hk_table.specs.Knows.{PassView, Knows, pass, told, note, keeper, spent}
+use Rattle.hk_table.specs.Rule.{StandsIn, PassFits, Fits as KnowsFits, InOneRun}
+use Rattle.hk_table.specs.Deeds.{Accepts, RestsFit, answered, LastStep, quiet, acted, is_rest, Deed, learnt_by, taken, opens, deeds, rests, settled, most_rests, register_after, refused_by, refused_with, first_by, first_with, MayBegin, InFlight, MayDo, Trail, Stands, Goes, StepsFrom, Stepped}
+use Rattle.hk_table.specs.declared.view.View.{View}
+use Rattle.hk_table.proofs.Alone.{IsAlone}
+use Rattle.hk_table.proofs.Keeps.{ActBy, ActsBy, run_more, acts_alone, begins_more, IsPass, seat_acts}
+
+-- LISTS
+
+pub nothing_more : {A : Type 0} (xs ys : List A) → xs ≡ xs ++ ys → ys ≡ []
+nothing_more {A} xs ys e = empty ys (let l : length xs ≡ length xs + length ys = ap length e ∙ length-append xs ys in omega arith)
+  where
+    empty : (l : List A) → length l ≡ 0 → l ≡ []
+    empty [] e = refl
+    empty (x ∷ l) e = absurd (omega arith)
+
+-- a list is empty, or has a last element
+pub data Ending {A : Type 0} : List A → Type 0 where
+  no_end : Ending []
+  ends : (front : List A) (last : A) → Ending (front ++ last ∷ [])
+
+pub ending : {A : Type 0} (l : List A) → Ending l
+ending [] = no_end
+ending (x ∷ l) = more x l (ending l)
+  where
+    more : {A : Type 0} (x : A) (l : List A) → Ending l → Ending (x ∷ l)
+    more x [] no_end = ends [] x
+    more x _ (ends front last) = ends (x ∷ front) last
+
+-- WHAT THE SEAT KNOWS AFTER ITS ACTIONS
+
+module _ (g : Geometry) (log : List Action) (p : PassView) (fits : PassFits g log (run_from_opening g log) p) (acts : List Action) (by' : ActsBy p.seat acts) where
+  abbrev before : Running
+  before = run_from_opening g log
+
+  abbrev after : Running
+  after = run before acts
+
+  abbrev new_registers : List ℕ
+  new_registers = map (register_word after.core p.seat) (range_with_len 0 g.registers)
+
+  -- with what it has seen
+  abbrev pub knowing : History → PassView
+  knowing seen = record {
+    seat = p.seat;
+    registers = new_registers;
+    flight = flight_of after.core.flights p.seat;
+    begun = slice_index after.core.begun p.seat;
+    log = log ++ acts;
+    seen = seen;
+    mine = of_seat after.history p.seat;
+  }
+
+  fits_so : (seen : History) → Begins after.history seen → of_seat seen p.seat ≡ of_seat after.history p.seat → PassFits g (log ++ acts) after (knowing seen)
+  fits_so seen saw own = record {
+    seat = fits.seat;
+    stands = record { begins = ([], sym (append-nil (log ++ acts))); acts = refl; saw = saw; seen_mine = own; all_mine = refl };
+    flight = refl;
+    begun = refl;
+    registers = λ reg there. sym (get_or-map-range_with_len (register_word after.core p.seat) 0 g.registers reg reg 0 there (omega arith));
+    count = length-map-range_with_len (register_word after.core p.seat) 0 g.registers;
+  }
+
+  alone : IsAlone g p.seat before after
+  alone = acts_alone g p.seat fits.seat acts log by'
+
+  mine_longer : of_seat after.history p.seat ≡ p.mine ++ alone.longer.0
+  unfolding of_seat
+  mine_longer =
+      ap (λ (h : History). of_seat h p.seat) alone.longer.1 ∙ filter-append (λ e. nat_eq e.seat p.seat) before.history alone.longer.0
+      ∙ (λ i. fits.stands.all_mine i ++ alone.longer.2 i)
+
+  -- what it knows, and what it adds
+  pub record Knowing : Type 0 where
+    pub seen : History
+    pub so : PassFits g (log ++ acts) after (knowing seen)
+    pub more : History
+    pub trail : Trail p (knowing seen) more
+
+  knows_so : (more : History) → after.history ≡ before.history ++ more → of_seat after.history p.seat ≡ p.mine ++ more → Ending more → Knowing
+  knows_so _ longer mine no_end =
+      let same : of_seat after.history p.seat ≡ p.mine = mine ∙ append-nil p.mine in
+      let saw = fits.stands.saw in
+      record {
+        seen = p.seen;
+        so = fits_so p.seen (saw.0, longer ∙ append-nil before.history ∙ saw.1) (fits.stands.seen_mine ∙ sym same);
+        more = [];
+        trail = quiet same refl;
+      }
+  knows_so _ longer mine (ends front last) =
+      let saw = fits.stands.saw in
+      record {
+        seen = after.history;
+        so = fits_so after.history ([], sym (append-nil after.history)) refl;
+        more = front ++ last ∷ [];
+        trail = acted front last (before.history ++ front) mine (longer ∙ sym (append_assoc before.history front (last ∷ [])))
+            (saw.0 ++ front, ap (λ (h : History). h ++ front) saw.1 ∙ append_assoc p.seen saw.0 front);
+      }
+
+  pub knows_more : Knowing
+  knows_more = knows_so alone.longer.0 alone.longer.1 mine_longer (ending alone.longer.0)

@@ -28,7 +28,10 @@ fn fill<L: Ledger>(
     assert!(rt; heap.make(pass, 1, shape, steps).is_ok());
     assert!(rt; heap.make(pass, 1, shape, steps).is_ok());
     assert!(rt; heap.make(pass, 1, shape, steps).is_ok());
-    assert_eq!(rt; heap.make(pass, 1, shape, steps), Err(HeapError::Full { words }));
+    assert_eq!(rt;
+        heap.make(pass, 1, shape, steps),
+        Err(HeapError::Full { words })
+    );
 }
 
 fn low_first<L: Ledger>(rt: &(impl Abort + AllocGlobal), blank: Blank) -> Result<(), Fail>

@@ -6,6 +6,7 @@ ghost use Rattle.hk_table.specs.Passes.{IsPassOf, IsKeeperOf};
 mod full;
 mod meeting;
 mod refusals;
+mod threads;
 
 use crate::{Heap, Keeper, Pass};
 use hk_words::{Geometry, Memory};

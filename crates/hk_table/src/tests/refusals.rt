@@ -22,9 +22,18 @@ fn refused<L: Ledger>(rt: &(impl Abort + AllocGlobal), blank: Blank) -> Result<(
     assert!(rt; !low.high() && low.seat() == 1);
     assert_eq!(rt; heap.get(&mut low, 1, 0, &mut steps), Err(HeapError::Nil));
     assert_eq!(rt; heap.get(&mut low, 0, 0, &mut steps), Err(HeapError::Field));
-    assert_eq!(rt; heap.put(&mut low, 1, 0, 1, &mut steps), Err(HeapError::Nil));
-    assert_eq!(rt; heap.load(&mut low, 1, 0, 1, &mut steps), Err(HeapError::Field));
-    assert_eq!(rt; heap.store(&mut low, 0, 1, 0, &mut steps), Err(HeapError::Field));
+    assert_eq!(rt;
+        heap.put(&mut low, 1, 0, 1, &mut steps),
+        Err(HeapError::Nil)
+    );
+    assert_eq!(rt;
+        heap.load(&mut low, 1, 0, 1, &mut steps),
+        Err(HeapError::Field)
+    );
+    assert_eq!(rt;
+        heap.store(&mut low, 0, 1, 0, &mut steps),
+        Err(HeapError::Field)
+    );
     Ok(())
 }
 

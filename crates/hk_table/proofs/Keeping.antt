@@ -23,7 +23,8 @@ use Rattle.hk_collect.specs.Laws.{LawfulSpotFits, LawfulCanCollect}
 use Rattle.hk_table.specs.Actions.{Begins, is_by, is_collect, acts_of, collects}
 use Rattle.hk_table.specs.Knows.{PassView, Closing, KeeperView, Knows, pass, told, note, ended, keeper, spent}
 use Rattle.hk_table.specs.Rule.{fresh, StandsIn, PassFits, KeeperFits, Fits, NoKeeper, Apart, HasNot, InOneRun}
-use Rattle.hk_table.specs.Seats.{learnt_of, Collects, CollectsFrom}
+use Rattle.hk_table.specs.Deeds.{learnt_by}
+use Rattle.hk_table.specs.Seats.{Collects, CollectsFrom}
 use Rattle.hk_table.specs.declared.view.View.{View}
 use Rattle.hk_table.proofs.Collecting.{spot_leaves}
 use Rattle.hk_table.proofs.Keeps.{run_more, begins_more, below_more}
@@ -133,10 +134,10 @@ keeper_step fits-law can-law g slots id me k e f is asks same s h homes at small
     let same-g = geometry_from_opening g h.log in
     let asked : spot_event here.core.geometry here.core.spot ≡ Some e = (λ i. spot_event (same-g i) (fits.spot i)) ∙ asks in
     let can : CanFire here.core.row e = subst (λ (o : Option Event). CanFireIf here.core.row o) asked (can-law here.core here.history (lawful_from_opening g h.log)) in
-    let learnt-so : found_by_collector here.core ≡ learnt_of (spot_event g k.spot) n =
-    ap (learnt here.core.row) asked ∙ ap (learnt_from e) (sym same-word) ∙ ap (λ (o : Option Event). learnt_of o n) (sym asks) in
+    let learnt-so : found_by_collector here.core ≡ learnt_by (spot_event g k.spot) n =
+    ap (learnt here.core.row) asked ∙ ap (learnt_from e) (sym same-word) ∙ ap (λ (o : Option Event). learnt_by o n) (sym asks) in
     let k' : KeeperView = record {
-      spot = spot_took g k.spot (learnt_of (spot_event g k.spot) n);
+      spot = spot_took g k.spot (learnt_by (spot_event g k.spot) n);
       log = h.log ++ collect ∷ [];
       made = k.made;
       longest = k.longest;
@@ -180,7 +181,7 @@ keeper_step fits-law can-law g slots id me k e f is asks same s h homes at small
             log = ap (λ (l : List Action). l ++ collect ∷ []) fits.begins.1;
             stands = sym spot;
             met = subst (λ (l : List Action). (run_from_opening g l).core.spot ≡ k.spot) fits.begins.1 fits.spot;
-            finds = subst (λ (l : List Action). found_by_collector (run_from_opening g l).core ≡ learnt_of (spot_event g k.spot) n) fits.begins.1 learnt-so;
+            finds = subst (λ (l : List Action). found_by_collector (run_from_opening g l).core ≡ learnt_by (spot_event g k.spot) n) fits.begins.1 learnt-so;
             made = refl;
             longest = refl;
             closed = refl;

@@ -11,7 +11,7 @@ use hk_words::Geometry;
 pub struct Closed {
     pub(crate) reserved: u64,
     pub geometry: Geometry,
-    pub seat: Seat,
+    pub(crate) seat: Seat,
     ghost reserves: { reserved ≡ slice_index (run_from_opening geometry (the_log seat.me.0.knows)).core.row 1 },
 }
 

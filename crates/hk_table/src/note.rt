@@ -11,7 +11,7 @@ use crate::rule::Look;
 /// A copy of the history that a pass had seen.
 #[derive(Drop)]
 pub struct Note {
-    pub seat: Seat,
+    pub(crate) seat: Seat,
 }
 
 impl Heap {

@@ -12,12 +12,12 @@ use hk_words::Call;
 /// its seat, for contracts alone.
 #[derive(Drop)]
 pub struct Pass {
-    pub seat: Seat,
-    pub number: u8,
-    pub high: bool,
+    pub(crate) seat: Seat,
+    pub(crate) number: u8,
+    pub(crate) high: bool,
     /// The references in the task's registers. Only this pass changes those of the table.
-    pub registers: Vec<u64>,
-    pub begun: u32,
+    pub(crate) registers: Vec<u64>,
+    pub(crate) begun: u32,
 }
 
 impl Pass {

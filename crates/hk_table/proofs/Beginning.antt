@@ -1,37 +1,24 @@
 -- What an accepted begin makes of a run; a pass that holds the registers and the count of its seat begins as the seat does.
-use Rattle.std.proofs.Common.{◌≡◌, ◌≢◌, ◌⊎◌, ℕ, zero, suc, ◌+◌, ◌<◌, ◌≤◌, ◌^◌, Bool, true, false, List, [], ◌∷◌, ◌++◌, length, refl, sym, ◌∙◌, ap, subst, arith, inl, inr, ⊎_elim, append-nil, append_assoc, get_or-set_same, get_or-set_other, eq-eqb, ne_eqb, lt-ltb, Option, Some, None}
-use Rattle.std.proofs.lemmas.Bool.{cases_Bool, cases_eq, and_parts, and_from, ltb-true, eqb-true}
+use Rattle.std.proofs.Common.{◌≡◌, ℕ, ◌+◌, ◌<◌, Bool, true, false, List, length, refl, sym, ◌∙◌, ap, subst, arith, get_or-set_same, lt-ltb, Option, Some, None}
+use Rattle.std.proofs.lemmas.Bool.{and_from}
 use Rattle.std.proofs.lemmas.Bool.Decides.{nat_tests}
-use Rattle.std.specs.Prelude.{nat_eq, nat_lt, nat_le, not, is_none, is_some, ◌&&◌, slice_index, slice_set, option_map, unwrap_or, if◌then◌else◌}
+use Rattle.std.specs.Prelude.{nat_eq, nat_lt, not, slice_index, slice_set}
 use Rattle.hk_words.specs.declared.geometry.Geometry.{Geometry}
 use Rattle.hk_words.specs.declared.call.Call.{Call}
 use Rattle.hk_words.specs.declared.call.Call.TheVariants as call
 use Rattle.hk_words.specs.Geometry.{tasks}
-use Rattle.hk_words.specs.Calls.{RegistersFit, entered}
-use Rattle.hk_words.specs.Row.{register_at}
-use Rattle.hk_model.specs.History.{History, is_question}
-use Rattle.hk_core.specs.declared.event.Event.{Event}
-use Rattle.hk_core.specs.declared.flight.Flight.{Flight}
+use Rattle.hk_words.specs.Calls.{RegistersFit}
+use Rattle.hk_model.specs.History.{is_question}
 use Rattle.hk_core.specs.declared.outcome.Fault.{Fault}
-use Rattle.hk_core.specs.Event.{fired, fired_if, learnt, learnt_from, old_of, word_of, word_after, CanFire, CanFireIf}
-use Rattle.hk_core.specs.State.{State, IsSized, idle, flight_of}
-use Rattle.hk_core.specs.declared.outcome.Step.{Step}
-use Rattle.hk_core.specs.Step.{step_of, next, history_after, event_by, found_by, event_of, took_of}
-use Rattle.hk_words.specs.Bounds.{places_of}
-use Rattle.hk_core.specs.Begin.{register_word, entered_word, copied_word, copied, refusal, accepted, after_begin, begun_or, first_flight}
-use Rattle.hk_core.specs.Fits.{CanStep, Fits, FindsNumber}
-use Rattle.hk_core.specs.Lawful.{Lawful}
-use Rattle.hk_core.specs.Run.{Action, Running, begin, step, act, run, run_from_opening, may_begin, is_idle, is_busy, registers_fit}
-use Rattle.hk_core.specs.View.{flight_at}
-use Rattle.hk_core.proofs.Actions.{IsLawfulRun}
-use Rattle.hk_core.proofs.Can.{can_step}
-use Rattle.hk_core.proofs.Places.{flight_stepped, begins_first, takes_next, takes_last}
+use Rattle.hk_core.specs.State.{State, idle, flight_of}
+use Rattle.hk_core.specs.Begin.{register_word, entered_word, copied_word, refusal, accepted, after_begin, begun_or, first_flight}
+use Rattle.hk_core.specs.Run.{Running, begin, act, may_begin, is_idle}
+use Rattle.hk_core.proofs.Places.{begins_first}
 use Rattle.hk_core.proofs.Registers.{registers_tested}
 use Rattle.hk_core.proofs.Turns.{has_flight}
-use Rattle.hk_collect.proofs.Running.{lawful_act, act_geometry}
-use Rattle.hk_table.specs.Deeds.{RestsFit, answered, LastStep, is_rest, settled, rests, entered_by, copied_by, refused_by, refused_with, first_by, first_with}
+use Rattle.hk_table.specs.Deeds.{entered_by, copied_by, refused_by, refused_with, first_by, first_with}
 use Rattle.hk_table.specs.Knows.{PassView}
-use Rattle.hk_table.proofs.Deeds.{SeatAt, IsRun, run_acts, if_true, below_here}
+use Rattle.hk_table.proofs.Deeds.{SeatAt, IsRun, if_true, below_here}
 
 module _ (g : Geometry) (s : ℕ) (r : Running) (h : IsRun g s r) (call' : Call) where
   begin_row : refusal r.core s call' ≡ None → (after_begin r.core s call').row ≡ r.core.row

@@ -1,17 +1,15 @@
 -- From steps to calls.
-use Rattle.std.proofs.Common.{◌≡◌, ◌≢◌, ◌⊎◌, ℕ, zero, suc, ◌+◌, ◌<◌, ◌≤◌, Bool, true, false, List, [], ◌∷◌, ◌++◌, length, replicate, refl, sym, ◌∙◌, ap, subst, arith, inl, inr, ⊎_elim, append-nil, append_assoc, eq-eqb, Option, Some, None}
-use Rattle.std.proofs.lemmas.Bool.{cases_Bool, cases_eq, eqb-true}
-use Rattle.std.proofs.lemmas.List.{length-append, replicate-append-replicate}
+use Rattle.std.proofs.Common.{◌≡◌, ◌⊎◌, ℕ, ◌+◌, ◌<◌, ◌≤◌, true, false, List, [], ◌∷◌, ◌++◌, replicate, refl, sym, ◌∙◌, ap, subst, arith, inl, inr, ⊎_elim, append-nil, append_assoc, eq-eqb, None}
+use Rattle.std.proofs.lemmas.List.{replicate-append-replicate}
 use Rattle.std.proofs.lemmas.List.Elements.{filter-append}
 use Rattle.std.proofs.lemmas.List.Sums.{fold-append}
 use Rattle.std.proofs.lemmas.Bool.Decides.{nat_tests}
-use Rattle.std.specs.Prelude.{nat_eq, filter, if◌then◌else◌}
+use Rattle.std.specs.Prelude.{nat_eq}
 use Rattle.hk_words.specs.declared.geometry.Geometry.{Geometry}
 use Rattle.hk_words.specs.declared.call.Call.{Call}
 use Rattle.hk_words.specs.declared.call.Call.TheVariants as call
-use Rattle.hk_words.specs.Geometry.{tasks}
 use Rattle.hk_model.specs.Heap.{opening_of}
-use Rattle.hk_model.specs.History.{Entry, History, Legal, of_seat}
+use Rattle.hk_model.specs.History.{History, Legal, of_seat}
 use Rattle.hk_model.proofs.Histories.{Legal_from-push}
 use Rattle.hk_model.proofs.Lasting.{legal_begins}
 use Rattle.hk_collect.proofs.Running.{legal_from_opening}
@@ -22,20 +20,18 @@ use Rattle.hk_core.specs.declared.outcome.Outcome.{Outcome}
 use Rattle.hk_core.specs.State.{flight_of}
 use Rattle.hk_core.specs.Step.{outcome_at, step_of, answer_by, history_after, next}
 use Rattle.hk_words.specs.Bounds.{places_of}
-use Rattle.hk_core.specs.Begin.{refusal, after_begin}
-use Rattle.hk_core.specs.Replied.{outcome_of}
-use Rattle.hk_core.specs.Turns.{steps_of, step_count}
-use Rattle.hk_core.specs.Run.{Action, Running, begin, step, collect, act, run, run_from_opening}
+use Rattle.hk_core.specs.Begin.{after_begin}
+use Rattle.hk_core.specs.Turns.{steps_of}
+use Rattle.hk_core.specs.Run.{Action, Running, begin, step, act, run, run_from_opening}
 use Rattle.hk_core.proofs.Entries.{answers_entry}
-use Rattle.hk_table.specs.Actions.{Begins, is_by, acts_of}
+use Rattle.hk_table.specs.Actions.{is_by, acts_of}
 use Rattle.hk_table.specs.Knows.{PassView}
-use Rattle.hk_table.specs.Rule.{PassFits}
-use Rattle.hk_table.specs.Deeds.{Deed, Trail, quiet, acted, Stands, Goes, LastStep, answered, most_rests, taken, rests, opens, refused_by}
+use Rattle.hk_table.specs.Deeds.{Deed, Trail, Stands, Goes, answered, most_rests, taken, refused_by}
 use Rattle.hk_table.specs.Calls.{Gains, UnderWay, Called}
 use Rattle.hk_table.proofs.Keeps.{run_more}
 use Rattle.hk_table.proofs.Stepping.{is_run}
 use Rattle.hk_table.proofs.Deeds.{IsRun, below_here, steps}
-use Rattle.hk_table.proofs.Trails.{trail_on, trail_mine, one_entry, own_entry, same_tail, steps_both, steps_many, acts_many, steps_counted, many_more}
+use Rattle.hk_table.proofs.Trails.{trail_on, trail_mine, one_entry, own_entry, same_tail, steps_both, steps_many, acts_many, steps_counted}
 
 -- A STEP OF A CALL
 

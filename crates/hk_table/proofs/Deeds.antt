@@ -1,37 +1,27 @@
 -- What the actions of one atomic step make of a run: the row is that after the event, and the seat's own things are those
 -- that the tables of a step say.
-use Rattle.std.proofs.Common.{◌≡◌, ◌≢◌, ◌⊎◌, ℕ, zero, suc, ◌+◌, ◌<◌, ◌≤◌, ◌^◌, Bool, true, false, List, [], ◌∷◌, ◌++◌, length, refl, sym, ◌∙◌, ap, subst, arith, inl, inr, ⊎_elim, append-nil, append_assoc, get_or-set_same, get_or-set_other, eq-eqb, ne_eqb, lt-ltb, Option, Some, None}
-use Rattle.std.proofs.lemmas.Bool.{cases_Bool, cases_eq, and_parts, and_from, ltb-true, eqb-true}
+use Rattle.std.proofs.Common.{◌≡◌, ◌⊎◌, ℕ, zero, suc, ◌+◌, ◌<◌, ◌≤◌, Bool, true, false, List, [], ◌∷◌, refl, sym, ◌∙◌, ap, subst, arith, inl, inr, ⊎_elim, lt-ltb, Option, Some, None}
+use Rattle.std.proofs.lemmas.Bool.{cases_Bool, cases_eq, and_parts, and_from}
 use Rattle.std.proofs.lemmas.Bool.Decides.{nat_tests}
-use Rattle.std.specs.Prelude.{nat_eq, nat_lt, nat_le, not, is_none, is_some, ◌&&◌, slice_index, slice_set, option_map, unwrap_or, if◌then◌else◌}
+use Rattle.std.specs.Prelude.{nat_eq, nat_lt, not, is_none, slice_index, if◌then◌else◌}
 use Rattle.hk_words.specs.declared.geometry.Geometry.{Geometry}
-use Rattle.hk_words.specs.declared.call.Call.{Call}
-use Rattle.hk_words.specs.declared.call.Call.TheVariants as call
 use Rattle.hk_words.specs.Geometry.{tasks}
-use Rattle.hk_words.specs.Calls.{RegistersFit, entered}
-use Rattle.hk_words.specs.Row.{register_at}
-use Rattle.hk_model.specs.History.{History, is_question}
 use Rattle.hk_core.specs.declared.event.Event.{Event}
 use Rattle.hk_core.specs.declared.flight.Flight.{Flight}
-use Rattle.hk_core.specs.declared.outcome.Fault.{Fault}
-use Rattle.hk_core.specs.Event.{fired, fired_if, learnt, learnt_from, old_of, word_of, word_after, CanFire, CanFireIf}
-use Rattle.hk_core.specs.State.{State, IsSized, idle, flight_of}
+use Rattle.hk_core.specs.Event.{fired_if, learnt}
+use Rattle.hk_core.specs.State.{idle, flight_of}
 use Rattle.hk_core.specs.declared.outcome.Step.{Step}
 use Rattle.hk_core.specs.Step.{step_of, next, history_after, event_by, found_by, event_of, took_of}
 use Rattle.hk_words.specs.Bounds.{places_of}
-use Rattle.hk_core.specs.Begin.{register_word, entered_word, copied_word, copied, refusal, accepted, after_begin, begun_or, first_flight}
-use Rattle.hk_core.specs.Fits.{CanStep, Fits, FindsNumber}
-use Rattle.hk_core.specs.Lawful.{Lawful}
-use Rattle.hk_core.specs.Run.{Action, Running, begin, step, act, run, run_from_opening, may_begin, is_idle, is_busy, registers_fit}
+use Rattle.hk_core.specs.Fits.{CanStep, Fits}
+use Rattle.hk_core.specs.Run.{Action, Running, step, act, run, is_busy}
 use Rattle.hk_core.specs.View.{flight_at}
 use Rattle.hk_core.proofs.Actions.{IsLawfulRun}
 use Rattle.hk_core.proofs.Can.{can_step}
-use Rattle.hk_core.proofs.Places.{flight_stepped, begins_first, takes_next, takes_last}
-use Rattle.hk_core.proofs.Registers.{registers_tested}
+use Rattle.hk_core.proofs.Places.{flight_stepped, takes_next, takes_last}
 use Rattle.hk_core.proofs.Turns.{has_flight}
 use Rattle.hk_collect.proofs.Running.{lawful_act, act_geometry}
-use Rattle.hk_table.specs.Deeds.{RestsFit, answered, LastStep, is_rest, settled, rests, entered_by, copied_by, refused_by, refused_with, first_by, first_with}
-use Rattle.hk_table.specs.Knows.{PassView}
+use Rattle.hk_table.specs.Deeds.{RestsFit, answered, LastStep, is_rest, settled, rests}
 
 -- what a run says of a seat
 pub record SeatAt (r : Running) (s : ℕ) (words : List ℕ) (f : Flight) (count : ℕ) : Type 0 where

@@ -7,9 +7,8 @@ use Rattle.hk_words.specs.declared.geometry.Geometry.{Geometry}
 use Rattle.hk_words.specs.Geometry.{row_length}
 use Rattle.hk_core.specs.declared.event.Event.{Event}
 use Rattle.hk_core.specs.declared.event.Event.TheVariants as event
-use Rattle.hk_core.specs.declared.spot.Spot.{Spot}
 use Rattle.hk_core.specs.Event.{word_of, learnt_from, CanFire, CanFireIf}
-use Rattle.hk_core.specs.Collect.{spot_event, spot_took, event_by_collector, found_by_collector}
+use Rattle.hk_core.specs.Collect.{spot_event, spot_took, event_by_collector}
 use Rattle.hk_core.specs.Run.{run_from_opening}
 use Rattle.hk_collect.specs.SpotFits.{SpotFits}
 use Rattle.hk_collect.proofs.Fitting.{spot_fits, event_fires}

@@ -1,10 +1,10 @@
 -- An event of the collector, as one atomic step of the keeper, keeps the rule.
-use Rattle.std.proofs.Common.{◌≡◌, ◌≢◌, ◌⊎◌, ℕ, ◌+◌, ◌<◌, ◌≤◌, List, [], ◌∷◌, ◌++◌, length, refl, sym, ◌∙◌, ap, subst, arith, inl, inr, ⊎_elim, append-nil, append_assoc, Option, Some, None}
+use Rattle.std.proofs.Common.{◌≡◌, ◌≢◌, ℕ, ◌<◌, ◌≤◌, List, [], ◌∷◌, ◌++◌, refl, sym, ◌∙◌, ap, subst, ⊎_elim, append-nil, Option, Some}
 use Rattle.std.proofs.lemmas.List.Elements.{filter-append}
-use Rattle.std.specs.Prelude.{⊤, All, slice_index, slice_set, slice_index_or}
+use Rattle.std.specs.Prelude.{All, slice_index, slice_set, slice_index_or}
 use mathlib.Core.Option.{some}
 use lib.ListN.{get_elem?}
-use Rattle.atomic_table.specs.Table.{State as TableState, Me, keeps, Allows}
+use Rattle.atomic_table.specs.Table.{Me, keeps, Allows}
 use Rattle.atomic_table.proofs.Lists.{at_set}
 use Rattle.hk_words.specs.declared.geometry.Geometry.{Geometry}
 use Rattle.hk_words.specs.Geometry.{tasks}
@@ -22,9 +22,9 @@ use Rattle.hk_collect.specs.SpotFits.{SpotFits}
 use Rattle.hk_collect.specs.Laws.{LawfulSpotFits, LawfulCanCollect}
 use Rattle.hk_table.specs.Actions.{Begins, is_by, is_collect, acts_of, collects}
 use Rattle.hk_table.specs.Knows.{PassView, Closing, KeeperView, Knows, pass, told, note, ended, keeper, spent}
-use Rattle.hk_table.specs.Rule.{fresh, StandsIn, PassFits, KeeperFits, Fits, NoKeeper, Apart, HasNot, InOneRun}
+use Rattle.hk_table.specs.Rule.{fresh, StandsIn, PassFits, KeeperFits, Fits, NoKeeper, Apart, InOneRun}
 use Rattle.hk_table.specs.Deeds.{learnt_by}
-use Rattle.hk_table.specs.Seats.{Collects, CollectsFrom}
+use Rattle.hk_table.specs.Seats.{CollectsFrom}
 use Rattle.hk_table.specs.declared.view.View.{View}
 use Rattle.hk_table.proofs.Collecting.{spot_leaves}
 use Rattle.hk_table.proofs.Keeps.{run_more, begins_more, below_more}

@@ -1,42 +1,22 @@
 -- What a seat knows after actions of its own: what the run of the longer log says of it, and all that was seen where it added
 -- an entry.
-use Rattle.std.proofs.Common.{◌≡◌, ◌≢◌, ◌⊎◌, ℕ, zero, suc, ◌+◌, ◌<◌, ◌≤◌, ◌^◌, Bool, true, false, List, [], ◌∷◌, ◌++◌, map, length, refl, sym, ◌∙◌, ap, subst, arith, inl, inr, ⊎_elim, append-nil, append_assoc, get_or-set_same, get_or-set_other, eq-eqb, ne_eqb, Option, Some, None}
-use Rattle.std.proofs.lemmas.Bool.{cases_Bool, cases_eq, eqb-true}
-use Rattle.std.proofs.lemmas.Bool.Decides.{nat_tests}
+use Rattle.std.proofs.Common.{◌≡◌, ℕ, ◌+◌, List, [], ◌∷◌, ◌++◌, map, length, refl, sym, ◌∙◌, ap, arith, append-nil, append_assoc}
 use Rattle.std.proofs.lemmas.List.{length-append}
 use Rattle.std.proofs.lemmas.List.Elements.{filter-append}
 use Rattle.std.proofs.lemmas.List.FromFn.{get_or-map-range_with_len, length-map-range_with_len}
-use Rattle.std.proofs.lemmas.List.Sums.{fold-append}
-use Rattle.std.specs.Prelude.{nat_eq, ⊤, ◌==◌, slice_index, slice_set, if◌then◌else◌, filter}
+use Rattle.std.specs.Prelude.{nat_eq, slice_index}
 use Rattle.std.specs.List.{range_with_len}
-use mathlib.Core.Option.{some}
-use lib.ListN.{get_elem?}
-use Rattle.atomic_table.specs.Table.{State as TableState, Me, Act, keeps, Allows, stepped}
 use Rattle.hk_words.specs.declared.geometry.Geometry.{Geometry}
-use Rattle.hk_words.specs.declared.call.Call.{Call}
-use Rattle.hk_words.specs.declared.call.Call.TheVariants as call
-use Rattle.hk_words.specs.Geometry.{tasks}
-use Rattle.hk_words.specs.Row.{register_at}
-use Rattle.hk_model.specs.History.{Entry, History, of_seat}
-use Rattle.hk_core.specs.declared.event.Event.{Event}
-use Rattle.hk_core.specs.declared.flight.Flight.{Flight}
-use Rattle.hk_core.specs.Event.{fired, fired_if, learnt, learnt_from, old_of, word_of, word_after, AmountFits, CanFire, CanFireIf}
-use Rattle.hk_core.specs.State.{State, flight_of}
-use Rattle.hk_core.specs.Step.{step_of, event_of, took_of, event_by, found_by}
-use Rattle.hk_words.specs.Bounds.{places_of}
-use Rattle.hk_core.specs.Begin.{register_word, refusal, first_flight}
-use Rattle.hk_core.specs.View.{flight_at}
-use Rattle.hk_core.specs.Fits.{CanStep, FindsNumber}
-use Rattle.hk_core.specs.Run.{Action, Running, begin, step, act, run, run_from_opening}
-use Rattle.hk_core.proofs.Entries.{took_seat}
-use Rattle.hk_collect.proofs.Running.{lawful_from_opening, geometry_from_opening}
-use Rattle.hk_table.specs.Actions.{Begins, is_by, acts_of}
-use Rattle.hk_table.specs.Knows.{PassView, Knows, pass, told, note, keeper, spent}
-use Rattle.hk_table.specs.Rule.{StandsIn, PassFits, Fits as KnowsFits, InOneRun}
-use Rattle.hk_table.specs.Deeds.{Accepts, RestsFit, answered, LastStep, quiet, acted, is_rest, Deed, learnt_by, taken, opens, deeds, rests, settled, most_rests, register_after, refused_by, refused_with, first_by, first_with, MayBegin, InFlight, MayDo, Trail, Stands, Goes, StepsFrom, Stepped}
-use Rattle.hk_table.specs.declared.view.View.{View}
+use Rattle.hk_model.specs.History.{History, of_seat}
+use Rattle.hk_core.specs.State.{flight_of}
+use Rattle.hk_core.specs.Begin.{register_word}
+use Rattle.hk_core.specs.Run.{Action, Running, run, run_from_opening}
+use Rattle.hk_table.specs.Actions.{Begins}
+use Rattle.hk_table.specs.Knows.{PassView}
+use Rattle.hk_table.specs.Rule.{PassFits}
+use Rattle.hk_table.specs.Deeds.{quiet, acted, Trail}
 use Rattle.hk_table.proofs.Alone.{IsAlone}
-use Rattle.hk_table.proofs.Keeps.{ActBy, ActsBy, run_more, acts_alone, begins_more, IsPass, seat_acts}
+use Rattle.hk_table.proofs.Keeps.{ActsBy, acts_alone}
 
 -- LISTS
 

@@ -1,10 +1,9 @@
 -- A look keeps the rule; and so does the keeper, as it takes in a pass.
-use Rattle.std.proofs.Common.{◌≡◌, ◌≢◌, ◌⊎◌, ℕ, zero, suc, ◌+◌, ◌<◌, ◌≤◌, Bool, true, false, List, [], ◌∷◌, ◌++◌, length, refl, sym, ◌∙◌, ap, subst, arith, inl, inr, ⊎_elim, append-nil, append_assoc, get_or}
-use Rattle.std.proofs.lemmas.List.{set-get_or, length-append}
+use Rattle.std.proofs.Common.{◌≡◌, ◌≢◌, ℕ, zero, suc, ◌<◌, ◌≤◌, Bool, true, false, List, [], ◌∷◌, ◌++◌, length, refl, sym, ◌∙◌, ap, subst, arith, append-nil, append_assoc}
+use Rattle.std.proofs.lemmas.List.{set-get_or}
 use Rattle.std.proofs.lemmas.List.Elements.{filter-append}
-use Rattle.std.proofs.lemmas.Bool.{cases_Bool}
 use Rattle.std.proofs.lemmas.Bool.Decides.{nat_tests}
-use Rattle.std.specs.Prelude.{⊤, All, nat_lt, nat_eq, slice_set, slice_index, slice_index_or, if◌then◌else◌}
+use Rattle.std.specs.Prelude.{All, nat_lt, nat_eq, slice_set, slice_index_or, if◌then◌else◌}
 use mathlib.Core.Option.{some}
 use lib.ListN.{get_elem?}
 use Rattle.atomic_table.specs.Table.{State as TableState, Me, keeps, Allows, Joins}
@@ -12,12 +11,12 @@ use Rattle.atomic_table.proofs.Lists.{set_else}
 use Rattle.hk_words.specs.declared.geometry.Geometry.{Geometry}
 use Rattle.hk_words.specs.Geometry.{tasks}
 use Rattle.hk_model.specs.History.{History}
-use Rattle.hk_core.specs.Run.{Action, begin, step, collect, Running, run, run_from_opening}
+use Rattle.hk_core.specs.Run.{Action, begin, step, collect, run, run_from_opening}
 use Rattle.hk_collect.proofs.Running.{legal_from_opening}
 use Rattle.hk_table.specs.Actions.{Begins, SeatsBelow, is_by, is_collect, acts_of, collects}
 use Rattle.hk_table.specs.Knows.{PassView, Closing, KeeperView, Knows, pass, told, note, ended, keeper, spent}
-use Rattle.hk_table.specs.Rule.{StandsIn, PassFits, KeeperFits, Fits, HasNot, SeatApart, NoKeeper, Apart, InOneRun}
-use Rattle.hk_table.specs.Seats.{Looks, LooksFrom, longer, closing, taken_in, closed_by}
+use Rattle.hk_table.specs.Rule.{StandsIn, PassFits, KeeperFits, Fits, HasNot, Apart, InOneRun}
+use Rattle.hk_table.specs.Seats.{LooksFrom, longer, closing, closed_by}
 use Rattle.hk_table.specs.declared.view.View.{View}
 use Rattle.hk_table.proofs.Keeps.{IsPass, seat_acts}
 use Rattle.hk_table.proofs.Seats.{tie, view}

@@ -1,23 +1,22 @@
 -- The table as it is made meets the rule.
-use Rattle.std.proofs.Common.{◌≡◌, ◌≢◌, ℕ, zero, suc, ◌+◌, ◌<◌, ◌≤◌, List, [], ◌∷◌, ◌++◌, length, refl, sym, ◌∙◌, ap, subst, arith}
+use Rattle.std.proofs.Common.{◌≡◌, ℕ, zero, suc, ◌<◌, [], ◌∷◌, length, refl, sym, ◌∙◌, ap, subst, arith}
 use Rattle.std.proofs.lemmas.List.FromFn.{get_or-map-range_with_len, length-map-range_with_len}
 use Rattle.std.proofs.lemmas.List.{get_or-replicate}
-use Rattle.std.specs.Prelude.{slice_index, All}
+use Rattle.std.specs.Prelude.{slice_index}
 use mathlib.Core.Option.{some, some-injective, some-ne-none}
 use lib.ListN.{get_elem?}
-use Rattle.atomic_table.specs.Table.{State as TableState, opening}
+use Rattle.atomic_table.specs.Table.{opening}
 use Rattle.hk_words.specs.declared.geometry.Geometry.{Geometry}
 use Rattle.hk_words.specs.Geometry.{tasks, row_length}
-use Rattle.hk_words.specs.Row.{InRow, index_of, register_at, slot_at}
+use Rattle.hk_words.specs.Row.{register_at, slot_at}
 use Rattle.hk_words.specs.Row.Slot.{Register}
 use Rattle.hk_words.proofs.RowLaws.{slot_at-index_of, index_below}
 use Rattle.hk_core.specs.State as state
 use Rattle.hk_core.specs.State.{opening_row, opening_word, opening_register, opening_spot, flight_of, idle}
 use Rattle.hk_core.specs.Begin.{register_word}
-use Rattle.hk_core.specs.Run.{Running, run, run_from_opening}
+use Rattle.hk_core.specs.Run.{run, run_from_opening}
 use Rattle.hk_model.specs.History.{of_seat}
-use Rattle.hk_table.specs.Knows.{keeper}
-use Rattle.hk_table.specs.Rule.{fresh, PassFits, KeeperFits, Fits, Apart, InOneRun, first_view}
+use Rattle.hk_table.specs.Rule.{fresh, PassFits, Fits, InOneRun, first_view}
 use Rattle.hk_table.specs.declared.view.View.{View}
 
 register_open : (g : Geometry) (seat reg : ℕ) → seat < tasks g → reg < g.registers → slice_index (opening_row g) (register_at g seat reg) ≡ opening_register g reg

@@ -1,6 +1,6 @@
 -- What a pass's own registers say of the heap that never collects: the entries of other seats leave them as they are, so
 -- what is so after the whole history is so after what the pass has seen.
-use Rattle.std.proofs.Common.{◌≡◌, ◌≢◌, ℕ, ◌<◌, Bool, true, false, List, [], ◌++◌, refl, sym, ◌∙◌, ap, subst, arith, Option, Some, None, IsTrue, ◌↔◌, eqb-true, eq-eqb}
+use Rattle.std.proofs.Common.{◌≡◌, ◌≢◌, ℕ, ◌<◌, Bool, true, false, [], ◌++◌, refl, sym, ◌∙◌, ap, subst, arith, Option, Some, None, IsTrue, ◌↔◌, eqb-true, eq-eqb}
 use Rattle.std.proofs.lemmas.List.Elements.{filter-append}
 use Rattle.std.proofs.lemmas.List.Sums.{fold-append}
 use Rattle.std.specs.Prelude.{nat_eq, nat_lt, is_none, slice_index, if◌then◌else◌}
@@ -11,7 +11,7 @@ use Rattle.hk_words.specs.declared.call.Reply.{Reply}
 use Rattle.hk_words.specs.declared.call.Reply.TheVariants as reply
 use Rattle.hk_words.specs.Geometry.{tasks}
 use Rattle.hk_words.specs.Calls.{RegistersFit}
-use Rattle.hk_model.specs.Heap.{Heap, IsHeap, born, register, refs, nums, opening_of}
+use Rattle.hk_model.specs.Heap.{Heap, born, register, refs, nums, opening_of}
 use Rattle.hk_model.specs.History.{History, after, after_entry, of_seat, is_question}
 use Rattle.hk_model.specs.Lasting.{Lasts}
 use Rattle.hk_model.specs.Replies.{reply_of, said, is_same, entering}
@@ -23,7 +23,6 @@ use Rattle.hk_core.specs.declared.outcome.Fault.TheVariants as fault
 use Rattle.hk_core.specs.Faults.{IsPlainFault, TellsPlain}
 use Rattle.hk_core.specs.View.{flight_at}
 use Rattle.hk_core.specs.Begin.{register_word}
-use Rattle.hk_core.specs.State.{State}
 use Rattle.hk_core.specs.Run.{Running, run_from_opening}
 use Rattle.hk_core.proofs.Shown.{is_null_answers, same_answers}
 use Rattle.hk_core.proofs.RefusedPlain.{refused_plain}

@@ -1,5 +1,5 @@
 -- When a call of a pass is refused, and what the errors say.
-use Rattle.std.proofs.Common.{◌≡◌, ℕ, refl, List, Option, Some, None, subst, sym, ◌∙◌}
+use Rattle.std.proofs.Common.{◌≡◌, ℕ, refl, List, Option, Some, None, subst, sym}
 use Rattle.hk_words.specs.declared.call.Call.{Call}
 use Rattle.hk_core.specs.declared.outcome.Fault.{Fault}
 use Rattle.hk_core.specs.declared.outcome.Fault.TheVariants as fault

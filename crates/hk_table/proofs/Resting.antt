@@ -1,8 +1,7 @@
 -- What the code asks of rests, of a flight whose place is done, and of its event.
-use Rattle.std.proofs.Common.{◌≡◌, ◌≢◌, ◌⊎◌, ℕ, zero, suc, ◌+◌, ◌-◌, ◌<◌, ◌≤◌, Bool, true, false, List, length, ne_eqb, ext_get_or, refl, sym, ◌∙◌, ap, subst, arith, inl, inr, Option, Some, None}
-use Rattle.std.proofs.lemmas.Bool.{cases_Bool}
+use Rattle.std.proofs.Common.{◌≡◌, ◌≢◌, ℕ, zero, suc, ◌-◌, ◌<◌, ◌≤◌, Bool, true, false, List, length, ne_eqb, ext_get_or, refl, sym, ◌∙◌, ap, subst, arith, Option, Some, None}
 use Rattle.std.proofs.lemmas.Bool.Decides.{nat_tests}
-use Rattle.std.specs.Prelude.{nat_eq, slice_index, not, is_none, ◌&&◌, if◌then◌else◌}
+use Rattle.std.specs.Prelude.{nat_eq, slice_index, not, is_none, ◌&&◌}
 use Rattle.hk_words.specs.declared.geometry.Geometry.{Geometry}
 use Rattle.hk_words.specs.declared.call.Call.{Call}
 use Rattle.hk_words.specs.declared.call.Call.TheVariants as call
@@ -18,7 +17,6 @@ use Rattle.hk_core.specs.State.{flight_of}
 use Rattle.hk_core.specs.Step as table
 use Rattle.hk_core.specs.Step.{event_of, took_of, step_of}
 use Rattle.hk_words.specs.Bounds.{places_of}
-use Rattle.hk_core.specs.Run.{run_from_opening}
 use Rattle.hk_collect.proofs.Running.{lawful_from_opening, geometry_from_opening}
 use Rattle.hk_table.specs.Knows.{PassView, Knows, pass}
 use Rattle.hk_words.specs.Row.{register_at}

@@ -1,6 +1,6 @@
 -- Cutting views in two and joining them keeps the rule.
-use Rattle.std.proofs.Common.{◌≡◌, ◌≢◌, ◌⊎◌, ℕ, zero, suc, ◌+◌, ◌<◌, ◌≤◌, List, [], ◌∷◌, ◌++◌, length, refl, sym, ◌∙◌, ap, subst, arith, inl, inr, ⊎_elim, append-nil}
-use Rattle.std.specs.Prelude.{⊤, slice_set, All, slice_index_or}
+use Rattle.std.proofs.Common.{◌≡◌, ◌≢◌, ◌⊎◌, ℕ, zero, suc, ◌+◌, ◌<◌, List, [], ◌∷◌, ◌++◌, length, refl, sym, ◌∙◌, ap, subst, arith, inl, inr, ⊎_elim}
+use Rattle.std.specs.Prelude.{slice_set}
 use mathlib.Core.Option.{some, some-injective, some-ne-none}
 use lib.ListN.{get_elem?}
 use Rattle.atomic_table.specs.Table.{State as TableState, Splits, Joins}
@@ -9,9 +9,8 @@ use Rattle.hk_words.specs.declared.geometry.Geometry.{Geometry}
 use Rattle.hk_words.specs.Geometry.{tasks}
 use Rattle.hk_model.specs.History.{History}
 use Rattle.hk_core.specs.Run.{Action, Running, run_from_opening}
-use Rattle.hk_table.specs.Actions.{Begins}
 use Rattle.hk_table.specs.Knows.{PassView, KeeperView, Knows, pass, told, note, ended, keeper, spent}
-use Rattle.hk_table.specs.Rule.{fresh, StandsIn, PassFits, KeeperFits, Fits, HasNot, SeatApart, NoKeeper, Apart, InOneRun}
+use Rattle.hk_table.specs.Rule.{fresh, KeeperFits, Fits, SeatApart, NoKeeper, Apart, InOneRun}
 use Rattle.hk_table.specs.Seats.{noted, given, rest_of, made_of, last_log}
 use Rattle.hk_table.specs.declared.view.View.{View}
 

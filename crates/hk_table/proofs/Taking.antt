@@ -1,10 +1,9 @@
 -- How the keeper takes in the passes, and what it knows once it has taken in all.
-use Rattle.std.proofs.Common.{◌≡◌, ◌≢◌, ℕ, zero, suc, ◌+◌, ◌<◌, ◌≤◌, Bool, true, false, List, [], ◌∷◌, ◌++◌, length, refl, sym, ◌∙◌, ap, subst, arith, inl, inr}
+use Rattle.std.proofs.Common.{◌≡◌, ℕ, zero, suc, ◌+◌, ◌<◌, ◌≤◌, Bool, true, false, List, [], ◌∷◌, ◌++◌, length, refl, sym, ◌∙◌, ap, subst, arith, inl, inr}
 use Rattle.std.proofs.lemmas.List.{length-append}
 use Rattle.std.proofs.lemmas.Bool.{cases_eq}
 use Rattle.std.proofs.lemmas.Bool.Decides.{nat_tests}
-use Rattle.std.specs.Prelude.{⊤, All, nat_lt, slice_index_or, if◌then◌else◌}
-use Rattle.hk_words.specs.declared.geometry.Geometry.{Geometry}
+use Rattle.std.specs.Prelude.{All, nat_lt, slice_index_or, if◌then◌else◌}
 use Rattle.hk_words.specs.Geometry.{tasks}
 use Rattle.hk_model.specs.Heap.{opening_of}
 use Rattle.hk_model.specs.History.{Legal}
@@ -12,15 +11,14 @@ use Rattle.hk_model.proofs.Lists.{get_or-push_before, get_or-push_last}
 use Rattle.hk_core.specs.Run.{Action, run_from_opening}
 use Rattle.hk_collect.proofs.Running.{legal_from_opening}
 use Rattle.hk_table.specs.Actions.{Begins, SeatsBelow, collects}
-use Rattle.hk_table.specs.Knows.{Closing, KeeperView, keeper}
+use Rattle.hk_table.specs.Knows.{Closing, KeeperView}
 use Rattle.hk_table.specs.Rule.{StandsIn}
-use Rattle.hk_table.specs.Seats.{closing, longer, with_pass, the_keeper, the_log}
-use Rattle.hk_table.specs.Passes.{IsPassOf, IsKeeperOf, known, kept}
+use Rattle.hk_table.specs.Seats.{closing, longer, with_pass, the_log}
+use Rattle.hk_table.specs.Passes.{IsPassOf, known}
 use Rattle.hk_table.specs.Taken.{closings, IsLong, TakenIn, KnowsAll}
 use Rattle.hk_table.specs.Ends.{HasAllSeats, ClosedBy, log_of, run_of}
 use Rattle.hk_table.specs.declared.heap.Heap.{Heap}
 use Rattle.hk_table.specs.declared.pass.Pass.{Pass}
-use Rattle.hk_table.specs.declared.keeper.Keeper.{Keeper}
 use Rattle.hk_table.specs.declared.closed.Closed.{Closed}
 
 -- LISTS OF PASSES

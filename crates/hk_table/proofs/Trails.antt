@@ -1,38 +1,15 @@
 -- The entries that a pass adds, and the steps of a seat in a list of actions.
-use Rattle.std.proofs.Common.{◌≡◌, ◌≢◌, ◌⊎◌, ℕ, zero, suc, ◌+◌, ◌<◌, ◌≤◌, Bool, true, false, List, [], ◌∷◌, ◌++◌, length, replicate, refl, sym, ◌∙◌, ap, subst, arith, inl, inr, ⊎_elim, append-nil, append_assoc, eq-eqb, Option, Some, None}
-use Rattle.std.proofs.lemmas.Bool.{cases_Bool, cases_eq, eqb-true}
+use Rattle.std.proofs.Common.{◌≡◌, ℕ, zero, suc, ◌+◌, Bool, true, false, List, [], ◌∷◌, ◌++◌, length, replicate, refl, sym, ◌∙◌, ap, subst, arith, append-nil, append_assoc}
+use Rattle.std.proofs.lemmas.Bool.{eqb-true}
 use Rattle.std.proofs.lemmas.List.{length-append, replicate-append-replicate}
-use Rattle.std.proofs.lemmas.List.Elements.{filter-append}
-use Rattle.std.proofs.lemmas.List.Sums.{fold-append}
 use Rattle.std.proofs.lemmas.Bool.Decides.{nat_tests}
-use Rattle.std.specs.Prelude.{nat_eq, filter, if◌then◌else◌}
-use Rattle.hk_words.specs.declared.geometry.Geometry.{Geometry}
-use Rattle.hk_words.specs.declared.call.Call.{Call}
-use Rattle.hk_words.specs.declared.call.Call.TheVariants as call
-use Rattle.hk_words.specs.Geometry.{tasks}
-use Rattle.hk_model.specs.Heap.{opening_of}
-use Rattle.hk_model.specs.History.{Entry, History, Legal, of_seat}
-use Rattle.hk_model.proofs.Histories.{Legal_from-push}
-use Rattle.hk_model.proofs.Lasting.{legal_begins}
-use Rattle.hk_collect.proofs.Running.{legal_from_opening}
-use Rattle.hk_core.specs.declared.flight.Flight.{Flight}
-use Rattle.hk_core.specs.declared.outcome.Step.{Step}
-use Rattle.hk_core.specs.declared.outcome.Step.TheVariants.{Going, Ended}
-use Rattle.hk_core.specs.declared.outcome.Outcome.{Outcome}
-use Rattle.hk_core.specs.State.{flight_of}
-use Rattle.hk_core.specs.Step.{outcome_at, step_of, answer_by, history_after, next}
-use Rattle.hk_words.specs.Bounds.{places_of}
-use Rattle.hk_core.specs.Begin.{refusal, after_begin}
-use Rattle.hk_core.specs.Replied.{outcome_of}
+use Rattle.std.specs.Prelude.{nat_eq, if◌then◌else◌}
+use Rattle.hk_model.specs.History.{Entry, History, of_seat}
 use Rattle.hk_core.specs.Turns.{steps_of, step_count}
-use Rattle.hk_core.specs.Run.{Action, Running, begin, step, collect, act, run, run_from_opening}
-use Rattle.hk_core.proofs.Entries.{answers_entry}
-use Rattle.hk_table.specs.Actions.{Begins, is_by, acts_of}
+use Rattle.hk_core.specs.Run.{Action, begin, step, collect}
+use Rattle.hk_table.specs.Actions.{Begins, acts_of}
 use Rattle.hk_table.specs.Knows.{PassView}
-use Rattle.hk_table.specs.Rule.{PassFits}
-use Rattle.hk_table.specs.Deeds.{Deed, Trail, quiet, acted, Stands, Goes, LastStep, answered, most_rests, taken, rests, opens, refused_by}
-use Rattle.hk_table.specs.Calls.{Gains, UnderWay, Called}
-use Rattle.hk_table.proofs.Keeps.{run_more}
+use Rattle.hk_table.specs.Deeds.{Trail, quiet, acted}
 
 -- TRAILS
 

@@ -1,15 +1,12 @@
 -- What one atomic step of a pass does: it may begin a call, it does the place of its flight, and the rests after it.
-use Rattle.std.specs.Prelude.{◌≡◌, ◌⊎◌, ℕ, zero, suc, ◌+◌, ◌<◌, ◌≤◌, ◌==◌, Bool, true, false, not, cond, ◌&&◌, nat_eq, nat_le, List, [], ◌∷◌, ◌++◌, length, replicate, slice_index, is_some, is_none, option_map, unwrap_or, ⊤, Option, Some, None, if◌then◌else◌}
-use mathlib.Core.Option.{some}
+use Rattle.std.specs.Prelude.{◌≡◌, ◌⊎◌, ℕ, zero, suc, ◌+◌, ◌<◌, ◌≤◌, ◌==◌, Bool, true, false, not, ◌&&◌, nat_eq, List, [], ◌∷◌, ◌++◌, replicate, slice_index, is_none, option_map, unwrap_or, ⊤, Option, Some, None, if◌then◌else◌}
 use Rattle.atomic_table.specs.Table.{Me}
 use Rattle.hk_words.specs.declared.geometry.Geometry.{Geometry}
 use Rattle.hk_words.specs.declared.call.Call.{Call}
-use Rattle.hk_words.specs.Geometry.{tasks}
 use Rattle.hk_words.specs.Calls.{RegistersFit, entered}
 use Rattle.hk_words.specs.Row.{register_at}
 use Rattle.hk_words.specs.Bounds.{places_of}
-use Rattle.hk_model.specs.Heap.{opening_of}
-use Rattle.hk_model.specs.History.{Entry, History, Legal, is_question}
+use Rattle.hk_model.specs.History.{Entry, History, is_question}
 use Rattle.hk_core.specs.declared.event.Event.{Event}
 use Rattle.hk_core.specs.declared.event.Event.TheVariants.{Load, Write, Swap, Add, Sub, Max, Trade}
 use Rattle.hk_core.specs.declared.flight.Flight.{Flight}

@@ -1,5 +1,5 @@
 -- The passes, the notes and the keeper of a heap.
-use Rattle.std.specs.Prelude.{◌≡◌, ℕ, nat_lt, []}
+use Rattle.std.specs.Prelude.{◌≡◌, nat_lt, []}
 use Rattle.hk_words.specs.Geometry.{tasks}
 use Rattle.hk_model.specs.History.{History}
 use Rattle.hk_core.specs.Run.{run_from_opening}

@@ -10,7 +10,7 @@ use hk_words::Geometry;
 #[derive(Drop)]
 pub struct Closed {
     pub(crate) reserved: u64,
-    pub geometry: Geometry,
+    pub(crate) geometry: Geometry,
     pub(crate) seat: Seat,
     ghost reserves: { reserved ≡ slice_index (run_from_opening geometry (the_log seat.me.0.knows)).core.row 1 },
 }

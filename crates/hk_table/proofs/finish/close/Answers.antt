@@ -1,5 +1,4 @@
-use Rattle.std.proofs.Common.{rules, ◌≡◌, ◌∙◌, ap, sym, subst, refl, ℕ, ◌<◌, [], length, arith}
-use Rattle.hk_table.specs.Seats.{the_keeper}
+use Rattle.std.proofs.Common.{◌≡◌, []}
 use Rattle.hk_table.specs.Passes.{IsPassOf, kept}
 use Rattle.hk_table.proofs.Taking.{taken_is, nothing_left, few_enough, every_seat, closed_so}
 use Rattle.hk_table.proofs.finish.close.Goals as goal

@@ -1,4 +1,4 @@
-use Rattle.std.proofs.Common.{◌≡◌, ℕ, length}
+use Rattle.std.proofs.Common.{◌≡◌, length}
 use Rattle.hk_table.specs.Knows.{keeper}
 use Rattle.hk_table.specs.Seats.{the_keeper}
 use Rattle.hk_table.specs.Passes.{kept}

@@ -1,6 +1,5 @@
-use Rattle.std.proofs.Common.{rules, ◌≡◌, ◌∙◌, ap, sym, subst, true, false, arith, ◌-◌, ◌<◌}
+use Rattle.std.proofs.Common.{rules, ◌≡◌, ◌∙◌, ap, sym, subst, true, false, ◌-◌}
 use Rattle.hk_core.specs.declared.flight.Flight.{Flight}
-use Rattle.hk_core.specs.declared.outcome.Step.{Step}
 use Rattle.hk_table.specs.Deeds.{is_rest, answered, settled, RestsFit}
 use Rattle.hk_table.proofs.Resting.{rest_fits, rest_next, settled_next, answered_next, settled_stops, answered_stops, settled_none, answered_none}
 use Rattle.hk_table.proofs.rest.+settle.Goals as goal

@@ -1,9 +1,8 @@
-use Rattle.std.proofs.Common.{◌≡◌, ◌∙◌, ap, sym, subst, refl, arith, ℕ, ◌<◌, List, [], ◌∷◌, ◌++◌, length}
+use Rattle.std.proofs.Common.{◌≡◌, ◌∙◌, ap, sym, subst, arith, ℕ, ◌<◌, List, [], ◌∷◌, ◌++◌, length}
 use Rattle.std.proofs.lemmas.List.{length-append}
 use Rattle.std.specs.Prelude.{slice_index_or}
 use Rattle.hk_table.specs.Knows.{PassView}
-use Rattle.hk_table.specs.Rule.{fresh}
-use Rattle.hk_table.specs.Passes.{IsPassOf, known}
+use Rattle.hk_table.specs.Passes.{IsPassOf}
 use Rattle.hk_table.specs.declared.pass.Pass.{Pass}
 use Rattle.hk_table.proofs.tests.open_two.Goals as goal
 

@@ -1,8 +1,7 @@
-use Rattle.std.proofs.Common.{rules, ◌≡◌, ◌∙◌, ap, sym, subst, refl, arith, ℕ, ◌+◌, ◌<◌, ◌≤◌, List, None, Some}
+use Rattle.std.proofs.Common.{◌≡◌, ◌∙◌, ap, sym, subst, refl, ◌+◌, ◌≤◌, None, Some}
 use Rattle.hk_words.specs.declared.call.Call.{Call}
 use Rattle.hk_words.specs.Bounds.{places_of}
 use Rattle.hk_core.specs.declared.flight.Flight.{Flight}
-use Rattle.hk_table.specs.Knows.{PassView}
 use Rattle.hk_table.specs.Deeds.{refused_with, first_with, refused_by, MayBegin, the_pass}
 use Rattle.hk_table.specs.Calls.{Called}
 use Rattle.hk_table.specs.Passes.{known}

@@ -1,4 +1,4 @@
-use Rattle.std.proofs.Common.{◌≡◌, ◌∙◌, ap, sym, subst, refl, ℕ, ◌<◌, List}
+use Rattle.std.proofs.Common.{◌≡◌, ◌∙◌, ap, sym, subst, ℕ, ◌<◌, List}
 use Rattle.std.specs.Prelude.{slice_index}
 use Rattle.std.specs.Slots.{slots_items}
 use Rattle.hk_words.specs.declared.geometry.Geometry.{Geometry}
@@ -6,7 +6,6 @@ use Rattle.hk_words.specs.Row.Slot.{W0}
 use Rattle.hk_words.proofs.RowLaws.{index_below}
 use Rattle.atomic_table.specs.Table.{Splits, Final, Seen}
 use Rattle.hk_core.specs.Run.{Action, run_from_opening}
-use Rattle.hk_table.specs.Knows.{keeper}
 use Rattle.hk_table.specs.Rule.{InOneRun}
 use Rattle.hk_table.specs.Seats.{the_keeper, the_log, last_log}
 use Rattle.hk_table.proofs.Seats.{log_splits, view}

@@ -1,4 +1,4 @@
-use Rattle.std.proofs.Common.{◌≡◌, ℕ, ◌<◌, Some, subst, sym, ap, ◌∙◌}
+use Rattle.std.proofs.Common.{◌<◌, Some, subst, ap, ◌∙◌}
 use Rattle.hk_core.specs.declared.event.Event.{Event}
 use Rattle.hk_core.specs.Event.{word_of}
 use Rattle.hk_table.proofs.Firing.{allows_load, allows_store, allows_swap, allows_add, allows_sub, allows_max, allows_trade}

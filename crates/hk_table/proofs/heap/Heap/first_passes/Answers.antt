@@ -1,5 +1,4 @@
-use Rattle.std.proofs.Common.{◌≡◌, ◌∙◌, ap, sym, subst, arith, ℕ, ◌+◌, length}
-use Rattle.hk_table.specs.declared.pass.Pass.{Pass}
+use Rattle.std.proofs.Common.{◌≡◌, ◌∙◌, ap, ℕ, ◌+◌, length}
 use Rattle.hk_table.specs.Rule.{fresh}
 use Rattle.hk_table.specs.Passes.{IsPassOf, known}
 use Rattle.hk_table.proofs.Taking.{length_more, each_more}

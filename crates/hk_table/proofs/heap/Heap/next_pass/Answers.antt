@@ -1,16 +1,14 @@
-use Rattle.std.proofs.Common.{rules, ◌≡◌, ◌∙◌, ap, sym, subst, refl, arith, ℕ, ◌+◌, ◌<◌, ◌≤◌, []}
+use Rattle.std.proofs.Common.{◌≡◌, ◌∙◌, ap, sym, subst, ℕ, ◌<◌}
 use Rattle.std.specs.Prelude.{nat_lt}
 use Rattle.hk_words.specs.declared.geometry.Geometry.{Geometry}
-use Rattle.hk_words.specs.Geometry.{tasks, row_length}
 use Rattle.hk_words.specs.Row.Slot.{W0}
 use Rattle.hk_words.proofs.RowLaws.{index_below}
 use Rattle.atomic_table.specs.Table.{Splits}
 use Rattle.hk_core.specs.State.{idle}
-use Rattle.hk_table.specs.Knows.{Knows, PassView, keeper, pass}
+use Rattle.hk_table.specs.Knows.{PassView, pass}
 use Rattle.hk_table.specs.Deeds.{Stands, the_pass}
 use Rattle.hk_table.specs.Seats.{keeper_from, rest_of, made_of}
 use Rattle.hk_table.specs.Rule.{fresh, InOneRun}
-use Rattle.hk_table.specs.Passes.{IsPassOf, known}
 use Rattle.hk_table.proofs.Seats.{pass_splits, view}
 use Rattle.hk_table.proofs.Opening.{fresh_fits}
 use Rattle.hk_table.proofs.heap.Heap.next_pass.Goals as goal

@@ -3,8 +3,8 @@ use Rattle.hk_words.specs.declared.geometry.Geometry.{Geometry}
 use Rattle.hk_words.specs.Row.Slot.{W0}
 use Rattle.hk_words.proofs.RowLaws.{index_below}
 use Rattle.atomic_table.specs.Table.{Splits}
-use Rattle.hk_table.specs.Knows.{Knows, PassView, note}
-use Rattle.hk_table.specs.Deeds.{Stands, the_pass}
+use Rattle.hk_table.specs.Knows.{note}
+use Rattle.hk_table.specs.Deeds.{the_pass}
 use Rattle.hk_table.specs.Seats.{noted, the_note}
 use Rattle.hk_table.specs.Rule.{InOneRun}
 use Rattle.hk_table.specs.Passes.{known}

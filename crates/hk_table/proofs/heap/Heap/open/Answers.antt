@@ -1,10 +1,6 @@
-use Rattle.std.proofs.Common.{◌≡◌, ◌∙◌, ap, sym, subst, refl, ℕ, ◌<◌, List, [], length}
-use Rattle.std.proofs.lemmas.List.FromFn.{length-map-range_with_len}
-use Rattle.hk_words.specs.declared.geometry.Geometry.{Geometry}
-use Rattle.hk_words.specs.Geometry.{tasks, row_length}
-use Rattle.hk_words.specs.Row.{slot_at}
+use Rattle.std.proofs.Common.{◌≡◌, ◌∙◌, ap, sym, subst, refl, ℕ, List, [], length}
+use Rattle.hk_words.specs.Geometry.{tasks}
 use Rattle.atomic_table.specs.Table.{opening}
-use Rattle.hk_core.specs.State.{opening_row, opening_word}
 use Rattle.hk_core.specs.Run.{run_from_opening}
 use Rattle.hk_table.specs.Knows.{KeeperView, keeper}
 use Rattle.hk_table.specs.Seats.{the_keeper, keeper_from}

@@ -1,4 +1,4 @@
-use Rattle.std.proofs.Common.{◌≡◌, ◌∙◌, ap, refl, List, ℕ}
+use Rattle.std.proofs.Common.{◌≡◌, ◌∙◌, ap, List, ℕ}
 use Rattle.std.specs.Prelude.{nat_eq, slice_index}
 use Rattle.hk_table.specs.Passes.{known}
 use Rattle.hk_table.proofs.Questions.{same_registers_answer, means_same}

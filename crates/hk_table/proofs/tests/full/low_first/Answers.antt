@@ -1,5 +1,4 @@
-use Rattle.std.proofs.Common.{◌≡◌, ◌∙◌, ap, sym, subst, refl, arith, ℕ, zero, suc, ◌+◌, ◌<◌, List, [], ◌∷◌}
-use Rattle.hk_words.specs.declared.geometry.Geometry.{Geometry}
+use Rattle.std.proofs.Common.{◌≡◌, ◌∙◌, ap, sym, subst, arith, ℕ, zero, suc, [], ◌∷◌}
 use Rattle.hk_words.specs.Geometry.{tasks}
 use Rattle.hk_table.specs.Ends.{HasAllSeats}
 use Rattle.hk_table.specs.declared.pass.Pass.{Pass}

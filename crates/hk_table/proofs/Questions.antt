@@ -22,7 +22,7 @@ use Rattle.hk_core.specs.declared.outcome.Fault.{Fault}
 use Rattle.hk_core.specs.declared.outcome.Fault.TheVariants as fault
 use Rattle.hk_core.specs.Faults.{IsPlainFault, TellsPlain}
 use Rattle.hk_core.specs.View.{flight_at}
-use Rattle.hk_core.specs.Begin.{register_word}
+use Rattle.hk_core.specs.Begin.{register_word, refusal}
 use Rattle.hk_core.specs.Run.{Running, run_from_opening}
 use Rattle.hk_core.proofs.Shown.{is_null_answers, same_answers}
 use Rattle.hk_core.proofs.RefusedPlain.{refused_plain}
@@ -136,16 +136,40 @@ module _ (g : Geometry) (p : PassView) (stands : Stands g p) (idle : p.flight.pl
     answer_same (call.Same a b) q e = absurd (cc)
     answer_same (call.IsNull reg) q e = absurd (cc)
 
+    -- and the other way round
+    answer_back : (call' : Call) → is_question call' ≡ false → reply_of seen p.seat call' ≡ answer → reply_of whole p.seat call' ≡ answer
+    unfolding reply_of
+    answer_back (call.Get reg field) q e = same_fault _ _ (sym (registers_same reg)) _ _ _ _ answer (λ b here. sym (nums_same reg field b (sym (registers_same reg) ∙ here))) (λ b. not_num _) e
+    answer_back (call.Put reg field value) q e = same_fault _ _ (sym (registers_same reg)) _ _ _ _ answer (λ b here. sym (nums_same reg field b (sym (registers_same reg) ∙ here))) (λ b. not_done) e
+    answer_back (call.Load dest reg field) q e = same_fault _ _ (sym (registers_same reg)) _ _ _ _ answer (λ b here. sym (refs_same reg field b (sym (registers_same reg) ∙ here))) (λ b. not_done) e
+    answer_back (call.Store reg field from) q e = same_fault _ _ (sym (registers_same reg)) _ _ _ _ answer (λ b here. sym (refs_same reg field b (sym (registers_same reg) ∙ here))) (λ b. not_done) e
+    answer_back (call.Move dest from) q e = absurd (not_done e)
+    answer_back (call.Clear dest) q e = absurd (not_done e)
+    answer_back (call.New dest shape) q e = absurd (not_done e)
+    answer_back (call.Same a b) q e = absurd (cc)
+    answer_back (call.IsNull reg) q e = absurd (cc)
+
   fault_same : (why : Fault) (call' : Call) → is_question call' ≡ false → IsPlainFault why (reply_of whole p.seat call') → IsPlainFault why (reply_of seen p.seat call')
   fault_same fault.Spent call' q e = tt
   fault_same fault.Nil call' q e = answer_same reply.Nil (λ n e'. cc) (λ e'. cc) call' q e
   fault_same fault.Field call' q e = answer_same reply.Field (λ n e'. cc) (λ e'. cc) call' q e
 
-  -- a call that is refused is so for what the plain heap answers after what the pass has seen
+  tells_same : (refused : Option Fault) (call' : Call) → is_question call' ≡ false → TellsPlain refused (reply_of whole p.seat call') → TellsPlain refused (reply_of seen p.seat call')
+  tells_same (Some why) call' q e = fault_same why call' q e
+  tells_same None call' q e = (
+    (λ nil. e.0 (answer_back reply.Nil (λ n e'. cc) (λ e'. cc) call' q nil)),
+    (λ field. e.1 (answer_back reply.Field (λ n e'. cc) (λ e'. cc) call' q field)),
+  )
+
+  -- a call that is refused is so for what the plain heap answers after what the pass has seen, and one that isn't finds its
+  -- object and its field there
+  pub tells_so : (call' : Call) → is_question call' ≡ false → RegistersFit g.registers call' → TellsPlain (refused_by p call') (reply_of seen p.seat call')
+  tells_so call' question fit =
+      let tells = refused_plain r.core r.history p.seat below (lawful_from_opening g p.log) flight_idle call' question (subst (λ (k : Geometry). RegistersFit k.registers call') (sym same_g) fit) in
+      tells_same (refused_by p call') call' question
+      (subst (λ (o : Option Fault). TellsPlain o (reply_of whole p.seat call')) (refusal_same g r.core p stands.registers stands.begun call' fit)
+      (subst (λ (k : Geometry). TellsPlain (refusal r.core p.seat call') (reply_of (after (opening_of k) r.history) p.seat call')) same_g tells))
+
   pub refused_so : (call' : Call) → is_question call' ≡ false → RegistersFit g.registers call' → (why : Fault) → refused_by p call' ≡ Some why
       → IsPlainFault why (reply_of seen p.seat call')
-  refused_so call' question fit why is =
-      let tells = refused_plain r.core r.history p.seat below (lawful_from_opening g p.log) flight_idle call' question (subst (λ (k : Geometry). RegistersFit k.registers call') (sym same_g) fit) in
-      let tells' : TellsPlain (Some why) (reply_of (after (opening_of r.core.geometry) r.history) p.seat call') =
-      subst (λ (o : Option Fault). TellsPlain o (reply_of (after (opening_of r.core.geometry) r.history) p.seat call')) (refusal_same g r.core p stands.registers stands.begun call' fit ∙ is) tells in
-      fault_same why call' question (subst (λ (k : Geometry). IsPlainFault why (reply_of (after (opening_of k) r.history) p.seat call')) same_g tells')
+  refused_so call' question fit why is = subst (λ (o : Option Fault). TellsPlain o (reply_of seen p.seat call')) is (tells_so call' question fit)

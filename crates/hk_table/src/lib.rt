@@ -28,7 +28,7 @@ pub use error::HeapError;
 pub use finish::close;
 pub use heap::{Heap, Seat};
 pub use keeper::Keeper;
-pub use laws::one_lawful_run;
+pub use laws::{one_lawful_run, refusals_are_plain};
 pub use note::Note;
 pub use pass::Pass;
 pub use steps::Steps;

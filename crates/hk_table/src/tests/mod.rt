@@ -7,6 +7,7 @@ mod full;
 mod meeting;
 mod refusals;
 mod threads;
+mod wide;
 
 use crate::{Heap, Keeper, Pass};
 use hk_words::{Geometry, Memory};

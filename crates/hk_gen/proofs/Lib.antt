@@ -5,4 +5,4 @@ mod BusyPeriod
 mod Statements
 mod Readable
 mod Admissible
-mod Drawn
+pub mod Drawn

@@ -4,7 +4,7 @@ use Rattle.std.specs.Prelude.{nat_lt, ◌&&◌}
 use Rattle.hk_sheet.specs.declared.sheet.Sheet.{Sheet}
 use Rattle.hk_dispatch.specs.declared.run.Done.{Done}
 use Rattle.hk_dispatch.specs.declared.run.TaskRun.{TaskRun}
-use Rattle.hk_dispatch.specs.declared.session.Stand.{Stand}
+use Rattle.hk_dispatch.specs.declared.stand.Stand.{Stand}
 use Rattle.hk_dispatch.specs.Tasks.{Task, tasks_of, task_at}
 use Rattle.hk_dispatch.specs.Moment.{Course, Moment, course_at}
 use Rattle.hk_dispatch.specs.Turns.{is_operation}

@@ -14,7 +14,7 @@ use Rattle.hk_sheet.specs.declared.sheet.Sheet.{Sheet}
 use Rattle.hk_sheet.specs.Faults.{sizes_of}
 use Rattle.hk_admit.specs.Facts.{IsChecked}
 use Rattle.hk_dispatch.specs.declared.run.TaskRun.{TaskRun}
-use Rattle.hk_dispatch.specs.declared.session.Stand.{Stand}
+use Rattle.hk_dispatch.specs.declared.stand.Stand.{Stand}
 use Rattle.hk_dispatch.specs.declared.tick.Tick.{Tick}
 use Rattle.hk_dispatch.specs.declared.tick.Tick.TheVariants as tick
 use Rattle.hk_dispatch.specs.Rows.{IsChoice}

@@ -12,7 +12,7 @@ use Rattle.hk_sheet.specs.Arrivals.{arrival_of, delay_of, ready_after}
 use Rattle.hk_sheet.specs.Valid.{IsHigh}
 use Rattle.hk_dispatch.specs.declared.roster.Roster.{Roster}
 use Rattle.hk_dispatch.specs.declared.run.TaskRun.{TaskRun}
-use Rattle.hk_dispatch.specs.declared.session.Stand.{Stand}
+use Rattle.hk_dispatch.specs.declared.stand.Stand.{Stand}
 use Rattle.hk_dispatch.specs.Tasks.{Task, high_task, low_task, no_task, no_high, tasks_of}
 use Rattle.hk_dispatch.specs.Moment.{Moment, core_of, course_at}
 use Rattle.hk_dispatch.specs.Rows.{TasksRise}

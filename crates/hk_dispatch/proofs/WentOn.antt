@@ -12,7 +12,7 @@ use Rattle.hk_sheet.specs.declared.sheet.Sheet.{Sheet}
 use Rattle.hk_dispatch.specs.declared.roster.Roster.{Roster}
 use Rattle.hk_dispatch.specs.declared.run.Done.{Done}
 use Rattle.hk_dispatch.specs.declared.run.TaskRun.{TaskRun}
-use Rattle.hk_dispatch.specs.declared.session.Stand.{Stand}
+use Rattle.hk_dispatch.specs.declared.stand.Stand.{Stand}
 use Rattle.hk_dispatch.specs.declared.tick.End.{End}
 use Rattle.hk_dispatch.specs.declared.tick.Tick.{Tick}
 use Rattle.hk_dispatch.specs.declared.tick.Tick.TheVariants as tick

@@ -6,6 +6,7 @@
 mod attempts;
 #[cfg(test)]
 mod choices;
+mod events;
 mod laws;
 mod needs;
 mod operation;
@@ -15,7 +16,9 @@ mod roster;
 mod rows;
 mod run;
 mod schedule;
+mod seats;
 mod session;
+mod stand;
 #[cfg(test)]
 mod tests;
 mod tick;

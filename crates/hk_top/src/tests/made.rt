@@ -58,7 +58,15 @@ fn reads_a_made_sheet(rt: HostRuntime) -> Result<(), Fail> {
 }
 
 /// Words that are no number below 2^64 in 1 to 20 digits.
-const NO_NUMBERS: &[&str] = &["", "+7", "-1", "7 ", "0x7", "18446744073709551616", "000000000000000000007"];
+const NO_NUMBERS: &[&str] = &[
+    "",
+    "+7",
+    "-1",
+    "7 ",
+    "0x7",
+    "18446744073709551616",
+    "000000000000000000007",
+];
 
 #[test]
 fn takes_numbers_alone(rt: HostRuntime) -> Result<(), Fail> {
@@ -69,7 +77,13 @@ fn takes_numbers_alone(rt: HostRuntime) -> Result<(), Fail> {
             assert_eq!(rt; ended.source.calls(), 0);
         }
     }
-    let largest = run(rt.alloc(), &["gen", "18446744073709551615"], "", (&[], &[]), 65536)?;
+    let largest = run(
+        rt.alloc(),
+        &["gen", "18446744073709551615"],
+        "",
+        (&[], &[]),
+        65536,
+    )?;
     assert_eq!(rt; largest.status, Status::Done);
     Ok(())
 }

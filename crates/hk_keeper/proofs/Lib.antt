@@ -1,0 +1,5 @@
+pub mod Answering
+pub mod Cycle
+pub mod Together
+pub mod Event
+pub mod Turns

@@ -3,3 +3,4 @@ pub mod Cycle
 pub mod Together
 pub mod Event
 pub mod Turns
+pub mod Telling

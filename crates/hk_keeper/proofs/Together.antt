@@ -48,7 +48,7 @@ module _ (g : Geometry) (k k' : KeeperView) (m e : ℕ) (a : Collected g k m Use
   pub as_many : e ≡ m
   as_many = (all_useful g k.log a.later m e a.answered).0
 
-  module _ (answer : Work) (e' : ℕ) (k'' : KeeperView) (b : Collected g k' 1 answer e' k'') where
+  module _ (n : ℕ) (answer : Work) (e' : ℕ) (k'' : KeeperView) (b : Collected g k' n answer e' k'') where
     later : List Action
     later = a.later ++ b.later
 
@@ -68,30 +68,30 @@ module _ (g : Geometry) (k k' : KeeperView) (m e : ℕ) (a : Collected g k m Use
       causes = subst (λ l. HasCauses (run_from_opening g l).core answer) (point o.front) o.causes;
     }
 
-    answers_both : Answers g k'.log b.later 1 e' answer → Answers g k.log (a.later ++ b.later) (m + 1) (e + e') answer
-    answers_both (useful is all says) = useful is (ap (λ n. n + e') as_many ∙ ap (λ n. m + n) all)
-        (says_all ∙ ap (λ l. replicate m Useful ++ l) says ∙ replicate-append-replicate m 1 Useful)
+    answers_both : Answers g k'.log b.later n e' answer → Answers g k.log (a.later ++ b.later) (m + n) (e + e') answer
+    answers_both (useful is all says) = useful is (ap (λ x. x + e') as_many ∙ ap (λ x. m + x) all)
+        (says_all ∙ ap (λ l. replicate m Useful ++ l) says ∙ replicate-append-replicate m n Useful)
     answers_both (stopped other not-worn few count says last) = stopped other not-worn (m + few) (let all = as_many in omega arith)
         (says_all ∙ ap (λ l. replicate m Useful ++ l) says ∙ sym (append_assoc (replicate m Useful) (replicate few Useful) (answer ∷ []))
         ∙ ap (λ l. l ++ answer ∷ []) (replicate-append-replicate m few Useful))
         (last_of last)
     answers_both (worn is some says causes) = worn is (let all = as_many in omega arith)
-        (says_all ∙ ap (λ l. replicate m Useful ++ l) says ∙ replicate-append-replicate m e' Useful ∙ ap (λ n. replicate (n + e') Useful) (sym as_many))
+        (says_all ∙ ap (λ l. replicate m Useful ++ l) says ∙ replicate-append-replicate m e' Useful ∙ ap (λ x. replicate (x + e') Useful) (sym as_many))
         (subst (λ l. HasCauses (run_from_opening g l).core Worn) (point b.later) causes)
 
     stays : k.spot.cycle + flips Useful ≡ k.spot.cycle
     stays = omega arith
 
-    -- useful events, and a call of one more
-    pub one_more : Collected g k (m + 1) answer (e + e') k''
-    one_more = record {
+    -- a call after one that used its whole budget
+    pub more : Collected g k (m + n) answer (e + e') k''
+    more = record {
       later = a.later ++ b.later;
       log = b.log ∙ point b.later;
       gained = filter-append is_collect a.later b.later ∙ (λ i. a.gained i ++ b.gained i) ∙ replicate-append-replicate e e' collect;
       few = (let x = a.few in let y = b.few in omega arith);
       answered = answers_both b.answered;
       history = adds_nothing g k.log (a.later ++ b.later);
-      cycle = b.cycle ∙ ap (λ n. n + flips answer) (a.cycle ∙ stays);
+      cycle = b.cycle ∙ ap (λ x. x + flips answer) (a.cycle ∙ stays);
       made = b.made ∙ a.made;
       longest = b.longest ∙ a.longest;
       closed = b.closed ∙ a.closed;

@@ -2,9 +2,11 @@
 #![tactic(auto)]
 
 mod fire;
+mod laws;
 #[cfg(test)]
 mod tests;
 mod turn;
 
 pub use hk_core::Work;
+pub use laws::{logs_answer, turns_answer};
 pub use turn::collect;

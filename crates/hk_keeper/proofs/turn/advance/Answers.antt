@@ -1,4 +1,4 @@
-use Rattle.std.proofs.Common.{◌≡◌, ℕ, ◌<◌, Option, Some, None, refl, subst, sym, ap, ◌∙◌, arith}
+use Rattle.std.proofs.Common.{rules, ◌≡◌, ℕ, ◌<◌, Option, Some, None, refl, subst, sym, ap, ◌∙◌, arith}
 use Rattle.hk_words.specs.declared.geometry.Geometry.{Geometry}
 use Rattle.hk_core.specs.declared.event.Event.{Event}
 use Rattle.hk_core.specs.declared.spot.Work.{Work}
@@ -75,4 +75,4 @@ returns-clause-collected g c =
     let work : c.took.result ≡ spot_work h.geometry before.spot (learnt_by (spot_event h.geometry before.spot) t.0) =
     c.took.ensures.work ∙ (λ i. spot_work (c.geometry-g.ensures i) (sym k.spot i) (learns i)) in
     let after = the_keeper c.fire-found.new.seat.me.0.knows in
-    (1, subst (λ (w : Work). Collected h.geometry before 1 w 1 after) (sym work) (one_event h.geometry before after t.0 o.1 c.in-Some.event asks), c.tick.ensures)
+    (1, subst (λ (w : Work). Collected h.geometry before 1 w 1 after) (sym work) (one_event h.geometry before after t.0 o.1 c.in-Some.event asks), search rules)

@@ -1,7 +1,6 @@
 -- What the events among actions answer, where the actions come in two parts.
-use Rattle.std.proofs.Common.{◌≡◌, ℕ, List, [], ◌∷◌, ◌++◌, refl, sym, ◌∙◌, ap, append-nil, append_assoc}
+use Rattle.std.proofs.Common.{◌≡◌, List, [], ◌∷◌, ◌++◌, refl, sym, ◌∙◌, ap, append-nil, append_assoc}
 use Rattle.hk_words.specs.declared.geometry.Geometry.{Geometry}
-use Rattle.hk_core.specs.declared.spot.Work.{Work}
 use Rattle.hk_core.specs.Collect.{work_by_collector}
 use Rattle.hk_core.specs.Run.{Action, begin, step, collect, run_from_opening}
 use Rattle.hk_table.specs.Actions.{collects}

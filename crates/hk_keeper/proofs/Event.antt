@@ -1,17 +1,17 @@
 -- One event of the keeper, as a call of one.
-use Rattle.std.proofs.Common.{◌≡◌, ◌≢◌, ℕ, ◌+◌, ◌<◌, ◌≤◌, List, [], ◌∷◌, ◌++◌, replicate, refl, sym, ◌∙◌, ap, subst, arith, append-nil, append_assoc, Option, Some, None}
+use Rattle.std.proofs.Common.{◌≡◌, ◌≢◌, ℕ, ◌+◌, List, [], ◌∷◌, ◌++◌, refl, sym, ◌∙◌, ap, subst, arith, append-nil, append_assoc, Option, Some, None}
 use Rattle.std.proofs.lemmas.List.Elements.{filter-append}
 use Rattle.hk_words.specs.declared.geometry.Geometry.{Geometry}
 use Rattle.hk_core.specs.declared.event.Event.{Event}
 use Rattle.hk_core.specs.declared.spot.Work.{Work}
 use Rattle.hk_core.specs.declared.spot.Work.TheVariants.{Useful, Flipped, Lost, BusyFrame, BusyObject, Unlinked, Grey, LiveOver, Worn}
-use Rattle.hk_core.specs.Collect.{spot_event, spot_work, event_by_collector, found_by_collector, work_by_collector}
+use Rattle.hk_core.specs.Collect.{spot_event, spot_work, event_by_collector, work_by_collector}
 use Rattle.hk_core.specs.Run.{Action, collect, Running, run_from_opening}
 use Rattle.hk_collect.specs.Works.{HasCauses, IsWorn}
 use Rattle.hk_collect.proofs.Causes.{has_causes}
 use Rattle.hk_collect.proofs.Worn.{event_unless_worn}
 use Rattle.hk_collect.proofs.Running.{lawful_from_opening, geometry_from_opening}
-use Rattle.hk_table.specs.Actions.{is_collect, collects}
+use Rattle.hk_table.specs.Actions.{is_collect}
 use Rattle.hk_table.specs.Deeds.{learnt_by}
 use Rattle.hk_table.specs.Knows.{KeeperView, Knows, keeper}
 use Rattle.hk_table.specs.Seats.{Collects, CollectsFrom, the_keeper}

@@ -1,10 +1,9 @@
 -- What the answer of a turn tells of its events.
-use Rattle.std.proofs.Common.{◌≡◌, ◌≢◌, ◌↔◌, ℕ, zero, suc, ◌+◌, ◌<◌, ◌≤◌, List, [], ◌∷◌, ◌++◌, length, replicate, refl, sym, ◌∙◌, ap, arith}
+use Rattle.std.proofs.Common.{◌≡◌, ◌≢◌, ◌↔◌, ℕ, zero, suc, ◌+◌, ◌≤◌, [], ◌∷◌, ◌++◌, length, replicate, sym, ◌∙◌, ap, arith}
 use Rattle.std.proofs.lemmas.List.{length-replicate}
 use Rattle.hk_words.specs.declared.geometry.Geometry.{Geometry}
 use Rattle.hk_core.specs.declared.spot.Work.{Work}
 use Rattle.hk_core.specs.declared.spot.Work.TheVariants.{Useful, Worn}
-use Rattle.hk_core.specs.Run.{Action}
 use Rattle.hk_table.specs.Knows.{KeeperView}
 use Rattle.hk_keeper.specs.Collected.{answers, Answers, useful, stopped, worn, Collected}
 

@@ -1,15 +1,15 @@
 -- Calls of the collector, one after the other.
-use Rattle.std.proofs.Common.{◌≡◌, ◌≢◌, ℕ, ◌+◌, ◌<◌, ◌≤◌, List, [], ◌∷◌, ◌++◌, replicate, refl, sym, ◌∙◌, ap, subst, arith, append-nil, append_assoc}
+use Rattle.std.proofs.Common.{◌≡◌, ◌≢◌, ℕ, ◌+◌, ◌≤◌, List, [], ◌∷◌, ◌++◌, replicate, refl, sym, ◌∙◌, ap, subst, arith, append-nil, append_assoc}
 use Rattle.std.proofs.lemmas.List.{replicate-append-replicate}
 use Rattle.std.proofs.lemmas.List.Elements.{filter-append}
 use Rattle.hk_words.specs.declared.geometry.Geometry.{Geometry}
 use Rattle.hk_core.specs.declared.spot.Work.{Work}
 use Rattle.hk_core.specs.declared.spot.Work.TheVariants.{Useful, Worn}
 use Rattle.hk_core.specs.Collect.{work_by_collector}
-use Rattle.hk_core.specs.Run.{Action, collect, act, run, run_from_opening}
+use Rattle.hk_core.specs.Run.{Action, collect, run, run_from_opening}
 use Rattle.hk_collect.proofs.Running.{history_kept}
 use Rattle.hk_collect.specs.Works.{HasCauses}
-use Rattle.hk_table.specs.Actions.{is_collect, collects}
+use Rattle.hk_table.specs.Actions.{is_collect}
 use Rattle.hk_table.specs.Knows.{KeeperView}
 use Rattle.hk_table.proofs.Keeps.{run_more}
 use Rattle.hk_keeper.specs.Collected.{answers, EndsWith, Answers, useful, stopped, worn, flips, AddsNothing, Collected}

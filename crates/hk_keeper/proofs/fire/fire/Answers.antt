@@ -1,4 +1,4 @@
-use Rattle.std.proofs.Common.{◌≡◌, ℕ, ◌<◌, Some, subst, sym, ap, ◌∙◌}
+use Rattle.std.proofs.Common.{◌<◌, Some, subst, ap, ◌∙◌}
 use Rattle.hk_core.specs.declared.event.Event.{Event}
 use Rattle.hk_core.specs.Event.{word_of}
 use Rattle.hk_table.proofs.KeeperFiring.{collects_load, collects_store, collects_swap, collects_add, collects_sub, collects_max, collects_trade}

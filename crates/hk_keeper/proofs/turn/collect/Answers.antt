@@ -1,4 +1,4 @@
-use Rattle.std.proofs.Common.{◌≡◌, ℕ, ◌+◌, ◌<◌, ◌≤◌, ap, sym, arith, subst, ◌∙◌}
+use Rattle.std.proofs.Common.{◌+◌, arith}
 use Rattle.hk_table.specs.Passes.{kept}
 use Rattle.hk_keeper.proofs.Together.{nothing_yet}
 use Rattle.hk_keeper.proofs.Turns.{goes_on, is_over}

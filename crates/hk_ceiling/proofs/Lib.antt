@@ -1,0 +1,12 @@
+pub mod Alone
+pub mod Bound
+pub mod Chosen
+pub mod HeldUp
+pub mod Levels
+pub mod Nested
+pub mod Orders
+pub mod Placed
+pub mod Promised
+pub mod Raised
+pub mod Scheduled
+pub mod Still

@@ -1,0 +1,5 @@
+pub mod Bounds
+pub mod Ceilings
+pub mod Choice
+pub mod Order
+pub mod Promises

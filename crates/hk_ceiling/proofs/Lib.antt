@@ -9,4 +9,5 @@ pub mod Placed
 pub mod Promised
 pub mod Raised
 pub mod Scheduled
+pub mod Spelled
 pub mod Still

@@ -3,3 +3,5 @@ pub mod Ceilings
 pub mod Choice
 pub mod Order
 pub mod Promises
+pub mod Told
+pub mod Words

@@ -1,6 +1,10 @@
+//! Sections by the numbers of their tasks, ceilings, and how long a section may hold a task up.
 ghost use Rattle.std.specs.Prelude.{◌≡◌, ℕ, ◌+◌, ◌<◌, ◌≤◌, ◌^◌, List, length, IfSome};
 ghost use Rattle.hk_ceiling.specs.Ceilings.{is_inside, inside_at, ceiling, can_block, block};
 ghost use Rattle.hk_ceiling.specs.Choice.{is_there};
+
+/// The most sections.
+pub const MAX_SECTIONS: usize = 64;
 
 /// A critical section of a task's jobs: they hold a resource in their ticks `start` to `start + len - 1`.
 #[derive(Clone, Copy, Debug, PartialEq, Eq)]

@@ -3,12 +3,9 @@ ghost use Rattle.std.specs.Prelude.{◌≡◌, ℕ, ◌+◌, ◌<◌, ◌≤◌,
 ghost use Rattle.hk_plan.specs.declared.Ready.{Ready};
 ghost use Rattle.hk_ceiling.specs.Choice.{level_of_row, is_in_section, goes_before_at, by_ceilings};
 
-use crate::ceilings::{TaskSection, ceiling, inside_at};
+use crate::ceilings::{MAX_SECTIONS, TaskSection, ceiling, inside_at};
 use hk_dispatch::{Pick, Ready};
 use std::marker::Model;
-
-/// The most sections.
-pub const MAX_SECTIONS: usize = 64;
 
 /// The level of a ready job, and whether it is inside a section.
 fn level(sections: &[TaskSection], row: Ready) -> (u8, bool)

@@ -6,6 +6,9 @@ mod choice;
 mod laws;
 mod order;
 mod responses;
+mod told;
+mod words;
 
-pub use ceilings::TaskSection;
-pub use choice::{Ceiling, MAX_SECTIONS};
+pub use ceilings::{MAX_SECTIONS, TaskSection};
+pub use choice::Ceiling;
+pub use told::{Section, Sections};

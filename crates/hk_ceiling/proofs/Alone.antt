@@ -2,9 +2,8 @@
 use Rattle.std.proofs.Common.{◌≡◌, ℕ, suc, ◌+◌, ◌<◌, ◌≤◌, ◌⊎◌, Bool, true, false, ◌&&◌, nat_lt, nat_le, List, Option, Some, None, length, get_or, refl, sym, ap, ◌∙◌, subst, arith, inl, inr, if◌then◌else◌}
 use Rattle.std.proofs.lemmas.Bool.{cases_lt, cases_eq, cases_Bool, and_parts, and_from, ltb-true, leb-true, lt-ltb, le-ltb, le-leb, eq-eqb, ne_eqb}
 use Rattle.hk_plan.specs.declared.Ready.{Ready}
-use Rattle.hk_plan.specs.Alone.{task_of, arrival_of, tick_for}
+use Rattle.hk_plan.specs.Alone.{arrival_of, tick_for}
 use Rattle.hk_plan.specs.AloneBy.{Jobs, IsJob, rows_below, no_ready, ready_at, is_ready_job, earliest, row_for, alone_turn, is_some_at, alone_had}
-use Rattle.hk_plan.specs.LeastTask.{HasJob}
 use Rattle.hk_plan.proofs.Had.{tick_for_same, tick_for_other, tick_for_nobody}
 use Rattle.hk_plan.proofs.JobRows.{job_rows, place}
 use Rattle.hk_plan.proofs.ReadyRows.{FirstIs, NoneIs, first_law, row_from, row_to, chosen_law}

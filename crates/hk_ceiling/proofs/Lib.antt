@@ -2,6 +2,7 @@ pub mod Alone
 pub mod Bound
 pub mod Chosen
 pub mod HeldUp
+pub mod Late
 pub mod Levels
 pub mod Nested
 pub mod Orders

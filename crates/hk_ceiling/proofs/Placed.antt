@@ -1,8 +1,8 @@
 -- The jobs of some tasks by the places of their rows, and their schedule over these places.
-use Rattle.std.proofs.Common.{◌≡◌, ℕ, ◌+◌, ◌-◌, ◌<◌, nat_lt, if◌then◌else◌, List, Option, Some, None, length, sym, ap, ◌∙◌, refl, arith}
+use Rattle.std.proofs.Common.{◌≡◌, ℕ, ◌-◌, ◌<◌, nat_lt, if◌then◌else◌, List, Option, Some, None, length, sym, ap, ◌∙◌, refl, arith}
 use Rattle.std.proofs.lemmas.Bool.{lt-ltb}
 use Rattle.hk_plan.specs.declared.Ready.{Ready}
-use Rattle.hk_plan.specs.Alone.{task_of, arrival_of, ticks_of}
+use Rattle.hk_plan.specs.Alone.{task_of}
 use Rattle.hk_plan.specs.AloneBy.{Jobs, IsJob, earliest, alone_turn, alone_had}
 use Rattle.hk_plan.specs.LeastTask.{IsRowOf, HasJob}
 use Rattle.hk_plan.proofs.JobRows.{rows_before, job_rows, place, job_rows_list}

@@ -1,5 +1,5 @@
 -- The promises over the jobs themselves.
-use Rattle.std.proofs.Common.{◌≡◌, ℕ, zero, suc, ◌+◌, ◌-◌, ◌<◌, ◌≤◌, Bool, true, false, ◌&&◌, List, Option, Some, None, refl, sym, ap, ◌∙◌, subst, arith, inl, inr, if◌then◌else◌}
+use Rattle.std.proofs.Common.{◌≡◌, ℕ, zero, suc, ◌+◌, ◌-◌, ◌<◌, ◌≤◌, Bool, true, false, ◌&&◌, List, Option, Some, None, refl, sym, ap, ◌∙◌, subst, arith, inl, inr}
 use Rattle.std.proofs.lemmas.Bool.{cases_Bool, and_parts, eqb-true}
 use Rattle.hk_rta.specs.declared.Timing.{Timing}
 use Rattle.hk_rta.specs.Demand.{timing_at}
@@ -12,7 +12,7 @@ use Rattle.hk_plan.specs.LeastTask.{HasJob}
 use Rattle.hk_plan.proofs.JobRows.{job_rows, place}
 use Rattle.hk_ceiling.specs.declared.ceilings.TaskSection.{TaskSection}
 use Rattle.hk_ceiling.specs.Choice.{by_ceilings}
-use Rattle.hk_ceiling.specs.Promises.{done, Gets, IsReadyJob, JobHolds, OneHolder, HeldUp, InSection, HeldUpByOne, EndsBy, EndInTime}
+use Rattle.hk_ceiling.specs.Promises.{done, Gets, IsReadyJob, JobHolds, OneHolder, HeldUp, InSection, HeldUpByOne, EndInTime}
 use Rattle.hk_ceiling.proofs.Scheduled.{IsReady, Holds, HoldsUp, Blocks}
 use Rattle.hk_ceiling.proofs.Alone.{had, got, exclusive_alone, held_by_one_alone, bounds_alone}
 use Rattle.hk_ceiling.proofs.Placed.{at_turn, at_job, is_row, job_of, task_is, same_task, same_job, its_had}

@@ -1,7 +1,9 @@
+pub mod Admission
 pub mod Bounds
 pub mod Ceilings
 pub mod Choice
 pub mod Order
 pub mod Promises
+pub mod Single
 pub mod Told
 pub mod Words

@@ -1,5 +1,5 @@
 -- The words of sections: NAME:RES:START:LEN.
-use Rattle.std.specs.Prelude.{◌≡◌, ℕ, min, Bool, true, ◌&&◌, nat_eq, nat_lt, nat_le, List, length, map, Option, Some, None, if◌then◌else◌, String, string_bytes}
+use Rattle.std.specs.Prelude.{◌≡◌, ℕ, min, Bool, ◌&&◌, nat_eq, nat_lt, nat_le, List, length, map, Option, Some, None, if◌then◌else◌, String, string_bytes}
 use Rattle.std.specs.declared.alloc.Global.{Global}
 use Rattle.std.specs.List.{before_first, after_first, position_or_len, list_all}
 use Rattle.std.specs.Char.{is_ascii_digit}

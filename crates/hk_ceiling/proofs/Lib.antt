@@ -1,5 +1,6 @@
 pub mod Alone
 pub mod Bound
+pub mod Came
 pub mod Chosen
 pub mod HeldUp
 pub mod Late
@@ -10,5 +11,7 @@ pub mod Placed
 pub mod Promised
 pub mod Raised
 pub mod Scheduled
+pub mod SessionTicks
+pub mod Sessions
 pub mod Spelled
 pub mod Still

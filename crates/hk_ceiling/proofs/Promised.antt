@@ -116,22 +116,22 @@ module _ (sections : List TaskSection) (jobs : Jobs) where
 -- ---- a job that has had all its ticks has an end
 
 module _ (choice : List Ready → ℕ) (jobs : Jobs) where
-  at_some : (o : Option ℕ) (k : ℕ) → is_some_at o k ≡ true → o ≡ Some k
+  pub at_some : (o : Option ℕ) (k : ℕ) → is_some_at o k ≡ true → o ≡ Some k
   at_some None k e = absurd (cc)
   at_some (Some m) k e = ap (λ x. Some x) (eqb-true m k e)
 
-  abbrev gets_it : ℕ → ℕ → ℕ → Bool
+  abbrev pub gets_it : ℕ → ℕ → ℕ → Bool
   gets_it t i j = is_some_at (alone_turn choice jobs (alone_had choice jobs t) t) i && is_some_at (earliest jobs (alone_had choice jobs t) t i) j
 
   one_more : (t i j : ℕ) → gets_it t i j ≡ true → alone_had choice jobs (suc t) i j ≡ alone_had choice jobs t i j + 1
   unfolding alone_had
   one_more t i j e = rw e refl
 
-  none_more : (t i j : ℕ) → gets_it t i j ≡ false → alone_had choice jobs (suc t) i j ≡ alone_had choice jobs t i j
+  pub none_more : (t i j : ℕ) → gets_it t i j ≡ false → alone_had choice jobs (suc t) i j ≡ alone_had choice jobs t i j
   unfolding alone_had
   none_more t i j e = rw e (omega arith)
 
-  none_first : (i j : ℕ) → alone_had choice jobs 0 i j ≡ 0
+  pub none_first : (i j : ℕ) → alone_had choice jobs 0 i j ≡ 0
   unfolding alone_had
   none_first i j = refl
 

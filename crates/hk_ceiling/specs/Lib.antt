@@ -4,6 +4,7 @@ pub mod Ceilings
 pub mod Choice
 pub mod Order
 pub mod Promises
+pub mod Sessions
 pub mod Single
 pub mod Told
 pub mod Words

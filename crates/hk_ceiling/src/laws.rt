@@ -1,5 +1,7 @@
-//! Laws of the schedule of the high jobs alone by ceilings. These functions take no time; their clauses are the laws.
+//! Laws of the choice by ceilings: of the schedule of the high jobs alone, and of sessions. These functions take no time; their
+//! clauses are the laws.
 ghost use Rattle.hk_ceiling.specs.Promises.{OneHolder, HeldUpByOne, EndInTime};
+ghost use Rattle.hk_ceiling.specs.Sessions.{CeilingsChoose, OneHolderAtATime, HeldUpByOneSection, JobsEndWithin};
 
 /// The law of exclusion: at no tick do two jobs hold one resource.
 pub fn one_job_holds_a_resource()
@@ -14,4 +16,26 @@ pub fn one_section_holds_a_job_up()
 /// The law of response times, with room for one section.
 pub fn response_bounds_every_job()
     ensures { EndInTime }
+{}
+
+/// The choice by ceilings is one of the rows that it is told.
+pub fn ceilings_choose()
+    ensures { CeilingsChoose }
+{}
+
+/// In a session whose high jobs are chosen by the ceilings of sections of which none is wrong, no two jobs hold one resource at
+/// one tick.
+pub fn sessions_exclude()
+    ensures { OneHolderAtATime }
+{}
+
+/// And a job is held up by at most one section of one job of a later task.
+pub fn sessions_hold_up_once()
+    ensures { HeldUpByOneSection }
+{}
+
+/// And each job whose arrival and response time lie within the run ends within its response time, which has room for one section
+/// of a later task, and when the schedule of the high jobs alone ends it.
+pub fn sessions_end_in_time()
+    ensures { JobsEndWithin }
 {}

@@ -27,7 +27,7 @@ fn goes_before(first: (u8, bool), second: (u8, bool)) -> bool
 
 /// The place of the row that the choice by ceilings chooses.
 #[tactic(auto, unfolding(crate::specs::Choice::best_below))]
-fn best(sections: &[TaskSection], rows: &[Ready]) -> usize
+pub(crate) fn best(sections: &[TaskSection], rows: &[Ready]) -> usize
     requires { 0 < length rows.now }
     ensures value { result ≡ by_ceilings sections.now rows.now }
     ensures within { result < length rows.now }

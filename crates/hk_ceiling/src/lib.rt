@@ -19,3 +19,6 @@ pub use choice::Ceiling;
 pub use refused::CeilRefused;
 pub use told::{Section, Sections};
 pub use words::read_sections;
+
+#[cfg(test)]
+mod tests;

@@ -108,7 +108,8 @@ fn section(alloc: Global, word: &str) -> Result<Option<Section>, AllocError>
 /// The sections that the words tell, where there are at most 64 and each is of the form `NAME:RES:START:LEN`: a task's name,
 /// and three numbers of 1 to 8 decimal digits. A resource above 255 is told as 255.
 pub fn read_sections(alloc: Global, words: &[String]) -> Result<Option<Sections>, AllocError>
-    ensures { IfOk result (λ found. MatchOption found (are_sections words.now ≡ false) (λ s. (are_sections words.now ≡ true) × (s ≡ sections_from words.now))) }
+    ensures sections { IfOk result (λ found. MatchOption found (are_sections words.now ≡ false) (λ s. (are_sections words.now ≡ true) × (s ≡ sections_from words.now))) }
+    ensures few { IfOk result (λ found. IfSome found (λ s. length s ≤ 64)) }
 {
     if words.len() > MAX_SECTIONS {
         return Ok(None);

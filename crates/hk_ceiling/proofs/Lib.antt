@@ -2,6 +2,8 @@ pub mod Alone
 pub mod Bound
 pub mod Came
 pub mod Chosen
+pub mod Excluded
+pub mod Headline
 pub mod HeldUp
 pub mod Late
 pub mod Levels

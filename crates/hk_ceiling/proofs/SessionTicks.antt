@@ -1,17 +1,16 @@
 -- What a session's ticks say of the schedule of its high jobs alone by ceilings.
-use Rattle.std.proofs.Common.{◌≡◌, ℕ, zero, suc, ◌+◌, ◌<◌, ◌≤◌, Bool, true, false, List, length, Option, Some, None, refl, sym, ◌∙◌, ap, subst, arith, inl, inr}
+use Rattle.std.proofs.Common.{◌≡◌, ℕ, suc, ◌<◌, ◌≤◌, true, false, List, length, Option, Some, None, refl, sym, ◌∙◌, ap, subst, arith, inl, inr}
 use Rattle.std.proofs.lemmas.Bool.{and_parts, ltb-true, leb-true, eq-eqb}
 use Rattle.std.specs.Prelude.{nat_lt, nat_le}
 use Rattle.hk_words.specs.declared.geometry.Geometry.{Geometry}
 use Rattle.hk_plan.specs.declared.Ready.{Ready}
-use Rattle.hk_plan.specs.AloneBy.{Jobs, IsJob, is_some_at, alone_had}
+use Rattle.hk_plan.specs.AloneBy.{Jobs, is_some_at, alone_had}
 use Rattle.hk_sheet.specs.declared.sheet.Sheet.{Sheet}
-use Rattle.hk_dispatch.specs.Tasks.{task_at}
 use Rattle.hk_dispatch.specs.Moment.{Moment}
-use Rattle.hk_dispatch.specs.Turns.{Turn, to_task, to_collector, to_nobody, turn}
+use Rattle.hk_dispatch.specs.Turns.{Turn, to_task, turn}
 use Rattle.hk_dispatch.specs.Ticks.{after_task, after_turn}
 use Rattle.hk_dispatch.specs.Session.{after_tick, state, who_gets, IsSession, IsMoment, IsTick}
-use Rattle.hk_dispatch.specs.Rules.{ready_now, NoHighReady, TurnIs, by_high, by_operation, by_collector, by_low, by_nobody}
+use Rattle.hk_dispatch.specs.Rules.{ready_now, TurnIs, by_high, by_operation, by_collector, by_low, by_nobody}
 use Rattle.hk_dispatch.specs.HighJobs.{is_to, jobs_by}
 use Rattle.hk_dispatch.proofs.JobCounters as counter
 use Rattle.hk_dispatch.proofs.JobCounters.{AreCounters}
@@ -21,7 +20,6 @@ use Rattle.hk_dispatch.proofs.HighTicks.{high_turn, named, due}
 use Rattle.hk_dispatch.proofs.AloneRun as run
 use Rattle.hk_dispatch.proofs.TurnFacts as turns
 use Rattle.hk_ceiling.specs.declared.ceilings.TaskSection.{TaskSection}
-use Rattle.hk_ceiling.specs.Ceilings.{section_at}
 use Rattle.hk_ceiling.specs.Choice.{by_ceilings}
 use Rattle.hk_ceiling.specs.Promises.{done, Gets, IsReadyJob, JobHolds, InOrder, HeldUp, InSection}
 use Rattle.hk_ceiling.specs.Sessions.{course, HoldsAt, HeldUpAt, InSectionAt}

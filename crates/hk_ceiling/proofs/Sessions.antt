@@ -23,7 +23,7 @@ use Rattle.hk_dispatch.proofs.ListedJobs as arriving
 use Rattle.hk_dispatch.proofs.ReadyMoments.{high_right}
 use Rattle.hk_ceiling.specs.declared.ceilings.TaskSection.{TaskSection}
 use Rattle.hk_ceiling.specs.Admission.{AreResponses}
-use Rattle.hk_ceiling.specs.Bounds.{AreStill, Response}
+use Rattle.hk_ceiling.specs.Bounds.{AreStill}
 use Rattle.hk_ceiling.specs.Ceilings.{section_at, AreApart}
 use Rattle.hk_ceiling.specs.Choice.{by_ceilings}
 use Rattle.hk_ceiling.specs.Promises.{EndsBy}

@@ -1,5 +1,13 @@
 //! Laws of the choice by ceilings: of the schedule of the high jobs alone, and of sessions. These functions take no time; their
 //! clauses are the laws.
+ghost use Rattle.std.specs.Prelude.{◌≡◌, ◌≢◌, ℕ, List};
+ghost use Rattle.hk_sheet.specs.declared.sheet.Sheet.{Sheet};
+ghost use Rattle.hk_admit.specs.Facts.{IsChecked};
+ghost use Rattle.hk_ceiling.specs.declared.told.Section.{Section};
+ghost use Rattle.hk_ceiling.specs.declared.refused.CeilRefused.{CeilRefused};
+ghost use Rattle.hk_ceiling.specs.declared.refused.CeilRefused.TheVariants.{Memory};
+ghost use Rattle.hk_ceiling.specs.Admission.{IsHeld, IsCeilRefusal};
+ghost use Rattle.hk_ceiling.specs.Headline.{HeadlineHolds};
 ghost use Rattle.hk_ceiling.specs.Promises.{OneHolder, HeldUpByOne, EndInTime};
 ghost use Rattle.hk_ceiling.specs.Sessions.{CeilingsChoose, OneHolderAtATime, HeldUpByOneSection, JobsEndWithin};
 
@@ -38,4 +46,22 @@ pub fn sessions_hold_up_once()
 /// of a later task, and when the schedule of the high jobs alone ends it.
 pub fn sessions_end_in_time()
     ensures { JobsEndWithin }
+{}
+
+/// All that is promised of the run of a sheet that is admitted with its sections.
+pub fn headline_holds()
+    ensures { HeadlineHolds }
+{}
+
+/// A sheet and sections with what [`Held`](crate::Held) keeps of them have no refusal but want of memory. So a sheet is admitted
+/// exactly where nothing is wrong with it and its sections.
+pub fn no_refusal()
+    ensures { (sheet : Sheet) (sections : List Section) (work attempt busy debt : ℕ) (responses : List ℕ) (refused : CeilRefused)
+        → IsChecked sheet work attempt busy debt → IsHeld sheet sections responses → IsCeilRefusal sheet sections refused → refused ≡ Memory }
+{}
+
+/// They have one refusal at most, but for want of memory: the first.
+pub fn one_refusal()
+    ensures { (sheet : Sheet) (sections : List Section) (one other : CeilRefused)
+        → IsCeilRefusal sheet sections one → IsCeilRefusal sheet sections other → one ≢ Memory → other ≢ Memory → one ≡ other }
 {}

@@ -13,3 +13,5 @@ pub mod Kept
 pub mod Rules
 pub mod Jobs
 pub mod Laws
+pub mod TaskRuns
+pub mod Opened

@@ -1,13 +1,14 @@
 //! Sessions: who gets each tick. High jobs go by a choice among those that are ready; the collector pays for what was taken
 //! after them, and before low jobs go on.
-//!
-//! Today: the definitions of sessions and of what they promise, the tick of an operation, and the first laws of sessions.
 #![tactic(auto)]
 
 mod laws;
 mod operation;
 mod pick;
+mod roster;
+mod run;
 mod schedule;
+mod session;
 mod tick;
 
 pub use hk_plan::Ready;
@@ -19,4 +20,5 @@ pub use laws::{
 pub use operation::{Left, ask, operate};
 pub use pick::{First, Pick};
 pub use schedule::{ends_are_alone, jobs_end_in_time};
+pub use session::{Session, SessionBy};
 pub use tick::{Chore, End, JobFault, Tick, Who};

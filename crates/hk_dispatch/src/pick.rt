@@ -8,7 +8,7 @@ use hk_plan::Ready;
 /// It is told one row for each high task that has a ready job, in the order of the sheet. It takes no memory.
 pub trait Pick: Drop {
     ghost use Rattle.hk_plan.specs.declared.Ready.{Ready};
-    ghost use Rattle.hk_dispatch.specs.Rows.{TasksRise};
+    ghost use Rattle.hk_dispatch.specs.Rows.{TasksRise, IsChoice};
 
     /// The place of the row that is chosen: a function of the choice and of the rows.
     ghost choice: { Self → List Ready → ℕ };
@@ -19,6 +19,9 @@ pub trait Pick: Drop {
         requires rising { TasksRise ready.now }
         ensures chosen { result ≡ choice self.now ready.now }
         ensures within { result < length ready.now };
+
+    /// Of any such rows it chooses one.
+    ghost chooses: { (pick : Self) → IsChoice (choice pick) };
 }
 
 /// The first row: the job of the first high task in the order of the sheet.
@@ -27,6 +30,8 @@ pub struct First;
 
 impl Pick for First {
     ghost choice = { λ pick rows. 0 };
+
+    ghost chooses = { λ pick rows some rising. some };
 
     fn pick(&self, _ready: &[Ready]) -> usize {
         0

@@ -1,7 +1,7 @@
 -- How a program ends.
 use Rattle.std.specs.Prelude.{ℕ}
 use Rattle.hk_io.specs.declared.Status.{Status}
-use Rattle.hk_io.specs.declared.Status.TheVariants.{Done, Memory, Usage, ReadFault, WriteFault, Sheet, NotAdmitted, NotBuilt}
+use Rattle.hk_io.specs.declared.Status.TheVariants.{Done, Memory, Usage, ReadFault, WriteFault, Sheet, NotAdmitted, Live}
 
 -- the exit status of a program that ends so
 abbrev pub number_of : Status → ℕ
@@ -12,4 +12,4 @@ number_of ReadFault = 3
 number_of WriteFault = 4
 number_of Sheet = 5
 number_of NotAdmitted = 6
-number_of NotBuilt = 9
+number_of Live = 7

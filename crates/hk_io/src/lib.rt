@@ -5,6 +5,7 @@ ghost use Rattle.std.specs.Prelude.{◌≡◌};
 ghost use Rattle.hk_io.specs.Status.{number_of};
 
 mod buffer;
+mod decimal;
 mod faults;
 mod gather;
 mod line;
@@ -17,6 +18,7 @@ mod streams;
 mod tests;
 mod whole;
 
+pub use decimal::{MAX_DIGITS, number};
 pub use faults::{Failed, Memory, TakeFault};
 pub use gather::{GATHER_ROOM, Gather};
 pub use line::{LINE_ROOM, Line};
@@ -44,8 +46,8 @@ pub enum Status {
     Sheet,
     /// The sheet is not admitted. One line was written.
     NotAdmitted,
-    /// The sheet is admitted, and sheets like it aren't run yet. One line was written.
-    NotBuilt,
+    /// The collector found more words live than the sheet declares, and the run ended there. The whole text was written.
+    Live,
 }
 
 impl Status {
@@ -61,7 +63,7 @@ impl Status {
             Status::WriteFault => 4,
             Status::Sheet => 5,
             Status::NotAdmitted => 6,
-            Status::NotBuilt => 9,
+            Status::Live => 7,
         }
     }
 }

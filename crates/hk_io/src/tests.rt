@@ -16,7 +16,7 @@ fn statuses_have_their_numbers(rt: HostRuntime) {
         (Status::WriteFault, 4),
         (Status::Sheet, 5),
         (Status::NotAdmitted, 6),
-        (Status::NotBuilt, 9),
+        (Status::Live, 7),
     ];
     for (status, number) in table {
         assert_eq!(rt; status.number(), number);

@@ -1,6 +1,5 @@
 -- Words and bytes call for one end, and for one text.
-use Rattle.std.proofs.Common.{◌≡◌, ◌≢◌, ℕ, ◌-◌, ◌<◌, ◌≤◌, ◌⊎◌, inl, inr, true, List, ◌++◌, length, Result, Ok, Err, refl, sym, ap, ◌∙◌, subst, arith, slice_index, String, Global}
-use Rattle.std.proofs.lemmas.Bool.{both_ways}
+use Rattle.std.proofs.Common.{◌≡◌, ◌≢◌, ℕ, ◌-◌, ◌<◌, ◌≤◌, ◌⊎◌, inl, inr, List, ◌++◌, length, Option, Some, None, Result, Ok, Err, refl, sym, ap, ◌∙◌, subst, arith, slice_index}
 use Rattle.std.proofs.lemmas.Grind.{same_number_lists}
 use Rattle.std.specs.Prelude.{unwrap_or}
 use Rattle.toml.specs.Data.{Members}
@@ -12,7 +11,7 @@ use Rattle.hk_sheet.specs.declared.error.SheetError.{SheetError}
 use Rattle.hk_sheet.specs.declared.error.SheetError.TheVariants as unread
 use Rattle.hk_sheet.specs.declared.sheet.Sheet.{Sheet}
 use Rattle.hk_sheet.specs.Answers.{IsDocument, IsRead, Answers}
-use Rattle.hk_sheet.specs.Faults.{sheet_of}
+use Rattle.hk_sheet.specs.Faults.{sheet_of, sizes_of}
 use Rattle.hk_admit.specs.declared.checked.Admitted.{Admitted}
 use Rattle.hk_admit.specs.declared.refused.Refused.{Refused}
 use Rattle.hk_admit.specs.declared.refused.Refused.TheVariants as refused
@@ -21,11 +20,18 @@ use Rattle.hk_admit.specs.Conditions.{AreResponses}
 use Rattle.hk_admit.specs.Refusals.{IsRefusal}
 use Rattle.hk_admit.proofs.Excluded.{admitted_excludes, one_busy}
 use Rattle.hk_admit.proofs.Unique.{one_refusal}
+use Rattle.hk_words.specs.declared.geometry.Geometry.{Geometry}
+use Rattle.hk_words.specs.Geometry.{HasSizes}
+use Rattle.hk_words.proofs.OneGeometry.{one_geometry}
+use Rattle.hk_plan.specs.AloneBy.{least_task}
+use Rattle.hk_top.specs.declared.report.Form.{Form}
+use Rattle.hk_top.specs.declared.report.Form.TheVariants as form
+use Rattle.hk_top.specs.declared.tool.Command.{Command}
+use Rattle.hk_top.specs.declared.tool.Command.TheVariants as command
 use Rattle.hk_top.specs.Refusals.{usage_line, sheet_line, refused_line}
-use Rattle.hk_top.specs.Report.{high_lines, low_lines, ticks_text, closing, analysis, report}
-use Rattle.hk_top.specs.Session.{state}
-use Rattle.hk_top.specs.Text.{heap_line}
-use Rattle.hk_top.specs.Tool.{IsRun, is_unbuilt, IsSheetOf, IsNoSheet, IsUnread, too_long, no_sheet, IsNotAdmitted, IsNotBuilt, IsReport, BytesCallFor, CallsFor}
+use Rattle.hk_top.specs.Report.{analysis, IsRunText}
+use Rattle.hk_top.specs.Tool.{analysis_of, status_of, IsSheetOf, IsNoSheet, IsUnread, too_long, no_sheet, IsNotAdmitted, IsAnalysis, IsReport, IsAnswer, IsSimulation, answer_for, BytesCallFor, CommandCallsFor}
+use Rattle.hk_top.proofs.OneRun.{one_run}
 
 -- A SHEET
 
@@ -103,11 +109,6 @@ none_admitted bytes text a n x =
     n.told (admitted_excludes a.checked.sheet a.checked.work a.checked.attempt a.checked.busy a.checked.debt a.responses n.why a.checked.sound a.in_time
     (subst (λ s. IsRefusal s n.why) same n.refusal))
 
-none_built : (bytes text other : List ℕ) → IsNotBuilt bytes text → IsReport bytes other → ⊥
-none_built bytes text other n r =
-    let same = one_sheet bytes n.admitted.checked.sheet r.admitted.checked.sheet n.is r.is in
-    both_ways (is_unbuilt r.admitted.checked.sheet) r.built (subst (λ s. is_unbuilt s ≡ true) same n.unbuilt)
-
 -- THE TEXTS
 
 one_unread : (bytes t t' : List ℕ) → IsUnread bytes t → IsUnread bytes t' → t ≡ t'
@@ -138,19 +139,9 @@ one_responses tasks rs qs a b = same_number_lists rs qs (a.whole ∙ sym b.whole
         let since = q.after_jitter in
         omega (arith, first, second, from, since)
 
--- a report by the numbers in it
-report_by : Sheet → (work attempt busy debt : ℕ) → (responses : List ℕ) → List ℕ
-report_by sheet work attempt busy debt responses =
-    heap_line work attempt busy debt ++ high_lines sheet.high responses ++ low_lines sheet.low
-    ++ ticks_text sheet sheet.ticks ++ closing sheet (state sheet sheet.ticks)
-
-report_is : (a : Admitted) → report a ≡ report_by a.checked.sheet a.checked.work a.checked.attempt a.checked.busy a.checked.debt a.responses
-unfolding report analysis report_by
-report_is a = refl
-
--- a sheet that is admitted has one report
-same_report : (a b : Admitted) → a.checked.sheet ≡ b.checked.sheet → report a ≡ report b
-same_report a b same =
+-- a sheet that is admitted has one analysis
+same_analysis : (a b : Admitted) → a.checked.sheet ≡ b.checked.sheet → analysis_of a ≡ analysis_of b
+same_analysis a b same =
     let x = a.checked.sound in
     let y = b.checked.sound in
     let sheet = b.checked.sheet in
@@ -160,83 +151,89 @@ same_report a b same =
     let debt : a.checked.debt ≡ b.checked.debt = x.debt_is ∙ ap (λ s. most_owed s a.checked.busy) same ∙ ap (most_owed sheet) busy ∙ sym y.debt_is in
     let responses : a.responses ≡ b.responses =
     one_responses (timings_of sheet.high) a.responses b.responses (subst (λ (s : Sheet). AreResponses (timings_of s.high) a.responses) same a.in_time) b.in_time in
-    report_is a
-    ∙ ap (λ s. report_by s a.checked.work a.checked.attempt a.checked.busy a.checked.debt a.responses) same
-    ∙ ap (λ n. report_by sheet n a.checked.attempt a.checked.busy a.checked.debt a.responses) work
-    ∙ ap (λ n. report_by sheet b.checked.work n a.checked.busy a.checked.debt a.responses) attempt
-    ∙ ap (λ n. report_by sheet b.checked.work b.checked.attempt n a.checked.debt a.responses) busy
-    ∙ ap (λ n. report_by sheet b.checked.work b.checked.attempt b.checked.busy n a.responses) debt
-    ∙ ap (report_by sheet b.checked.work b.checked.attempt b.checked.busy b.checked.debt) responses
-    ∙ sym (report_is b)
+    ap (λ s. analysis s a.checked.work a.checked.attempt a.checked.busy a.checked.debt a.responses) same
+    ∙ ap (λ n. analysis sheet n a.checked.attempt a.checked.busy a.checked.debt a.responses) work
+    ∙ ap (λ n. analysis sheet b.checked.work n a.checked.busy a.checked.debt a.responses) attempt
+    ∙ ap (λ n. analysis sheet b.checked.work b.checked.attempt n a.checked.debt a.responses) busy
+    ∙ ap (λ n. analysis sheet b.checked.work b.checked.attempt b.checked.busy n a.responses) debt
+    ∙ ap (analysis sheet b.checked.work b.checked.attempt b.checked.busy b.checked.debt) responses
 
-one_report : (bytes t t' : List ℕ) → IsReport bytes t → IsReport bytes t' → t ≡ t'
-one_report bytes t t' a b =
-    a.text_is ∙ same_report a.admitted b.admitted (one_sheet bytes a.admitted.checked.sheet b.admitted.checked.sheet a.is b.is) ∙ sym b.text_is
+-- two answers for one sheet are one end and one text
+abbrev IsOne : (Admitted → Status → List ℕ → Type 0) → Type 0
+IsOne Answer = (a b : Admitted) → a.checked.sheet ≡ b.checked.sheet → (s s' : Status) (t t' : List ℕ) → Answer a s t → Answer b s' t' → (s ≡ s') × (t ≡ t')
+
+one_analysis : IsOne IsAnalysis
+one_analysis a b same s s' t t' x y = (x.ended_is ∙ sym y.ended_is, x.text_is ∙ same_analysis a b same ∙ sym y.text_is)
+
+one_report : (f : Form) → IsOne (IsReport f)
+one_report f a b same s s' t t' x y =
+    let sheet = b.checked.sheet in
+    let geometry : x.geometry ≡ y.geometry = one_geometry x.geometry y.geometry (sizes_of sheet) (subst (λ (s : Sheet). HasSizes x.geometry (sizes_of s)) same x.sizes) y.sizes in
+    let here : IsRunText f y.geometry least_task sheet x.finish x.run =
+    subst (λ g. IsRunText f g least_task sheet x.finish x.run) geometry (subst (λ (s : Sheet). IsRunText f x.geometry least_task s x.finish x.run) same x.run_is) in
+    let one = one_run y.geometry least_task sheet f x.finish y.finish x.run y.run here y.run_is in
+    (x.ended_is ∙ ap status_of one.0 ∙ sym y.ended_is, x.text_is ∙ ap (λ r. r ++ x.run) (same_analysis a b same) ∙ ap (λ r. analysis_of b ++ r) one.1 ∙ sym y.text_is)
+
+one_answer : (f : Option Form) → IsOne (answer_for f)
+one_answer None = one_analysis
+one_answer (Some f) = one_report f
 
 -- THE END AND THE TEXT
+module _ (Answer : Admitted → Status → List ℕ → Type 0) (one : IsOne Answer) (bytes : List ℕ) where
+  answers : (s s' : Status) (t t' : List ℕ) → IsAnswer Answer bytes s t → IsAnswer Answer bytes s' t' → (s ≡ s') × (t ≡ t')
+  answers s s' t t' x y = one x.admitted y.admitted (one_sheet bytes x.admitted.checked.sheet y.admitted.checked.sheet x.is y.is) s s' t t' x.answer y.answer
 
-one_bytes : (bytes : List ℕ) (s s' : Status) (t t' : List ℕ) → BytesCallFor bytes s t → BytesCallFor bytes s' t' → (s ≡ s') × (t ≡ t')
-one_bytes bytes status.Done status.Done t t' a b = (refl, one_report bytes t t' a b)
-one_bytes bytes status.Done status.Memory t t' a b = absurd b
-one_bytes bytes status.Done status.Usage t t' a b = absurd b
-one_bytes bytes status.Done status.ReadFault t t' a b = absurd b
-one_bytes bytes status.Done status.WriteFault t t' a b = absurd b
-one_bytes bytes status.Done status.Sheet t t' a b = absurd (none_read bytes t' a.admitted.checked.sheet b a.is)
-one_bytes bytes status.Done status.NotAdmitted t t' a b = absurd (none_admitted bytes t' a.admitted b a.is)
-one_bytes bytes status.Done status.NotBuilt t t' a b = absurd (none_built bytes t' t b a)
-one_bytes bytes status.Memory s' t t' a b = absurd a
-one_bytes bytes status.Usage s' t t' a b = absurd a
-one_bytes bytes status.ReadFault s' t t' a b = absurd a
-one_bytes bytes status.WriteFault s' t t' a b = absurd a
-one_bytes bytes status.Sheet status.Done t t' a b = absurd (none_read bytes t b.admitted.checked.sheet a b.is)
-one_bytes bytes status.Sheet status.Memory t t' a b = absurd b
-one_bytes bytes status.Sheet status.Usage t t' a b = absurd b
-one_bytes bytes status.Sheet status.ReadFault t t' a b = absurd b
-one_bytes bytes status.Sheet status.WriteFault t t' a b = absurd b
-one_bytes bytes status.Sheet status.Sheet t t' a b = (refl, one_unread bytes t t' a b)
-one_bytes bytes status.Sheet status.NotAdmitted t t' a b = absurd (none_read bytes t b.sheet a b.is)
-one_bytes bytes status.Sheet status.NotBuilt t t' a b = absurd (none_read bytes t b.admitted.checked.sheet a b.is)
-one_bytes bytes status.NotAdmitted status.Done t t' a b = absurd (none_admitted bytes t b.admitted a b.is)
-one_bytes bytes status.NotAdmitted status.Memory t t' a b = absurd b
-one_bytes bytes status.NotAdmitted status.Usage t t' a b = absurd b
-one_bytes bytes status.NotAdmitted status.ReadFault t t' a b = absurd b
-one_bytes bytes status.NotAdmitted status.WriteFault t t' a b = absurd b
-one_bytes bytes status.NotAdmitted status.Sheet t t' a b = absurd (none_read bytes t' a.sheet b a.is)
-one_bytes bytes status.NotAdmitted status.NotAdmitted t t' a b = (refl, one_not_admitted bytes t t' a b)
-one_bytes bytes status.NotAdmitted status.NotBuilt t t' a b = absurd (none_admitted bytes t b.admitted a b.is)
-one_bytes bytes status.NotBuilt status.Done t t' a b = absurd (none_built bytes t t' a b)
-one_bytes bytes status.NotBuilt status.Memory t t' a b = absurd b
-one_bytes bytes status.NotBuilt status.Usage t t' a b = absurd b
-one_bytes bytes status.NotBuilt status.ReadFault t t' a b = absurd b
-one_bytes bytes status.NotBuilt status.WriteFault t t' a b = absurd b
-one_bytes bytes status.NotBuilt status.Sheet t t' a b = absurd (none_read bytes t' a.admitted.checked.sheet b a.is)
-one_bytes bytes status.NotBuilt status.NotAdmitted t t' a b = absurd (none_admitted bytes t' a.admitted b a.is)
-one_bytes bytes status.NotBuilt status.NotBuilt t t' a b = (refl, a.text_is ∙ sym b.text_is)
+  one_bytes : (s s' : Status) (t t' : List ℕ) → BytesCallFor Answer bytes s t → BytesCallFor Answer bytes s' t' → (s ≡ s') × (t ≡ t')
+  one_bytes status.Done status.Done t t' a b = answers status.Done status.Done t t' a b
+  one_bytes status.Done status.Memory t t' a b = absurd b
+  one_bytes status.Done status.Usage t t' a b = absurd b
+  one_bytes status.Done status.ReadFault t t' a b = absurd b
+  one_bytes status.Done status.WriteFault t t' a b = absurd b
+  one_bytes status.Done status.Sheet t t' a b = absurd (none_read bytes t' a.admitted.checked.sheet b a.is)
+  one_bytes status.Done status.NotAdmitted t t' a b = absurd (none_admitted bytes t' a.admitted b a.is)
+  one_bytes status.Done status.Live t t' a b = answers status.Done status.Live t t' a b
+  one_bytes status.Memory s' t t' a b = absurd a
+  one_bytes status.Usage s' t t' a b = absurd a
+  one_bytes status.ReadFault s' t t' a b = absurd a
+  one_bytes status.WriteFault s' t t' a b = absurd a
+  one_bytes status.Sheet status.Done t t' a b = absurd (none_read bytes t b.admitted.checked.sheet a b.is)
+  one_bytes status.Sheet status.Memory t t' a b = absurd b
+  one_bytes status.Sheet status.Usage t t' a b = absurd b
+  one_bytes status.Sheet status.ReadFault t t' a b = absurd b
+  one_bytes status.Sheet status.WriteFault t t' a b = absurd b
+  one_bytes status.Sheet status.Sheet t t' a b = (refl, one_unread bytes t t' a b)
+  one_bytes status.Sheet status.NotAdmitted t t' a b = absurd (none_read bytes t b.sheet a b.is)
+  one_bytes status.Sheet status.Live t t' a b = absurd (none_read bytes t b.admitted.checked.sheet a b.is)
+  one_bytes status.NotAdmitted status.Done t t' a b = absurd (none_admitted bytes t b.admitted a b.is)
+  one_bytes status.NotAdmitted status.Memory t t' a b = absurd b
+  one_bytes status.NotAdmitted status.Usage t t' a b = absurd b
+  one_bytes status.NotAdmitted status.ReadFault t t' a b = absurd b
+  one_bytes status.NotAdmitted status.WriteFault t t' a b = absurd b
+  one_bytes status.NotAdmitted status.Sheet t t' a b = absurd (none_read bytes t' a.sheet b a.is)
+  one_bytes status.NotAdmitted status.NotAdmitted t t' a b = (refl, one_not_admitted bytes t t' a b)
+  one_bytes status.NotAdmitted status.Live t t' a b = absurd (none_admitted bytes t b.admitted a b.is)
+  one_bytes status.Live status.Done t t' a b = answers status.Live status.Done t t' a b
+  one_bytes status.Live status.Memory t t' a b = absurd b
+  one_bytes status.Live status.Usage t t' a b = absurd b
+  one_bytes status.Live status.ReadFault t t' a b = absurd b
+  one_bytes status.Live status.WriteFault t t' a b = absurd b
+  one_bytes status.Live status.Sheet t t' a b = absurd (none_read bytes t' a.admitted.checked.sheet b a.is)
+  one_bytes status.Live status.NotAdmitted t t' a b = absurd (none_admitted bytes t' a.admitted b a.is)
+  one_bytes status.Live status.Live t t' a b = answers status.Live status.Live t t' a b
 
--- the words are wrong
-record IsWrong (words : List (String Global)) (s : Status) (t : List ℕ) : Type 0 where
-  usage : s ≡ status.Usage
-  wrong : ¬ (IsRun words)
-  line : t ≡ usage_line
+-- one end, whatever is asked for
+pub one_end : (c : Option Command) (bytes : List ℕ) (s s' : Status) (t t' : List ℕ) → CommandCallsFor c bytes s t → CommandCallsFor c bytes s' t' → s ≡ s'
+one_end None bytes s s' t t' a b = a.0 ∙ sym b.0
+one_end (Some command.Check) bytes s s' t t' a b = (one_bytes (answer_for None) (one_answer None) bytes s s' t t' a b).0
+one_end (Some (command.Run f)) bytes s s' t t' a b = (one_bytes (answer_for (Some f)) (one_answer (Some f)) bytes s s' t t' a b).0
+one_end (Some (command.Make n)) bytes s s' t t' a b = a.0 ∙ sym b.0
+one_end (Some (command.Simulate n)) bytes s s' t t' a b = (one_report form.Quiet a.admitted b.admitted (a.is ∙ sym b.is) s s' t t' a.answer b.answer).0
 
-parted : (words : List (String Global)) (bytes : List ℕ) (s : Status) (t : List ℕ) → CallsFor words bytes s t
-    → IsWrong words s t ⊎ (IsRun words × BytesCallFor bytes s t)
-parted words bytes status.Done t called = inr (called.0, called.1)
-parted words bytes status.Memory t called = inr (called.0, called.1)
-parted words bytes status.Usage t called = inl (record { usage = refl; wrong = called.0; line = called.1 })
-parted words bytes status.ReadFault t called = inr (called.0, called.1)
-parted words bytes status.WriteFault t called = inr (called.0, called.1)
-parted words bytes status.Sheet t called = inr (called.0, called.1)
-parted words bytes status.NotAdmitted t called = inr (called.0, called.1)
-parted words bytes status.NotBuilt t called = inr (called.0, called.1)
-
--- words and bytes call for one end and one text
-pub one_call : (words : List (String Global)) (bytes : List ℕ) (s s' : Status) (t t' : List ℕ) → CallsFor words bytes s t → CallsFor words bytes s' t' → (s ≡ s') × (t ≡ t')
-one_call words bytes s s' t t' a b = go (parted words bytes s t a) (parted words bytes s' t' b)
-  where
-    go : IsWrong words s t ⊎ (IsRun words × BytesCallFor bytes s t)
-        → IsWrong words s' t' ⊎ (IsRun words × BytesCallFor bytes s' t') → (s ≡ s') × (t ≡ t')
-    go (inl x) (inl y) = (x.usage ∙ sym y.usage, x.line ∙ sym y.line)
-    go (inl x) (inr y) = absurd (x.wrong y.0)
-    go (inr x) (inl y) = absurd (y.wrong x.0)
-    go (inr x) (inr y) = one_bytes bytes s s' t t' x.1 y.1
+-- and one text, but for the sheet that is made for a number
+pub one_text : (c : Option Command) (bytes : List ℕ) (s s' : Status) (t t' : List ℕ) → ((n : ℕ) → c ≢ Some (command.Make n))
+    → CommandCallsFor c bytes s t → CommandCallsFor c bytes s' t' → t ≡ t'
+one_text None bytes s s' t t' other a b = a.1 ∙ sym b.1
+one_text (Some command.Check) bytes s s' t t' other a b = (one_bytes (answer_for None) (one_answer None) bytes s s' t t' a b).1
+one_text (Some (command.Run f)) bytes s s' t t' other a b = (one_bytes (answer_for (Some f)) (one_answer (Some f)) bytes s s' t t' a b).1
+one_text (Some (command.Make n)) bytes s s' t t' other a b = absurd (other n refl)
+one_text (Some (command.Simulate n)) bytes s s' t t' other a b = (one_report form.Quiet a.admitted b.admitted (a.is ∙ sym b.is) s s' t t' a.answer b.answer).1

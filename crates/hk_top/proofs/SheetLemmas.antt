@@ -1,17 +1,15 @@
 -- What the report needs of a sheet that can be read.
 use Rattle.std.proofs.Common.{◌≡◌, ℕ, ◌≤◌, Bool, true, false, ◌&&◌, List, [], ◌∷◌, length, refl, sym, subst, arith}
 use Rattle.std.proofs.lemmas.Bool.{both_ways}
-use Rattle.std.specs.Prelude.{nat_lt, nat_le}
-use Rattle.std.specs.List.{list_any, AllByRecursion}
+use Rattle.std.specs.Prelude.{nat_le}
+use Rattle.std.specs.List.{AllByRecursion}
 use Rattle.hk_sheet.specs.declared.sheet.HeapKeys.{HeapKeys}
 use Rattle.hk_sheet.specs.declared.sheet.High.{High}
 use Rattle.hk_sheet.specs.declared.sheet.Low.{Low}
 use Rattle.hk_sheet.specs.declared.sheet.Sheet.{Sheet}
 use Rattle.hk_sheet.specs.Faults.{is_name}
 use Rattle.hk_sheet.specs.Valid.{IsHigh, IsLow, IsSheet}
-use Rattle.hk_top.specs.Local.{uses_heap, AreOnVariables, AreNamed, AreLowNamed, IsRunnable}
-use Rattle.hk_top.specs.Tool.{is_unbuilt}
-use Rattle.hk_top.proofs.Needs.{or_left, or_right}
+use Rattle.hk_top.specs.Names.{AreNamed, AreLowNamed}
 
 and_last : (a b : Bool) → (a && b) ≡ true → b ≡ true
 and_last true b e = e
@@ -37,17 +35,3 @@ sheet_named sheet tasks is same = subst AreNamed (sym same) (named sheet.ticks s
 
 pub sheet_low_named : (sheet : Sheet) (tasks : List Low) → IsSheet sheet → tasks ≡ sheet.low → AreLowNamed tasks
 sheet_low_named sheet tasks is same = subst AreLowNamed (sym same) (low_named sheet.ticks sheet.heap sheet.low is.low)
-
-pub on_variables : (ticks : ℕ) (heap : HeapKeys) (tasks : List High) → AllByRecursion (IsHigh ticks heap) tasks → list_any (λ (task : High). uses_heap task.script) tasks ≡ false → AreOnVariables tasks
-on_variables ticks heap [] all none = tt
-on_variables ticks heap (t ∷ ts) all none =
-    let rest = list_any (λ (task : High). uses_heap task.script) ts in
-    (record { fields = heap.fields; registers = heap.registers; script = all.0.script; local = or_left (uses_heap t.script) rest none }, on_variables ticks heap ts all.1 (or_right (uses_heap t.script) rest none))
-
--- a sheet that can be read, and whose run is built
-pub runnable : (sheet : Sheet) → IsSheet sheet → is_unbuilt sheet ≡ false → IsRunnable sheet
-runnable sheet is built = record {
-  tasks = on_variables sheet.ticks sheet.heap sheet.high is.high (or_right (nat_lt 0 (length sheet.low)) (list_any (λ (task : High). uses_heap task.script) sheet.high) built);
-  names = sheet_named sheet sheet.high is refl;
-  few = is.ticks.at_most;
-}

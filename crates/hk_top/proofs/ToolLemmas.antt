@@ -1,9 +1,8 @@
 -- From what the parts of the program answer to what its top call answers.
 use Rattle.std.proofs.Common.{◌≡◌, ◌≢◌, ℕ, ◌+◌, ◌<◌, ◌≤◌, ◌⊎◌, inl, inr, true, List, [], length, Option, None, Some, Result, Ok, Err, refl, sym, ap, ◌∙◌, subst, arith, String, Global}
-use Rattle.std.proofs.lemmas.Bool.{both_ways}
 use Rattle.std.proofs.lemmas.List.{length-append}
-use Rattle.std.specs.Prelude.{IfSome, MatchResult, unwrap_or}
-use Rattle.toml.specs.Data.{Members}
+use Rattle.std.specs.Prelude.{IfSome, MatchResult, map}
+use Rattle.std.specs.String.{string_bytes}
 use Rattle.hk_io.specs.declared.Status.{Status}
 use Rattle.hk_io.specs.declared.Status.TheVariants as status
 use Rattle.hk_io.specs.declared.faults.Failed.{Failed}
@@ -12,18 +11,18 @@ use Rattle.hk_io.specs.Limits.{longest_input}
 use Rattle.hk_sheet.specs.declared.error.SheetError.{SheetError}
 use Rattle.hk_sheet.specs.declared.error.SheetError.TheVariants as unread
 use Rattle.hk_sheet.specs.declared.sheet.Sheet.{Sheet}
-use Rattle.hk_sheet.specs.Answers.{IsDocument, IsRead, Answers}
-use Rattle.hk_sheet.specs.Faults.{sheet_of}
+use Rattle.hk_sheet.specs.Answers.{Answers}
 use Rattle.hk_admit.specs.declared.checked.Admitted.{Admitted}
 use Rattle.hk_admit.specs.declared.refused.Refused.{Refused}
 use Rattle.hk_admit.specs.declared.refused.Refused.TheVariants as refused
 use Rattle.hk_admit.specs.Refusals.{IsRefusal}
-use Rattle.hk_admit.proofs.Excluded.{admitted_excludes}
 use Rattle.hk_top.specs.Refusals.{sheet_line, refused_line}
-use Rattle.hk_top.specs.Tool.{IsRun, is_unbuilt, IsSheetOf, IsUnread, too_long, no_sheet, IsNotAdmitted, IsNotBuilt, IsReport, BytesCallFor, CallsFor, HasText, Writes, WritesPrefix, AdmittedCallsFor, EndsBy}
+use Rattle.hk_top.specs.declared.report.Form.{Form}
+use Rattle.hk_top.specs.declared.report.Finish.{Finish}
+use Rattle.hk_top.specs.declared.report.Finish.TheVariants as finish
+use Rattle.hk_top.specs.Tool.{status_of, asked, IsSheetOf, IsUnread, too_long, no_sheet, IsNotAdmitted, IsAnalysis, IsReport, answer_for, BytesCallFor, CallsFor, HasText, Writes, WritesPrefix, EndsBy, EndsOn}
 use Rattle.hk_top.specs.Words.{Puts}
-use Rattle.hk_top.proofs.OneCall.{one_call}
-use Rattle.hk_top.proofs.ScheduleAdmitted.{admitted_keeps_schedule}
+use Rattle.hk_top.proofs.OneCall.{one_end}
 
 -- ENDS
 
@@ -81,37 +80,33 @@ module _ (Calls : Status → List ℕ → Type 0) (before after : Option (List �
     later = ends.later;
   }
 
--- an admitted sheet of these bytes
-pub admitted_calls : (bytes : List ℕ) (a : Admitted) → IsSheetOf bytes a.checked.sheet → (s : Status) (t : List ℕ) → AdmittedCallsFor a s t → BytesCallFor bytes s t
-admitted_calls bytes a is status.Done t called = record { admitted = a; is = is; built = called.0; keeps = admitted_keeps_schedule a called.0; text_is = called.1 }
-admitted_calls bytes a is status.Memory t called = absurd called
-admitted_calls bytes a is status.Usage t called = absurd called
-admitted_calls bytes a is status.ReadFault t called = absurd called
-admitted_calls bytes a is status.WriteFault t called = absurd called
-admitted_calls bytes a is status.Sheet t called = absurd called
-admitted_calls bytes a is status.NotAdmitted t called = absurd called
-admitted_calls bytes a is status.NotBuilt t called = record { admitted = a; is = is; unbuilt = called.0; text_is = called.1 }
+-- an admitted sheet of these bytes, whose answer ends the program by Done or by Live
+answered : (Answer : Admitted → Status → List ℕ → Type 0) (bytes : List ℕ) (a : Admitted) → IsSheetOf bytes a.checked.sheet → (s : Status) (t : List ℕ)
+    → (s ≡ status.Done) ⊎ (s ≡ status.Live) → Answer a s t → BytesCallFor Answer bytes s t
+answered Answer bytes a is s t (inl e) answer =
+    subst (λ s. BytesCallFor Answer bytes s t) (sym e) (record { admitted = a; is = is; answer = subst (λ s. Answer a s t) e answer })
+answered Answer bytes a is s t (inr e) answer =
+    subst (λ s. BytesCallFor Answer bytes s t) (sym e) (record { admitted = a; is = is; answer = subst (λ s. Answer a s t) e answer })
 
--- the words are `run`
-pub run_calls : (words : List (String Global)) (bytes : List ℕ) → IsRun words → (s : Status) (t : List ℕ) → BytesCallFor bytes s t → CallsFor words bytes s t
-run_calls words bytes run status.Done t called = (run, called)
-run_calls words bytes run status.Memory t called = absurd called
-run_calls words bytes run status.Usage t called = absurd called
-run_calls words bytes run status.ReadFault t called = absurd called
-run_calls words bytes run status.WriteFault t called = absurd called
-run_calls words bytes run status.Sheet t called = (run, called)
-run_calls words bytes run status.NotAdmitted t called = (run, called)
-run_calls words bytes run status.NotBuilt t called = (run, called)
+by_finish : (s : Status) (end : Finish) → s ≡ status_of end → (s ≡ status.Done) ⊎ (s ≡ status.Live)
+by_finish s finish.AtEnd e = inl e
+by_finish s (finish.Live words) e = inr e
+
+-- so does its analysis, and the report of its run
+pub analysis_calls : (bytes : List ℕ) (a : Admitted) → IsSheetOf bytes a.checked.sheet → (s : Status) (t : List ℕ) → IsAnalysis a s t → BytesCallFor (answer_for None) bytes s t
+analysis_calls bytes a is s t answer = answered (answer_for None) bytes a is s t (inl answer.ended_is) answer
+
+pub report_calls : (f : Form) (bytes : List ℕ) (a : Admitted) → IsSheetOf bytes a.checked.sheet → (s : Status) (t : List ℕ) → IsReport f a s t → BytesCallFor (answer_for (Some f)) bytes s t
+report_calls f bytes a is s t answer = answered (answer_for (Some f)) bytes a is s t (by_finish s answer.finish answer.ended_is) answer
 
 -- THE TOP CALL
-
-module _ (words : List (String Global)) (input before after : Option (List ℕ)) (faults faults_after : ℕ) (bytes : List ℕ) (told : IfSome input (λ left. bytes ≡ left)) (ended : Status)
-    (ends : EndsBy (CallsFor words bytes) before after faults faults_after ended) where
+module _ (Calls : List ℕ → Status → List ℕ → Type 0) (words : List (String Global)) (input before after : Option (List ℕ)) (faults faults_after : ℕ) (ended : Status)
+    (turns : (bytes : List ℕ) (s : Status) (t : List ℕ) → Calls bytes s t → CallsFor words bytes s t) (e : EndsOn Calls input before after faults faults_after ended) where
   pub writes : HasText ended → Writes words input before after ended
-  writes has = let w = ends.whole has in record { bytes = bytes; told = told; text = w.0; called = w.1; written = w.2 }
+  writes has = let w = e.ends.whole has in record { bytes = e.bytes; told = e.told; text = w.0; called = turns e.bytes ended w.0 w.1; written = w.2 }
 
   pub writes_prefix : ended ≡ status.WriteFault → WritesPrefix words input before after
-  writes_prefix e = let p = ends.prefix e in record { bytes = bytes; told = told; ended = p.0; text = p.1; called = p.2; written = p.3 }
+  writes_prefix fault = let p = e.ends.prefix fault in record { bytes = e.bytes; told = e.told; ended = p.0; text = p.1; called = turns e.bytes p.0 p.1 p.2; written = p.3 }
 
 -- where nothing fails, the end is the one that is called for
 pub complete : (words : List (String Global)) (input before after : Option (List ℕ)) (ended : Status) → (HasText ended → Writes words input before after ended)
@@ -121,7 +116,7 @@ complete words None before after ended whole not_read not_write = tt
 complete words (Some left) before after ended whole not_read not_write = λ s t called. by_end ended refl s t called
   where
     writing : Writes words (Some left) before after ended → (s : Status) (t : List ℕ) → CallsFor words left s t → ended ≡ s
-    writing w s t called = (one_call words left ended s w.text t (subst (λ b. CallsFor words b ended w.text) w.told w.called) called).0
+    writing w s t called = one_end (asked (map string_bytes words)) left ended s w.text t (subst (λ b. CallsFor words b ended w.text) w.told w.called) called
 
     by_end : (answer : Status) → ended ≡ answer → (s : Status) (t : List ℕ) → CallsFor words left s t → (ended ≡ s) ⊎ (ended ≡ status.Memory)
     by_end status.Done e s t called = inl (writing (whole (subst HasText (sym e) tt)) s t called)
@@ -131,7 +126,7 @@ complete words (Some left) before after ended whole not_read not_write = λ s t 
     by_end status.WriteFault e s t called = absurd (not_write e)
     by_end status.Sheet e s t called = inl (writing (whole (subst HasText (sym e) tt)) s t called)
     by_end status.NotAdmitted e s t called = inl (writing (whole (subst HasText (sym e) tt)) s t called)
-    by_end status.NotBuilt e s t called = inl (writing (whole (subst HasText (sym e) tt)) s t called)
+    by_end status.Live e s t called = inl (writing (whole (subst HasText (sym e) tt)) s t called)
 
 -- what was read of an input that is too long
 pub long_input : (before after : Option (List ℕ)) → ConsumesFront before after (λ count. count ≡ longest_input + 1) → (bytes : List ℕ) × IfSome before (λ left. bytes ≡ left) × (longest_input < length bytes)
@@ -148,19 +143,19 @@ any_input None = ([], tt)
 any_input (Some left) = (left, refl)
 
 -- why bytes are no sheet
-pub sheet_refused : (before after : Option (List ℕ)) (faults faults_after : ℕ) (bytes : List ℕ) (error : SheetError) (written : Result (Unit {0}) Failed) (result : Status)
+pub sheet_refused : (before after : Option (List ℕ)) (faults faults_after : ℕ) (Answer : Admitted → Status → List ℕ → Type 0) (bytes : List ℕ) (error : SheetError) (written : Result (Unit {0}) Failed) (result : Status)
     → length bytes ≤ longest_input → Answers bytes (Err error) → error ≢ unread.Memory → Puts before after faults faults_after (sheet_line error) written
-    → MatchResult written (λ _. result ≡ status.Sheet) (λ _. result ≡ status.WriteFault) → EndsBy (BytesCallFor bytes) before after faults faults_after result
-sheet_refused before after faults faults_after bytes error written result short answers told puts is =
-    ends_written (BytesCallFor bytes) before after faults faults_after status.Sheet (sheet_line error) written result tt
+    → MatchResult written (λ _. result ≡ status.Sheet) (λ _. result ≡ status.WriteFault) → EndsBy (BytesCallFor Answer bytes) before after faults faults_after result
+sheet_refused before after faults faults_after Answer bytes error written result short answers told puts is =
+    ends_written (BytesCallFor Answer bytes) before after faults faults_after status.Sheet (sheet_line error) written result tt
     (no_sheet error (record { short = short; told = told; answers = answers }) refl) puts is
 
 -- why a sheet isn't admitted
-pub admission_refused : (before after : Option (List ℕ)) (faults faults_after : ℕ) (bytes : List ℕ) (sheet : Sheet) (why : Refused) (written : Result (Unit {0}) Failed) (result : Status)
+pub admission_refused : (before after : Option (List ℕ)) (faults faults_after : ℕ) (Answer : Admitted → Status → List ℕ → Type 0) (bytes : List ℕ) (sheet : Sheet) (why : Refused) (written : Result (Unit {0}) Failed) (result : Status)
     → IsSheetOf bytes sheet → IsRefusal sheet why → why ≢ refused.Memory → Puts before after faults faults_after (refused_line why) written
-    → MatchResult written (λ _. result ≡ status.NotAdmitted) (λ _. result ≡ status.WriteFault) → EndsBy (BytesCallFor bytes) before after faults faults_after result
-admission_refused before after faults faults_after bytes sheet why written result is refusal told puts ended =
-    ends_written (BytesCallFor bytes) before after faults faults_after status.NotAdmitted (refused_line why) written result tt
+    → MatchResult written (λ _. result ≡ status.NotAdmitted) (λ _. result ≡ status.WriteFault) → EndsBy (BytesCallFor Answer bytes) before after faults faults_after result
+admission_refused before after faults faults_after Answer bytes sheet why written result is refusal told puts ended =
+    ends_written (BytesCallFor Answer bytes) before after faults faults_after status.NotAdmitted (refused_line why) written result tt
     (record { sheet = sheet; is = is; why = why; told = told; refusal = refusal; text_is = refl }) puts ended
 
 pub read_sheet : (bytes : List ℕ) (sheet : Sheet) → length bytes ≤ longest_input → Answers bytes (Ok sheet) → IsSheetOf bytes sheet

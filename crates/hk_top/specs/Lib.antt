@@ -1,9 +1,7 @@
-pub mod Session
-pub mod Local
-pub mod Progress
+pub mod Names
 pub mod Text
 pub mod Words
 pub mod Refusals
 pub mod Report
-pub mod Jobs
+pub mod Headline
 pub mod Tool

@@ -18,10 +18,6 @@ usage_line = line (codes "usage: henri check, run [--trace], gen N, sim N" ∷ [
 abbrev pub long_line : List ℕ
 long_line = line (codes "sheet long" ∷ [])
 
--- a sheet that is admitted, and that isn't run yet
-abbrev pub not_built_line : List ℕ
-not_built_line = line (codes "not built" ∷ [])
-
 -- what is wrong with the geometry
 abbrev pub geometry_word : GeoError → List ℕ
 geometry_word geometry.Odd = codes "odd"

@@ -1,5 +1,5 @@
 -- The lines of the report.
-use Rattle.std.specs.Prelude.{ℕ, List, [], ◌∷◌, codes, decimal, fold}
+use Rattle.std.specs.Prelude.{ℕ, Bool, if◌then◌else◌, List, [], ◌∷◌, codes, decimal, fold}
 use Rattle.hk_io.specs.Line.{with_word, with_end}
 
 -- a line of these words, parted by single spaces, with its newline
@@ -35,3 +35,30 @@ cycles_line cycles collector idle = line (codes "cycles" ∷ decimal cycles ∷ 
 -- the ticks of the run
 unfoldable pub end_line : (ticks : ℕ) → List ℕ
 end_line ticks = line (codes "end" ∷ decimal ticks ∷ [])
+
+-- at this tick a job of this task ended with a fault at this statement of its script: the register that it went through was
+-- null, or the object had no such field
+unfoldable pub fault_line : (tick : ℕ) → (name : List ℕ) → (job statement : ℕ) → (nil : Bool) → List ℕ
+fault_line tick name job statement nil =
+    line (codes "fault" ∷ decimal tick ∷ name ∷ decimal job ∷ decimal statement ∷ (if nil then codes "nil" else codes "field") ∷ [])
+
+-- at this tick this job of this task ended, so many ticks after it arrived
+unfoldable pub ended_line : (tick : ℕ) → (name : List ℕ) → (job ticks : ℕ) → List ℕ
+ended_line tick name job ticks = line (codes "ended" ∷ decimal tick ∷ name ∷ decimal job ∷ decimal ticks ∷ [])
+
+-- who got this tick: a task, by its kind and its name; the collector, by what its event was; or nobody
+unfoldable pub task_line : (tick : ℕ) → (kind name : List ℕ) → List ℕ
+task_line tick kind name = line (codes "t" ∷ decimal tick ∷ kind ∷ name ∷ [])
+
+unfoldable pub event_line : (tick : ℕ) → (event : List ℕ) → List ℕ
+event_line tick event = line (codes "t" ∷ decimal tick ∷ codes "gc" ∷ event ∷ [])
+
+unfoldable pub lost_line : (tick events : ℕ) → List ℕ
+lost_line tick events = line (codes "t" ∷ decimal tick ∷ codes "gc lost" ∷ decimal events ∷ [])
+
+unfoldable pub idle_line : (tick : ℕ) → List ℕ
+idle_line tick = line (codes "t" ∷ decimal tick ∷ codes "idle" ∷ [])
+
+-- at this tick the collector found so many words reserved, more than the space has for evacuation
+unfoldable pub live_line : (tick words limit : ℕ) → List ℕ
+live_line tick words limit = line (codes "live" ∷ decimal tick ∷ decimal words ∷ codes "above" ∷ decimal limit ∷ [])

@@ -1,35 +1,81 @@
 -- What the program answers and writes, by its words and its input.
-use Rattle.std.specs.Prelude.{◌≡◌, ◌≢◌, ℕ, ◌<◌, ◌≤◌, nat_lt, Bool, true, false, ◌||◌, List, [], ◌∷◌, map, length, codes, Option, IfSome, Ok, Err, String}
+use Rattle.std.specs.Prelude.{◌≡◌, ◌≢◌, ℕ, ◌<◌, ◌≤◌, Bool, true, false, List, [], ◌∷◌, ◌++◌, map, length, codes, Option, Some, None, option_map, if◌then◌else◌, IfSome, Ok, Err, String}
+use Rattle.std.specs.Str.{bytes_eq}
 use Rattle.std.specs.String.{string_bytes}
-use Rattle.std.specs.List.{list_any}
 use Rattle.std.specs.declared.alloc.Global.{Global}
 use Rattle.std.specs.Io.KnownBytes.{Appends}
+use Rattle.hk_words.specs.declared.geometry.Geometry.{Geometry}
+use Rattle.hk_words.specs.Geometry.{HasSizes}
 use Rattle.hk_io.specs.declared.Status.{Status}
 use Rattle.hk_io.specs.declared.Status.TheVariants as status
 use Rattle.hk_io.specs.Bytes.{AppendsPrefix}
 use Rattle.hk_io.specs.Faults.{Rose}
 use Rattle.hk_io.specs.Limits.{longest_input}
+use Rattle.hk_io.specs.Number.{number_of}
+use Rattle.hk_plan.specs.AloneBy.{least_task}
 use Rattle.hk_sheet.specs.declared.error.SheetError.{SheetError}
 use Rattle.hk_sheet.specs.declared.error.SheetError.TheVariants as unread
-use Rattle.hk_sheet.specs.declared.sheet.High.{High}
 use Rattle.hk_sheet.specs.declared.sheet.Sheet.{Sheet}
 use Rattle.hk_sheet.specs.Answers.{IsRead, Answers}
+use Rattle.hk_sheet.specs.Faults.{sizes_of}
 use Rattle.hk_admit.specs.declared.checked.Admitted.{Admitted}
 use Rattle.hk_admit.specs.declared.refused.Refused.{Refused}
 use Rattle.hk_admit.specs.declared.refused.Refused.TheVariants as refused
 use Rattle.hk_admit.specs.Refusals.{IsRefusal}
-use Rattle.hk_top.specs.Jobs.{KeepsSchedule}
-use Rattle.hk_top.specs.Local.{uses_heap}
-use Rattle.hk_top.specs.Refusals.{usage_line, long_line, not_built_line, sheet_line, refused_line}
-use Rattle.hk_top.specs.Report.{report}
+use Rattle.hk_gen.specs.Made.{made}
+use Rattle.hk_top.specs.declared.report.Form.{Form}
+use Rattle.hk_top.specs.declared.report.Form.TheVariants as form
+use Rattle.hk_top.specs.declared.report.Finish.{Finish}
+use Rattle.hk_top.specs.declared.report.Finish.TheVariants as finish
+use Rattle.hk_top.specs.declared.tool.Command.{Command}
+use Rattle.hk_top.specs.declared.tool.Command.TheVariants as command
+use Rattle.hk_top.specs.Headline.{Headline}
+use Rattle.hk_top.specs.Refusals.{usage_line, long_line, sheet_line, refused_line}
+use Rattle.hk_top.specs.Report.{analysis, IsRunText}
 
--- the words are the one word `run`
-abbrev pub IsRun : List (String Global) → Type 0
-IsRun words = map string_bytes words ≡ codes "run" ∷ []
+-- the analysis of an admitted sheet
+abbrev pub analysis_of : Admitted → List ℕ
+analysis_of a = analysis a.checked.sheet a.checked.work a.checked.attempt a.checked.busy a.checked.debt a.responses
 
--- the run of a sheet isn't built yet: it has a low task, or a high task's script has a statement on the heap
-abbrev pub is_unbuilt : Sheet → Bool
-is_unbuilt sheet = nat_lt 0 (length sheet.low) || list_any (λ (task : High). uses_heap task.script) sheet.high
+-- how the end of a run ends the program
+abbrev pub status_of : Finish → Status
+status_of finish.AtEnd = status.Done
+status_of (finish.Live words) = status.Live
+
+-- WHAT THE WORDS ASK FOR: the analysis of a sheet, its run, or its run with a trace; the sheet that is made for a number, or
+-- the run of that
+abbrev pub one_word : List ℕ → Option Command
+one_word word =
+    if bytes_eq word (codes "check") then Some command.Check
+    else if bytes_eq word (codes "run") then Some (command.Run form.Plain)
+    else None
+
+abbrev pub two_words : (word other : List ℕ) → Option Command
+two_words word other =
+    if bytes_eq word (codes "run") then (if bytes_eq other (codes "--trace") then Some (command.Run form.Trace) else None)
+    else if bytes_eq word (codes "gen") then option_map command.Make (number_of other)
+    else if bytes_eq word (codes "sim") then option_map command.Simulate (number_of other)
+    else None
+
+abbrev pub asked : List (List ℕ) → Option Command
+asked (word ∷ []) = one_word word
+asked (word ∷ other ∷ []) = two_words word other
+asked words = None
+
+-- the words of the program ask for nothing
+abbrev pub AsksNothing : List (String Global) → Type 0
+AsksNothing words = asked (map string_bytes words) ≡ None
+
+-- what is asked for needs the input
+abbrev pub needs_input : Option Command → Bool
+needs_input None = false
+needs_input (Some command.Check) = true
+needs_input (Some (command.Run f)) = true
+needs_input (Some (command.Make n)) = false
+needs_input (Some (command.Simulate n)) = false
+
+abbrev pub ReadsInput : List (String Global) → Type 0
+ReadsInput words = needs_input (asked (map string_bytes words)) ≡ true
 
 -- WHAT THE BYTES CALL FOR
 
@@ -58,38 +104,63 @@ pub record IsNotAdmitted (bytes : List ℕ) (text : List ℕ) : Type 0 where
   pub refusal : IsRefusal sheet why
   pub text_is : text ≡ refused_line why
 
--- the line for bytes that are an admitted sheet whose run isn't built
-pub record IsNotBuilt (bytes : List ℕ) (text : List ℕ) : Type 0 where
+-- WHAT AN ADMITTED SHEET CALLS FOR. The report of its run, which ends the program so: the analysis, and the text of the session
+-- of the sheet, of which the headline holds. By what `Admitted` keeps, each response that is printed is the least solution of
+-- the response-time equation and at most the deadline, and the printed busy period is the least.
+pub record IsReport (f : Form) (admitted : Admitted) (ended : Status) (text : List ℕ) : Type 0 where
+  pub geometry : Geometry
+  pub sizes : HasSizes geometry (sizes_of admitted.checked.sheet)
+  pub headline : Headline geometry admitted.checked.sheet admitted.responses
+  pub finish : Finish
+  pub ended_is : ended ≡ status_of finish
+  pub run : List ℕ
+  pub run_is : IsRunText f geometry least_task admitted.checked.sheet finish run
+  pub text_is : text ≡ analysis_of admitted ++ run
+
+-- the analysis alone
+pub record IsAnalysis (admitted : Admitted) (ended : Status) (text : List ℕ) : Type 0 where
+  pub ended_is : ended ≡ status.Done
+  pub text_is : text ≡ analysis_of admitted
+
+-- its analysis alone, or its report in a form
+abbrev pub answer_for : Option Form → Admitted → Status → (text : List ℕ) → Type 0
+answer_for None admitted ended text = IsAnalysis admitted ended text
+answer_for (Some f) admitted ended text = IsReport f admitted ended text
+
+-- the bytes are an admitted sheet, for which this is called for
+pub record IsAnswer (Answer : Admitted → Status → List ℕ → Type 0) (bytes : List ℕ) (ended : Status) (text : List ℕ) : Type 0 where
   pub admitted : Admitted
   pub is : IsSheetOf bytes admitted.checked.sheet
-  pub unbuilt : is_unbuilt admitted.checked.sheet ≡ true
-  pub text_is : text ≡ not_built_line
+  pub answer : Answer admitted ended text
 
--- the report of bytes that are an admitted sheet whose run is built. The run that it tells of keeps to the analysis that it
--- prints: each job ends exactly when a schedule of the high jobs alone ends it, and within the printed response of its
--- task. By what `Admitted` keeps, that response is the least solution of the response-time equation and at most the
--- deadline, and the printed busy period is the least
-pub record IsReport (bytes : List ℕ) (text : List ℕ) : Type 0 where
+-- How the program ends on these bytes, where nothing fails, and what it writes; the first that holds in the order of the
+-- refusals. A run that stands still, since the collector found more words reserved than the space has for evacuation, ends by
+-- `Live`
+abbrev pub BytesCallFor : (Answer : Admitted → Status → List ℕ → Type 0) → (bytes : List ℕ) → Status → (text : List ℕ) → Type 0
+BytesCallFor Answer bytes status.Sheet text = IsUnread bytes text
+BytesCallFor Answer bytes status.NotAdmitted text = IsNotAdmitted bytes text
+BytesCallFor Answer bytes status.Done text = IsAnswer Answer bytes status.Done text
+BytesCallFor Answer bytes status.Live text = IsAnswer Answer bytes status.Live text
+BytesCallFor Answer bytes other text = ⊥
+
+-- the run of the sheet that is made for a number, without outputs and faults
+pub record IsSimulation (n : ℕ) (ended : Status) (text : List ℕ) : Type 0 where
   pub admitted : Admitted
-  pub is : IsSheetOf bytes admitted.checked.sheet
-  pub built : is_unbuilt admitted.checked.sheet ≡ false
-  pub keeps : KeepsSchedule admitted.checked.sheet admitted.responses
-  pub text_is : text ≡ report admitted
+  pub is : admitted.checked.sheet ≡ made n
+  pub answer : IsReport form.Quiet admitted ended text
 
--- how the program ends on these bytes, where nothing fails, and what it writes; the first that holds in the order of the
--- refusals
-abbrev pub BytesCallFor : (bytes : List ℕ) → Status → (text : List ℕ) → Type 0
-BytesCallFor bytes status.Sheet text = IsUnread bytes text
-BytesCallFor bytes status.NotAdmitted text = IsNotAdmitted bytes text
-BytesCallFor bytes status.NotBuilt text = IsNotBuilt bytes text
-BytesCallFor bytes status.Done text = IsReport bytes text
-BytesCallFor bytes other text = ⊥
+-- WHAT THE WORDS AND THE BYTES CALL FOR: one end at most, and one text (the law `one_end_and_one_text`) but for the sheet that is
+-- made for a number, for which each text will do that is read as it. Words that ask for nothing call for the usage line, whatever
+-- the bytes
+abbrev pub CommandCallsFor : Option Command → (bytes : List ℕ) → Status → (text : List ℕ) → Type 0
+CommandCallsFor None bytes ended text = (ended ≡ status.Usage) × (text ≡ usage_line)
+CommandCallsFor (Some command.Check) bytes ended text = BytesCallFor (answer_for None) bytes ended text
+CommandCallsFor (Some (command.Run f)) bytes ended text = BytesCallFor (answer_for (Some f)) bytes ended text
+CommandCallsFor (Some (command.Make n)) bytes ended text = (ended ≡ status.Done) × IsRead text (Ok (made n))
+CommandCallsFor (Some (command.Simulate n)) bytes ended text = IsSimulation n ended text
 
--- WHAT THE WORDS AND THE BYTES CALL FOR: one end at most, and one text (the law `one_end_and_one_text`). Words other than the
--- one word `run` call for the usage line, whatever the bytes
 abbrev pub CallsFor : List (String Global) → (bytes : List ℕ) → Status → (text : List ℕ) → Type 0
-CallsFor words bytes status.Usage text = (¬ (IsRun words)) × (text ≡ usage_line)
-CallsFor words bytes other text = IsRun words × BytesCallFor bytes other text
+CallsFor words bytes ended text = CommandCallsFor (asked (map string_bytes words)) bytes ended text
 
 -- a program that ends so has written a text whole
 abbrev pub HasText : Status → Type 0
@@ -117,12 +188,6 @@ pub record WritesPrefix (words : List (String Global)) (input before after : Opt
 
 -- THE PARTS OF THE PROGRAM
 
--- how an admitted sheet ends the program, and what is written
-abbrev pub AdmittedCallsFor : Admitted → Status → (text : List ℕ) → Type 0
-AdmittedCallsFor admitted status.NotBuilt text = (is_unbuilt admitted.checked.sheet ≡ true) × (text ≡ not_built_line)
-AdmittedCallsFor admitted status.Done text = (is_unbuilt admitted.checked.sheet ≡ false) × (text ≡ report admitted)
-AdmittedCallsFor admitted other text = ⊥
-
 -- a part of the program ends so, where this says which ends and texts are called for
 pub record EndsBy (Calls : Status → List ℕ → Type 0) (before after : Option (List ℕ)) (faults faults_after : ℕ) (ended : Status) : Type 0 where
   pub whole : HasText ended → (text : List ℕ) × Calls ended text × Appends before after text
@@ -131,3 +196,9 @@ pub record EndsBy (Calls : Status → List ℕ → Type 0) (before after : Optio
   pub no_read : ended ≢ status.ReadFault
   pub kept : ended ≢ status.WriteFault → faults_after ≡ faults
   pub later : faults ≤ faults_after
+
+-- so, on some bytes, which are the input where that is told
+pub record EndsOn (Calls : List ℕ → Status → List ℕ → Type 0) (input before after : Option (List ℕ)) (faults faults_after : ℕ) (ended : Status) : Type 0 where
+  pub bytes : List ℕ
+  pub told : IfSome input (λ left. bytes ≡ left)
+  pub ends : EndsBy (Calls bytes) before after faults faults_after ended

@@ -5,10 +5,10 @@ mod laws;
 mod lines;
 mod refusals;
 mod report;
-mod run;
 #[cfg(test)]
 mod tests;
 mod tool;
 
-pub use laws::{each_run_keeps_its_schedule, one_end_and_one_text};
+pub use laws::{admitted_sheets_are_done, headline_holds, one_end_and_one_text};
+pub use report::{Finish, Form, write_analysis, write_run};
 pub use tool::run_tool;

@@ -2,8 +2,9 @@
 ghost use Rattle.std.specs.Prelude.{◌≡◌, ◌+◌, ◌≤◌, length};
 ghost use Rattle.hk_io.specs.Line.{with_word, with_number, with_end};
 ghost use Rattle.hk_io.specs.Limits.{longest_line};
-ghost use Rattle.hk_top.specs.Text.{heap_line, high_line, low_line, out_line, done_line, cycles_line, end_line};
+ghost use Rattle.hk_top.specs.Text.{heap_line, high_line, low_line, out_line, fault_line, ended_line, task_line, event_line, lost_line, idle_line, done_line, cycles_line, end_line, live_line};
 
+use hk_dispatch::JobFault;
 use hk_io::Line;
 
 /// Adds a word to a line that has room for it and a space.
@@ -137,6 +138,112 @@ pub fn end_line(ticks: u64) -> Line
     let mut line = Line::new();
     add_word(&mut line, b"end");
     add_number(&mut line, ticks);
+    end(&mut line);
+    line
+}
+
+/// A job of a task ended at a tick with a fault at a statement of its script.
+#[tactic(auto, unfolding(crate::specs::Text::fault_line))]
+pub fn fault_line(tick: u64, name: &[u8], job: u64, fault: JobFault) -> Line
+    requires { length name.now ≤ 16 }
+    ensures { result ≡ fault_line tick name.now job fault.statement fault.nil }
+{
+    let mut line = Line::new();
+    add_word(&mut line, b"fault");
+    add_number(&mut line, tick);
+    add_word(&mut line, name);
+    add_number(&mut line, job);
+    add_number(&mut line, u64::from(fault.statement));
+    add_word(&mut line, if fault.nil { b"nil" } else { b"field" });
+    end(&mut line);
+    line
+}
+
+/// A job of a task ended at a tick, so many ticks after it arrived.
+#[tactic(auto, unfolding(crate::specs::Text::ended_line))]
+pub fn ended_line(tick: u64, name: &[u8], job: u64, ticks: u64) -> Line
+    requires { length name.now ≤ 16 }
+    ensures { result ≡ ended_line tick name.now job ticks }
+{
+    let mut line = Line::new();
+    add_word(&mut line, b"ended");
+    add_number(&mut line, tick);
+    add_word(&mut line, name);
+    add_number(&mut line, job);
+    add_number(&mut line, ticks);
+    end(&mut line);
+    line
+}
+
+/// A tick went to a task of a kind.
+#[tactic(auto, unfolding(crate::specs::Text::task_line))]
+pub fn task_line(tick: u64, kind: &[u8], name: &[u8]) -> Line
+    requires kind { length kind.now ≤ 16 }
+    requires name { length name.now ≤ 16 }
+    ensures { result ≡ task_line tick kind.now name.now }
+{
+    let mut line = Line::new();
+    add_word(&mut line, b"t");
+    add_number(&mut line, tick);
+    add_word(&mut line, kind);
+    add_word(&mut line, name);
+    end(&mut line);
+    line
+}
+
+/// A tick went to the collector, for an event of this kind.
+#[tactic(auto, unfolding(crate::specs::Text::event_line))]
+pub fn event_line(tick: u64, event: &[u8]) -> Line
+    requires { length event.now ≤ 16 }
+    ensures { result ≡ event_line tick event.now }
+{
+    let mut line = Line::new();
+    add_word(&mut line, b"t");
+    add_number(&mut line, tick);
+    add_word(&mut line, b"gc");
+    add_word(&mut line, event);
+    end(&mut line);
+    line
+}
+
+/// A tick went to the collector, which lost an attempt of so many events.
+#[tactic(auto, unfolding(crate::specs::Text::lost_line))]
+pub fn lost_line(tick: u64, events: u64) -> Line
+    ensures { result ≡ lost_line tick events }
+{
+    let mut line = Line::new();
+    add_word(&mut line, b"t");
+    add_number(&mut line, tick);
+    add_word(&mut line, b"gc lost");
+    add_number(&mut line, events);
+    end(&mut line);
+    line
+}
+
+/// A tick went to nobody.
+#[tactic(auto, unfolding(crate::specs::Text::idle_line))]
+pub fn idle_line(tick: u64) -> Line
+    ensures { result ≡ idle_line tick }
+{
+    let mut line = Line::new();
+    add_word(&mut line, b"t");
+    add_number(&mut line, tick);
+    add_word(&mut line, b"idle");
+    end(&mut line);
+    line
+}
+
+/// At a tick the collector found so many words reserved, more than the space has for evacuation.
+#[tactic(auto, unfolding(crate::specs::Text::live_line))]
+pub fn live_line(tick: u64, words: u64, limit: u64) -> Line
+    ensures { result ≡ live_line tick words limit }
+{
+    let mut line = Line::new();
+    add_word(&mut line, b"live");
+    add_number(&mut line, tick);
+    add_number(&mut line, words);
+    add_word(&mut line, b"above");
+    add_number(&mut line, limit);
     end(&mut line);
     line
 }

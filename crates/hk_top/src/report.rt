@@ -1,25 +1,57 @@
-//! The report of an admitted sheet, written as its run goes on. No memory is taken.
-ghost use Rattle.std.specs.Prelude.{◌≡◌, ◌++◌, ◌≤◌, length, map, zip, flat_map, false, IfOk, OnOk, OnErr};
+//! The report of a session, written as it runs. No memory is taken.
+ghost use Rattle.std.specs.Prelude.{◌≡◌, ℕ, ◌<◌, ◌++◌, ◌≤◌, List, length, true, OnOk, OnErr, IfOk, None, Some};
 ghost use Rattle.std.specs.Io.KnownBytes.{Appends};
 ghost use Rattle.hk_io.specs.Bytes.{AppendsPrefix, AppendsFront};
 ghost use Rattle.hk_io.specs.Faults.{HasCause};
-ghost use Rattle.hk_sheet.specs.Valid.{IsSheet};
-ghost use Rattle.hk_top.specs.Local.{AreNamed, AreLowNamed, IsRunnable};
-ghost use Rattle.hk_top.specs.Progress.{course_of, IsAt};
-ghost use Rattle.hk_top.specs.Session.{state};
-ghost use Rattle.hk_top.specs.Report.{line_of_response, line_of_low, line_of_course, high_lines, low_lines, analysis, ticks_text, closing, report};
+ghost use Rattle.hk_dispatch.specs.Tasks.{tasks_of};
+ghost use Rattle.hk_dispatch.specs.Session.{state};
+ghost use Rattle.hk_dispatch.specs.declared.tick.Tick.TheVariants.{Ran, LiveOver};
+ghost use Rattle.hk_top.specs.Names.{AreNamed, AreLowNamed};
+ghost use Rattle.hk_top.specs.Text.{live_line};
+ghost use Rattle.hk_top.specs.Report.{high_lines, low_lines, analysis, name_of, who_text, event_text, out_text, fault_in, fault_text, ended_text, traced, voiced, text_of_tick, texts_below, line_of_high_end, line_of_low_end, closing, IsRunText};
 
-use crate::lines::{cycles_line, done_line, end_line, heap_line, high_line, low_line, out_line};
-use crate::run::{Run, TaskRun, high_tasks};
-use hk_admit::Admitted;
-use hk_io::{Failed, Gather, Sink};
-use hk_sheet::{High, Low, Name, Sheet};
+use crate::lines::{
+    cycles_line, done_line, end_line, ended_line, event_line, fault_line, heap_line, high_line,
+    idle_line, live_line, lost_line, low_line, out_line, task_line,
+};
+use hk_admit::Checked;
+use hk_dispatch::{Chore, End, Pick, SessionBy, Tick, Who};
+use hk_io::{Failed, Gather, Line, Sink};
+use hk_sheet::{High, Low, Name, Sheet, Ticks};
+
+/// How much is written of a run.
+#[derive(Clone, Copy, Debug, PartialEq, Eq)]
+pub enum Form {
+    /// What the jobs put out, and the faults that they met.
+    Plain,
+    /// Besides, who got each tick, and each job that ended.
+    Trace,
+    /// Nothing but what the run came to.
+    Quiet,
+}
+
+/// How a run ended.
+#[derive(Clone, Copy, Debug, PartialEq, Eq)]
+pub enum Finish {
+    /// The collector found so many words reserved, more than the space has for evacuation.
+    Live(u64),
+    /// At the horizon.
+    AtEnd,
+}
 
 /// The bytes of a name.
 fn bytes_of(name: &Name) -> &[u8]
     ensures { result.now ≡ name.now }
 {
     name.items.as_slice()
+}
+
+/// The high tasks of a sheet.
+fn high_tasks(sheet: &Sheet) -> &[High]
+    ensures { result.now ≡ sheet.now.high }
+{
+    let tasks = &sheet.high;
+    tasks.items.as_slice()
 }
 
 /// The low tasks of a sheet.
@@ -30,11 +62,10 @@ fn low_tasks(sheet: &Sheet) -> &[Low]
     tasks.items.as_slice()
 }
 
-/// The response times of an admitted sheet.
-fn responses_of(admitted: &Admitted) -> &[u64]
-    ensures { result.now ≡ admitted.now.responses }
+/// The response times, one for each high task.
+fn times_of(responses: &Ticks) -> &[u64]
+    ensures { result.now ≡ responses.now }
 {
-    let responses = &admitted.responses;
     responses.items.as_slice()
 }
 
@@ -72,100 +103,282 @@ fn write_low_tasks<K: Sink>(tasks: &[Low], gather: &mut Gather, sink: &mut K) ->
 }
 
 /// Writes the lines of the analysis behind what waits.
-fn write_analysis<K: Sink>(
-    admitted: &Admitted,
+fn add_analysis<K: Sink>(
+    checked: &Checked,
+    responses: &Ticks,
     gather: &mut Gather,
     sink: &mut K,
 ) -> Result<(), Failed>
-    ensures ok { OnOk result (AppendsFront (K.taken sink.old) (K.taken sink.new) (gather.old ++ analysis admitted.now) gather.new) }
-    ensures prefix { OnErr result (AppendsPrefix (K.taken sink.old) (K.taken sink.new) (gather.old ++ analysis admitted.now)) }
+    requires whole { length responses.now ≡ length checked.now.sheet.high }
+    ensures ok { OnOk result (AppendsFront (K.taken sink.old) (K.taken sink.new) (gather.old ++ analysis checked.now.sheet checked.now.work checked.now.attempt checked.now.busy checked.now.debt responses.now) gather.new) }
+    ensures prefix { OnErr result (AppendsPrefix (K.taken sink.old) (K.taken sink.new) (gather.old ++ analysis checked.now.sheet checked.now.work checked.now.attempt checked.now.busy checked.now.debt responses.now)) }
     ensures cause { HasCause (K.faults sink.old) (K.faults sink.new) result }
 {
-    let checked = &admitted.checked;
     let heap = heap_line(checked.work, checked.attempt, checked.busy, checked.debt);
     gather.push(sink, heap.bytes())?;
     let sheet = &checked.sheet;
-    write_high_tasks(high_tasks(sheet), responses_of(admitted), gather, sink)?;
+    write_high_tasks(high_tasks(sheet), times_of(responses), gather, sink)?;
     write_low_tasks(low_tasks(sheet), gather, sink)
 }
 
-/// Runs a sheet to its horizon, and writes what each tick puts out behind what waits.
-fn write_ticks<K: Sink>(
-    sheet: &Sheet,
-    run: &mut Run,
+/// Writes the lines of the analysis: of the heap, of each high task with its response time, and of each low task.
+pub fn write_analysis<K: Sink>(
+    checked: &Checked,
+    responses: &Ticks,
+    sink: &mut K,
+) -> Result<(), Failed>
+    requires whole { length responses.now ≡ length checked.now.sheet.high }
+    ensures ok { OnOk result (Appends (K.taken sink.old) (K.taken sink.new) (analysis checked.now.sheet checked.now.work checked.now.attempt checked.now.busy checked.now.debt responses.now)) }
+    ensures prefix { OnErr result (AppendsPrefix (K.taken sink.old) (K.taken sink.new) (analysis checked.now.sheet checked.now.work checked.now.attempt checked.now.busy checked.now.debt responses.now)) }
+    ensures cause { HasCause (K.faults sink.old) (K.faults sink.new) result }
+{
+    let mut gather = Gather::new();
+    add_analysis(checked, responses, &mut gather, sink)?;
+    gather.flush(sink)
+}
+
+/// The name of the task that got a tick.
+fn name_of(sheet: &Sheet, who: Who) -> &[u8]
+    requires high { AreNamed sheet.now.high }
+    requires low { AreLowNamed sheet.now.low }
+    ensures name { result.now ≡ name_of sheet.now who }
+    ensures short { length result.now ≤ 16 }
+{
+    match who {
+        Who::Hi(place) => match high_tasks(sheet).get(place as usize) {
+            Some(task) => bytes_of(&task.name),
+            None => b"",
+        },
+        Who::Lo(place) => match low_tasks(sheet).get(place as usize) {
+            Some(task) => bytes_of(&task.name),
+            None => b"",
+        },
+        Who::Gc(_) | Who::Idle => b"",
+    }
+}
+
+/// Who got a tick.
+fn who_line(sheet: &Sheet, tick: u64, who: Who) -> Line
+    requires high { AreNamed sheet.now.high }
+    requires low { AreLowNamed sheet.now.low }
+    ensures { result ≡ who_text sheet.now tick who }
+{
+    match who {
+        Who::Hi(_) => task_line(tick, b"high", name_of(sheet, who)),
+        Who::Lo(_) => task_line(tick, b"low", name_of(sheet, who)),
+        Who::Gc(Chore::Step) => event_line(tick, b"step"),
+        Who::Gc(Chore::Flip) => event_line(tick, b"flip"),
+        Who::Gc(Chore::Lost(events)) => lost_line(tick, u64::from(events)),
+        Who::Idle => idle_line(tick),
+    }
+}
+
+/// Writes a line behind what waits, where a trace is asked for.
+fn trace<K: Sink>(
+    form: Form,
+    line: &Line,
     gather: &mut Gather,
     sink: &mut K,
 ) -> Result<(), Failed>
-    requires sheet { IsRunnable sheet.now }
-    requires start { IsAt sheet.now 0 run.old }
-    ensures end { OnOk result (IsAt sheet.now sheet.now.ticks run.new) }
-    ensures ok { OnOk result (AppendsFront (K.taken sink.old) (K.taken sink.new) (gather.old ++ ticks_text sheet.now sheet.now.ticks) gather.new) }
-    ensures prefix { OnErr result (AppendsPrefix (K.taken sink.old) (K.taken sink.new) (gather.old ++ ticks_text sheet.now sheet.now.ticks)) }
+    ensures ok { OnOk result (AppendsFront (K.taken sink.old) (K.taken sink.new) (gather.old ++ traced form line.now) gather.new) }
+    ensures prefix { OnErr result (AppendsPrefix (K.taken sink.old) (K.taken sink.new) (gather.old ++ traced form line.now)) }
     ensures cause { HasCause (K.faults sink.old) (K.faults sink.new) result }
 {
-    let tasks = high_tasks(sheet);
-    for tick in 0..sheet.ticks {
-        if let Some(output) = run.tick(sheet, tick) {
-            let name = bytes_of(&tasks[output.place].name);
-            gather.push(sink, out_line(tick, name, output.value).bytes())?;
-        }
+    match form {
+        Form::Trace => gather.push(sink, line.bytes()),
+        Form::Plain | Form::Quiet => Ok(()),
     }
-    Ok(())
+}
+
+/// Writes what a job put out behind what waits, where that is asked for.
+fn write_out<K: Sink>(
+    form: Form,
+    tick: u64,
+    name: &[u8],
+    out: Option<u64>,
+    gather: &mut Gather,
+    sink: &mut K,
+) -> Result<(), Failed>
+    requires { length name.now ≤ 16 }
+    ensures ok { OnOk result (AppendsFront (K.taken sink.old) (K.taken sink.new) (gather.old ++ voiced form (out_text tick name.now out)) gather.new) }
+    ensures prefix { OnErr result (AppendsPrefix (K.taken sink.old) (K.taken sink.new) (gather.old ++ voiced form (out_text tick name.now out))) }
+    ensures cause { HasCause (K.faults sink.old) (K.faults sink.new) result }
+{
+    match (form, out) {
+        (Form::Plain | Form::Trace, Some(value)) => {
+            gather.push(sink, out_line(tick, name, value).bytes())
+        }
+        _ => Ok(()),
+    }
+}
+
+/// Writes the fault that ended a job behind what waits, where that is asked for.
+fn write_fault<K: Sink>(
+    form: Form,
+    tick: u64,
+    name: &[u8],
+    end: Option<End>,
+    gather: &mut Gather,
+    sink: &mut K,
+) -> Result<(), Failed>
+    requires { length name.now ≤ 16 }
+    ensures ok { OnOk result (AppendsFront (K.taken sink.old) (K.taken sink.new) (gather.old ++ voiced form (fault_text tick name.now end)) gather.new) }
+    ensures prefix { OnErr result (AppendsPrefix (K.taken sink.old) (K.taken sink.new) (gather.old ++ voiced form (fault_text tick name.now end))) }
+    ensures cause { HasCause (K.faults sink.old) (K.faults sink.new) result }
+{
+    match (form, end) {
+        (
+            Form::Plain | Form::Trace,
+            Some(End {
+                job,
+                ticks: _,
+                fault: Some(fault),
+            }),
+        ) => gather.push(sink, fault_line(tick, name, job, fault).bytes()),
+        _ => Ok(()),
+    }
+}
+
+/// Writes the end of a job behind what waits, where a trace is asked for.
+fn write_ended<K: Sink>(
+    form: Form,
+    tick: u64,
+    name: &[u8],
+    end: Option<End>,
+    gather: &mut Gather,
+    sink: &mut K,
+) -> Result<(), Failed>
+    requires { length name.now ≤ 16 }
+    ensures ok { OnOk result (AppendsFront (K.taken sink.old) (K.taken sink.new) (gather.old ++ traced form (ended_text tick name.now end)) gather.new) }
+    ensures prefix { OnErr result (AppendsPrefix (K.taken sink.old) (K.taken sink.new) (gather.old ++ traced form (ended_text tick name.now end))) }
+    ensures cause { HasCause (K.faults sink.old) (K.faults sink.new) result }
+{
+    match end {
+        Some(end) => trace(form, &ended_line(tick, name, end.job, end.ticks), gather, sink),
+        None => Ok(()),
+    }
+}
+
+/// Writes what a tick was behind what waits.
+fn write_tick<K: Sink>(
+    form: Form,
+    sheet: &Sheet,
+    tick: u64,
+    ran: (Who, Option<u64>, Option<End>),
+    gather: &mut Gather,
+    sink: &mut K,
+) -> Result<(), Failed>
+    requires high { AreNamed sheet.now.high }
+    requires low { AreLowNamed sheet.now.low }
+    ensures ok { OnOk result (AppendsFront (K.taken sink.old) (K.taken sink.new) (gather.old ++ text_of_tick form sheet.now tick (Ran ran.0 ran.1 ran.2)) gather.new) }
+    ensures prefix { OnErr result (AppendsPrefix (K.taken sink.old) (K.taken sink.new) (gather.old ++ text_of_tick form sheet.now tick (Ran ran.0 ran.1 ran.2))) }
+    ensures cause { HasCause (K.faults sink.old) (K.faults sink.new) result }
+{
+    let (who, out, end) = ran;
+    let name = name_of(sheet, who);
+    trace(form, &who_line(sheet, tick, who), gather, sink)?;
+    write_out(form, tick, name, out, gather, sink)?;
+    write_fault(form, tick, name, end, gather, sink)?;
+    write_ended(form, tick, name, end, gather, sink)
 }
 
 /// Writes what each high task came to behind what waits.
-fn write_done<K: Sink>(
-    tasks: &[High],
-    ended: &[TaskRun],
+fn write_high_ends<P: Pick, K: Sink>(
+    session: &SessionBy<P>,
     gather: &mut Gather,
     sink: &mut K,
 ) -> Result<(), Failed>
-    requires names { AreNamed tasks.now }
-    requires whole { length ended.now ≡ length tasks.now }
-    ensures ok { OnOk result (AppendsFront (K.taken sink.old) (K.taken sink.new) (gather.old ++ flat_map line_of_course (zip tasks.now (map course_of ended.now))) gather.new) }
-    ensures prefix { OnErr result (AppendsPrefix (K.taken sink.old) (K.taken sink.new) (gather.old ++ flat_map line_of_course (zip tasks.now (map course_of ended.now)))) }
+    requires names { AreNamed session.now.sheet.high }
+    ensures ok { OnOk result (AppendsFront (K.taken sink.old) (K.taken sink.new) (gather.old ++ texts_below (line_of_high_end session.now.sheet (state session.now.geometry (P.choice session.now.pick) session.now.sheet session.now.given)) (length session.now.sheet.high)) gather.new) }
+    ensures prefix { OnErr result (AppendsPrefix (K.taken sink.old) (K.taken sink.new) (gather.old ++ texts_below (line_of_high_end session.now.sheet (state session.now.geometry (P.choice session.now.pick) session.now.sheet session.now.given)) (length session.now.sheet.high))) }
     ensures cause { HasCause (K.faults sink.old) (K.faults sink.new) result }
 {
+    let tasks = high_tasks(&session.checked().sheet);
     for (place, task) in tasks.iter().enumerate() {
-        let at = ended[place];
-        let line = done_line(bytes_of(&task.name), at.job, at.latest);
+        let seat = place as u8;
+        let line = done_line(bytes_of(&task.name), session.ended(seat), session.latest(seat));
         gather.push(sink, line.bytes())?;
     }
     Ok(())
 }
 
-/// Writes the last lines behind what waits.
-fn write_closing<K: Sink>(
-    sheet: &Sheet,
-    run: &Run,
+/// Writes what each low task came to behind what waits.
+fn write_low_ends<P: Pick, K: Sink>(
+    session: &SessionBy<P>,
     gather: &mut Gather,
     sink: &mut K,
 ) -> Result<(), Failed>
-    requires names { AreNamed sheet.now.high }
-    requires end { IsAt sheet.now sheet.now.ticks run.now }
-    ensures ok { OnOk result (AppendsFront (K.taken sink.old) (K.taken sink.new) (gather.old ++ closing sheet.now (state sheet.now sheet.now.ticks)) gather.new) }
-    ensures prefix { OnErr result (AppendsPrefix (K.taken sink.old) (K.taken sink.new) (gather.old ++ closing sheet.now (state sheet.now sheet.now.ticks))) }
+    requires names { AreLowNamed session.now.sheet.low }
+    ensures ok { OnOk result (AppendsFront (K.taken sink.old) (K.taken sink.new) (gather.old ++ texts_below (line_of_low_end session.now.sheet (state session.now.geometry (P.choice session.now.pick) session.now.sheet session.now.given)) (length session.now.sheet.low)) gather.new) }
+    ensures prefix { OnErr result (AppendsPrefix (K.taken sink.old) (K.taken sink.new) (gather.old ++ texts_below (line_of_low_end session.now.sheet (state session.now.geometry (P.choice session.now.pick) session.now.sheet session.now.given)) (length session.now.sheet.low))) }
     ensures cause { HasCause (K.faults sink.old) (K.faults sink.new) result }
 {
-    let cycles = cycles_line(0, 0, run.idle);
-    let end = end_line(sheet.ticks);
-    write_done(high_tasks(sheet), &run.tasks, gather, sink)?;
-    gather.push(sink, cycles.bytes())?;
-    gather.push(sink, end.bytes())
+    let sheet = &session.checked().sheet;
+    let first = high_tasks(sheet).len();
+    for (place, task) in low_tasks(sheet).iter().enumerate() {
+        let seat = (first + place) as u8;
+        let line = done_line(bytes_of(&task.name), session.ended(seat), session.latest(seat));
+        gather.push(sink, line.bytes())?;
+    }
+    Ok(())
 }
 
-/// Runs an admitted sheet, whose run is at its start, and writes its report.
-pub fn write_report<K: Sink>(admitted: &Admitted, run: &mut Run, sink: &mut K) -> Result<(), Failed>
-    requires sheet { IsRunnable admitted.now.checked.sheet }
-    requires start { IsAt admitted.now.checked.sheet 0 run.old }
-    ensures ok { OnOk result (Appends (K.taken sink.old) (K.taken sink.new) (report admitted.now)) }
-    ensures prefix { OnErr result (AppendsPrefix (K.taken sink.old) (K.taken sink.new) (report admitted.now)) }
+/// Writes the last lines of a run that came to its horizon behind what waits.
+fn write_closing<P: Pick, K: Sink>(
+    session: &SessionBy<P>,
+    gather: &mut Gather,
+    sink: &mut K,
+) -> Result<(), Failed>
+    requires high { AreNamed session.now.sheet.high }
+    requires low { AreLowNamed session.now.sheet.low }
+    ensures ok { OnOk result (AppendsFront (K.taken sink.old) (K.taken sink.new) (gather.old ++ closing session.now.sheet (state session.now.geometry (P.choice session.now.pick) session.now.sheet session.now.given)) gather.new) }
+    ensures prefix { OnErr result (AppendsPrefix (K.taken sink.old) (K.taken sink.new) (gather.old ++ closing session.now.sheet (state session.now.geometry (P.choice session.now.pick) session.now.sheet session.now.given))) }
     ensures cause { HasCause (K.faults sink.old) (K.faults sink.new) result }
 {
-    let sheet = &admitted.checked.sheet;
+    write_high_ends(session, gather, sink)?;
+    write_low_ends(session, gather, sink)?;
+    let cycles = cycles_line(session.flips(), session.events(), session.idle());
+    gather.push(sink, cycles.bytes())?;
+    gather.push(sink, end_line(session.checked().sheet.ticks).bytes())
+}
+
+/// Runs a session that has had no tick to its end, and writes the lines of its ticks and the last lines. It answers how the
+/// session ended: at its horizon, or with the words that the collector found reserved, more than the space has for evacuation.
+/// It takes no memory.
+///
+/// # Errors
+///
+/// Where a write fails. What was taken is then a first part of these lines.
+pub fn write_run<P: Pick, K: Sink>(
+    session: &mut SessionBy<P>,
+    form: Form,
+    sink: &mut K,
+) -> Result<Finish, Failed>
+    requires start { session.old.given ≡ 0 }
+    ensures ok { IfOk result (λ finish. (text : List ℕ) × IsRunText form session.old.geometry (P.choice session.old.pick) session.old.sheet finish text × Appends (K.taken sink.old) (K.taken sink.new) text) }
+    ensures prefix { OnErr result ((finish : Finish) × (text : List ℕ) × IsRunText form session.old.geometry (P.choice session.old.pick) session.old.sheet finish text × AppendsPrefix (K.taken sink.old) (K.taken sink.new) text) }
+    ensures cause { HasCause (K.faults sink.old) (K.faults sink.new) result }
+    ensures opened { session.new ≡ record session.old { given = session.new.given } }
+{
+    let ticks = session.checked().sheet.ticks;
     let mut gather = Gather::new();
-    write_analysis(admitted, &mut gather, sink)?;
-    write_ticks(sheet, run, &mut gather, sink)?;
-    write_closing(sheet, run, &mut gather, sink)?;
-    gather.flush(sink)
+    for tick in 0..ticks {
+        match session.tick() {
+            Tick::Ran { who, out, end } => {
+                let sheet = &session.checked().sheet;
+                write_tick(form, sheet, tick, (who, out, end), &mut gather, sink)?;
+            }
+            Tick::LiveOver(words) => {
+                let limit = session.checked().sheet.heap.live;
+                trace(form, &event_line(tick, b"live"), &mut gather, sink)?;
+                gather.push(sink, live_line(tick, words, u64::from(limit)).bytes())?;
+                gather.flush(sink)?;
+                return Ok(Finish::Live(words));
+            }
+            Tick::Over => unreachable!(),
+        }
+    }
+    write_closing(session, &mut gather, sink)?;
+    gather.flush(sink)?;
+    Ok(Finish::AtEnd)
 }

@@ -1,6 +1,7 @@
 //! Runs worked out by hand.
 mod edits;
 mod orders;
+mod rows;
 mod runs;
 mod streams;
 mod versions;
@@ -34,6 +35,11 @@ work 1
 out v0
 """
 "#;
+
+/// Its analysis.
+const ANALYSIS: &str = "heap work 4179 attempt 0 busy 2 debt 0
+high a response 2 deadline 10
+";
 
 /// Its report.
 const REPORT: &str = "heap work 4179 attempt 0 busy 2 debt 0

@@ -316,31 +316,35 @@ fn refuses_what_is_not_admitted(rt: HostRuntime) -> Result<(), Fail> {
     Ok(())
 }
 
-/// Sheets whose run isn't built.
+/// Statements on the heap in the smallest sheet: no register but the first refers to an object.
 const ON_THE_HEAP: &[Edit] = &[
-    // A statement on the heap.
     Edit {
         old: "out v0",
         new: "clear r1",
-        status: Status::NotBuilt,
-        text: "not built\n",
+        status: Status::Done,
+        text: "heap work 4179 attempt 0 busy 2 debt 0
+high a response 2 deadline 10
+done a jobs 1 latest 2
+cycles 0 collector 0 idle 8
+end 10
+",
     },
     Edit {
         old: "work 1\n",
         new: "if null r1\nend\n",
-        status: Status::NotBuilt,
-        text: "not built\n",
+        status: Status::Done,
+        text: REPORT,
     },
     Edit {
         old: "work 1\n",
         new: "if same r1 r2\nend\n",
-        status: Status::NotBuilt,
-        text: "not built\n",
+        status: Status::Done,
+        text: REPORT,
     },
 ];
 
 #[test]
-fn refuses_statements_on_the_heap(rt: HostRuntime) -> Result<(), Fail> {
+fn runs_statements_on_the_heap(rt: HostRuntime) -> Result<(), Fail> {
     expect_edits(&rt, rt.alloc(), ON_THE_HEAP)?;
     Ok(())
 }

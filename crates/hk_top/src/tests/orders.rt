@@ -128,9 +128,18 @@ fn refuses_in_order(rt: HostRuntime) -> Result<(), Fail> {
 #[test]
 fn admits_by_the_work_of_the_collector(rt: HostRuntime) -> Result<(), Fail> {
     let alloc = rt.alloc();
-    // A low task counts in the collector's work, and isn't run yet.
+    // A low task counts in the collector's work.
     let input = format!(in alloc; "{SMALLEST}{LOW}")?;
-    expect_run(&rt, alloc, input.as_str(), Status::NotBuilt, "not built\n")?;
+    let report = "heap work 4213 attempt 0 busy 14 debt 0
+high a response 2 deadline 10
+low b
+out 1 a 0
+done a jobs 1 latest 2
+done b jobs 1 latest 3
+cycles 0 collector 0 idle 7
+end 10
+";
+    expect_run(&rt, alloc, input.as_str(), Status::Done, report)?;
     let input = edited(&rt, alloc, input.as_str(), "rate = 11", "rate = 10")?;
     expect_run(
         &rt,
@@ -154,7 +163,14 @@ fn admits_by_the_work_of_the_collector(rt: HostRuntime) -> Result<(), Fail> {
         "refused reserve have 66 need 67\n",
     )?;
     let input = edited(&rt, alloc, makes.as_str(), "reserve = 129", "reserve = 7")?;
-    expect_run(&rt, alloc, input.as_str(), Status::NotBuilt, "not built\n")?;
+    // The job has 8 ticks, and the collector the other two.
+    let report = "heap work 4179 attempt 34 busy 75 debt 67
+high a response 8 deadline 100
+done a jobs 1 latest 8
+cycles 1 collector 2 idle 0
+end 10
+";
+    expect_run(&rt, alloc, input.as_str(), Status::Done, report)?;
     Ok(())
 }
 

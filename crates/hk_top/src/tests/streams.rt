@@ -1,5 +1,5 @@
 //! Which words are taken, and what happens where the input or the output fails.
-use super::{REPORT, SMALLEST, edited, expect_run, run};
+use super::{ANALYSIS, REPORT, SMALLEST, edited, expect_run, run};
 use crate::run_tool;
 use hk_io::{MemSink, Status, StdSource};
 use std::io;
@@ -8,7 +8,7 @@ use std::test::Fail;
 
 const USAGE: &str = "usage: henri check, run [--trace], gen N, sim N\n";
 
-/// Words that aren't the one word `run`.
+/// Words that ask for nothing.
 const WRONG: &[&[&str]] = &[
     &[],
     &["RUN"],
@@ -17,7 +17,10 @@ const WRONG: &[&[&str]] = &[
     &["run", "x"],
     &["run", "--"],
     &["run", "run"],
-    &["check"],
+    &["check", "x"],
+    &["--trace", "run"],
+    &["run", "--trace", "x"],
+    &["gen"],
 ];
 
 #[test]
@@ -52,17 +55,19 @@ fn tells_a_failed_read_from_the_end(rt: HostRuntime) -> Result<(), Fail> {
 
 #[test]
 fn leaves_a_prefix_where_a_write_fails(rt: HostRuntime) -> Result<(), Fail> {
-    // The report of one job goes out in one piece.
-    let ended = run(rt.alloc(), &["run"], SMALLEST, (&[], &[0]), 1000)?;
-    assert_eq!(rt; ended.status, Status::WriteFault);
-    assert!(rt; ended.sink.bytes().is_empty());
+    // The analysis goes out in one piece, and what one job does in another.
+    for (call, taken) in [(0, ""), (1, ANALYSIS)] {
+        let ended = run(rt.alloc(), &["run"], SMALLEST, (&[], &[call]), 1000)?;
+        assert_eq!(rt; ended.status, Status::WriteFault);
+        assert_eq!(rt; ended.sink.bytes(), taken.as_bytes());
+    }
     for room in [0, 1, 40, REPORT.len() - 1] {
         let ended = run(rt.alloc(), &["run"], SMALLEST, (&[], &[]), room)?;
         assert_eq!(rt; ended.status, Status::WriteFault);
         assert_eq!(rt; ended.sink.bytes().len(), room);
         assert!(rt; REPORT.as_bytes().starts_with(ended.sink.bytes()));
     }
-    let ended = run(rt.alloc(), &["run"], SMALLEST, (&[], &[1]), REPORT.len())?;
+    let ended = run(rt.alloc(), &["run"], SMALLEST, (&[], &[2]), REPORT.len())?;
     assert_eq!(rt; ended.status, Status::Done);
     Ok(())
 }

@@ -1,0 +1,76 @@
+-- How a session ends: each tick goes on, or finds more words reserved than the space has for evacuation.
+use Rattle.std.proofs.Common.{◌≡◌, ◌≢◌, ℕ, zero, suc, ◌+◌, ◌-◌, ◌<◌, ◌≤◌, ◌⊎◌, Bool, true, false, List, Option, Some, None, refl, sym, ap, ◌∙◌, subst, arith, inl, inr}
+use Rattle.std.specs.Prelude.{nat_lt}
+use Rattle.hk_words.specs.declared.geometry.Geometry.{Geometry}
+use Rattle.hk_core.specs.declared.spot.Work.{Work}
+use Rattle.hk_core.specs.Collect.{work_by_collector}
+use Rattle.hk_plan.specs.declared.Ready.{Ready}
+use Rattle.hk_sheet.specs.declared.sheet.Sheet.{Sheet}
+use Rattle.hk_dispatch.specs.declared.tick.Who.{Who}
+use Rattle.hk_dispatch.specs.declared.tick.End.{End}
+use Rattle.hk_dispatch.specs.declared.tick.Tick.{Tick}
+use Rattle.hk_dispatch.specs.declared.tick.Tick.TheVariants as tick
+use Rattle.hk_dispatch.specs.Moment.{Moment, core_of}
+use Rattle.hk_dispatch.specs.Turns.{Turn, to_task, to_collector, to_nobody, turn}
+use Rattle.hk_dispatch.specs.Ticks.{over_in, after_task, after_event, after_turn}
+use Rattle.hk_dispatch.specs.Session.{after_tick, state, IsTick}
+use Rattle.hk_dispatch.specs.Told.{told, told_turn, told_event, told_by}
+use Rattle.hk_top.specs.declared.report.Finish.{Finish}
+use Rattle.hk_top.specs.declared.report.Finish.TheVariants as finish
+use Rattle.hk_top.specs.Report.{EndsSo, at_horizon, live_over}
+
+-- a tick that answers so, after which the collector has found this
+pub data GoesOn (answer : Tick) (over : Option ℕ) : Type 0 where
+  ran : (who : Who) (out : Option ℕ) (end : Option End) → answer ≡ tick.Ran who out end → over ≡ None → GoesOn answer over
+  stands : (words : ℕ) → answer ≡ tick.LiveOver words → over ≡ Some words → GoesOn answer over
+
+event_goes_on : (work : Work) (found : Option ℕ) → GoesOn (told_event work found) found
+event_goes_on work None = ran _ _ _ refl refl
+event_goes_on work (Some words) = stands words refl refl
+
+turn_goes_on : (sheet : Sheet) (m : Moment) (at : ℕ) (o : Turn) → m.over ≡ None → GoesOn (told_turn sheet m at o) (after_turn sheet m at o).over
+unfolding after_task after_event
+turn_goes_on sheet m at (to_task seat) none = ran _ _ _ refl none
+turn_goes_on sheet m at to_collector none = event_goes_on (work_by_collector (core_of m)) (over_in (work_by_collector (core_of m)))
+turn_goes_on sheet m at to_nobody none = ran _ _ _ refl none
+
+module _ (g : Geometry) (choice : List Ready → ℕ) (sheet : Sheet) where
+  told_is : (at : ℕ) (over : Option ℕ) → over ≡ None → at < sheet.ticks → (m : Moment) → told_by choice sheet m at over ≡ told_turn sheet m at (turn choice sheet m at)
+  told_is at None none within m = let e : nat_lt at sheet.ticks ≡ true = grind (arith, within) in rw e refl
+  told_is at (Some words) none within m = absurd (let e : Some words ≡ None = none in cc)
+
+  next_is : (at : ℕ) (m : Moment) (over : Option ℕ) → over ≡ None → after_tick choice sheet m at over ≡ after_turn sheet m at (turn choice sheet m at)
+  next_is at m None none = refl
+  next_is at m (Some words) none = absurd (let e : Some words ≡ None = none in cc)
+
+  pub tick_goes_on : (at : ℕ) → IsTick g choice sheet at → GoesOn (told g choice sheet at) (state g choice sheet (suc at)).over
+  unfolding told state
+  tick_goes_on at t =
+      let m = state g choice sheet at in
+      let answer = told_is at m.over t.before_over t.within m in
+      let next = next_is at m m.over t.before_over in
+      subst (λ a. GoesOn a (after_tick choice sheet m at m.over).over) (sym answer)
+      (subst (λ (n : Moment). GoesOn (told_turn sheet m at (turn choice sheet m at)) n.over) (sym next) (turn_goes_on sheet m at (turn choice sheet m at) t.before_over))
+
+  -- from a moment before the collector found too much the session comes to an end
+  pub record Ends (from : ℕ) : Type 0 where
+    pub end : Finish
+    pub ticks : ℕ
+    pub so : EndsSo g choice sheet end ticks
+    pub later : from ≤ ticks
+
+  ends_after : (left from : ℕ) → from + left ≡ sheet.ticks → (state g choice sheet from).over ≡ None → Ends from
+  ends_after zero from here none =
+      let same : from ≡ sheet.ticks = omega (arith, here) in
+      record { end = finish.AtEnd; ticks = sheet.ticks; so = at_horizon (subst (λ t. (state g choice sheet t).over ≡ None) same none); later = omega (arith, same) }
+  ends_after (suc left) from here none = by_tick (tick_goes_on from t)
+    where
+      t : IsTick g choice sheet from
+      t = record { within = omega (arith, here); before_over = none }
+
+      by_tick : GoesOn (told g choice sheet from) (state g choice sheet (suc from)).over → Ends from
+      by_tick (ran who out end answer goes) = let e = ends_after left (suc from) (omega (arith, here)) goes in let l = e.later in record { end = e.end; ticks = e.ticks; so = e.so; later = omega (arith, l) }
+      by_tick (stands words answer over) = record { end = finish.Live words; ticks = suc from; so = live_over from words t answer; later = omega arith }
+
+  pub ends_from : (from : ℕ) → from ≤ sheet.ticks → (state g choice sheet from).over ≡ None → Ends from
+  ends_from from le none = ends_after (sheet.ticks - from) from (omega (arith, le)) none

@@ -2,6 +2,7 @@ pub mod Admission
 pub mod Bounds
 pub mod Ceilings
 pub mod Choice
+pub mod Chooses
 pub mod Headline
 pub mod Order
 pub mod Promises

@@ -91,6 +91,10 @@ impl Pick for Ceiling {
 
     ghost choice = { λ sections rows. by_ceilings sections rows };
 
+    ghost use Rattle.hk_ceiling.specs.Chooses.{by_ceilings_chooses};
+
+    ghost chooses = { by_ceilings_chooses };
+
     fn pick(&self, ready: &[Ready]) -> usize {
         best(&self.sections[..self.count], ready)
     }

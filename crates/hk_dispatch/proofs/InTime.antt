@@ -73,7 +73,7 @@ module _ (g : Geometry) (choice : List Ready → ℕ) (sheet : Sheet) (work atte
         ready_at sheet s.checked.readable.ticks.at_most (high_at sheet i) right j l
         ∙ ap (λ a. a + delay_of (high_at sheet i) j) (sym (arrives_at sheet s.checked.readable.ticks.at_most (high_at sheet i) right j l))
 
-    keeps_timing : JobsKeepTiming jobs i (high_at sheet i).timing
+    pub keeps_timing : JobsKeepTiming jobs i (high_at sheet i).timing
     keeps_timing = record {
       period_some = let some = right.timing.period.at_least in omega (arith, some);
       ticks_some = λ j lt. takes_some j;

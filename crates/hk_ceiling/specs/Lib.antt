@@ -1,0 +1,12 @@
+pub mod Admission
+pub mod Bounds
+pub mod Ceilings
+pub mod Choice
+pub mod Chooses
+pub mod Headline
+pub mod Order
+pub mod Promises
+pub mod Sessions
+pub mod Single
+pub mod Told
+pub mod Words

@@ -73,7 +73,7 @@ module _ (g : Geometry) (choice : List Ready → ℕ) (sheet : Sheet) (work atte
         ready_at sheet s.checked.readable.ticks.at_most (high_at sheet i) right j l
         ∙ ap (λ a. a + delay_of (high_at sheet i) j) (sym (arrives_at sheet s.checked.readable.ticks.at_most (high_at sheet i) right j l))
 
-    keeps_timing : JobsKeepTiming jobs i (high_at sheet i).timing
+    pub keeps_timing : JobsKeepTiming jobs i (high_at sheet i).timing
     keeps_timing = record {
       period_some = let some = right.timing.period.at_least in omega (arith, some);
       ticks_some = λ j lt. takes_some j;
@@ -84,7 +84,7 @@ module _ (g : Geometry) (choice : List Ready → ℕ) (sheet : Sheet) (work atte
     }
 
 -- the times of a high task in the list of all
-time_is : (tasks : List High) (i : ℕ) → i < length tasks → timing_at (timings_of tasks) i ≡ (slice_index_or tasks i no_high).timing
+pub time_is : (tasks : List High) (i : ℕ) → i < length tasks → timing_at (timings_of tasks) i ≡ (slice_index_or tasks i no_high).timing
 time_is tasks i lt = get_or-map (λ (task : High). task.timing) tasks i no_high no_timing lt
 
 -- a response time is at least a tick

@@ -1,0 +1,11 @@
+pub mod Double
+pub mod Busy
+pub mod Work
+pub mod LeastRow
+pub mod Chosen
+pub mod InTime
+pub mod Points
+pub mod TooMuch
+pub mod Refusals
+pub mod Sessions
+pub mod Rising

@@ -9,3 +9,4 @@ pub mod TooMuch
 pub mod Refusals
 pub mod Sessions
 pub mod Rising
+pub mod Headline

@@ -6,3 +6,4 @@ pub mod InTime
 pub mod TooMuch
 pub mod Refusals
 pub mod Sessions
+pub mod Headline

@@ -3,6 +3,7 @@ ghost use Rattle.hk_edf.specs.InTime.{ChoiceGoesByDeadlines, WholeWhenDue, Deadl
 ghost use Rattle.hk_edf.specs.TooMuch.{NoScheduleFits};
 ghost use Rattle.hk_edf.specs.Refusals.{AdmittedIsNotRefused, OneRefusal, RefusedFitsNowhere};
 ghost use Rattle.hk_edf.specs.Sessions.{EarliestIsChoice, JobsEndByDeadlines};
+ghost use Rattle.hk_edf.specs.Headline.{HeadlineHolds};
 
 /// The row with the least deadline is one of the rows, so that each law of sessions holds where it is chosen.
 pub fn earliest_is_choice()
@@ -22,6 +23,12 @@ pub fn deadlines_are_met()
 /// words reserved.
 pub fn jobs_end_by_deadlines()
     ensures { JobsEndByDeadlines }
+{}
+
+/// The headline holds of the run of every admitted sheet: its high jobs end by their deadlines, its heap has room, and each
+/// reply is that of the heap that never collects.
+pub fn headline_holds()
+    ensures { HeadlineHolds }
 {}
 
 /// Where more is due within a time than it has ticks, no schedule ends all of it in time.

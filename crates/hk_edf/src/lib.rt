@@ -14,8 +14,8 @@ pub use admission::admit_edf;
 pub use choice::Earliest;
 pub use due::{demand, first_over};
 pub use laws::{
-    deadlines_are_met, earliest_is_choice, jobs_end_by_deadlines, no_refusal, no_schedule_fits,
-    one_refusal, refused_fits_nowhere,
+    deadlines_are_met, earliest_is_choice, headline_holds, jobs_end_by_deadlines, no_refusal,
+    no_schedule_fits, one_refusal, refused_fits_nowhere,
 };
 pub use refused::EdfRefused;
 

@@ -1,9 +1,9 @@
 //! What is due, which row is chosen, and what sheets are answered.
-ghost use Rattle.std.specs.Prelude.{IsTrue, ◌↔◌};
+ghost use Rattle.std.specs.Prelude.{IsTrue, ◌↔◌, ◌<◌};
 ghost use Rattle.hk_rta.specs.Demand.{IsTimed};
 
 use super::*;
-use hk_admit::Refused;
+use hk_admit::{Refused, admit};
 use hk_dispatch::{Pick, Ready};
 use hk_rta::{MAX_TASKS, MAX_TICKS, Timing};
 use hk_sheet::{Name, read};
@@ -83,7 +83,7 @@ fn first_times(rt: HostRuntime) -> Result<(), Fail> {
     let cases: [(&[(u64, u64, u64)], u64, Option<u64>); 12] = [
         (&[], 100, None),
         (&[(2, 5, 5), (4, 7, 7)], 14, None),
-        (&[(2, 5, 5), (4, 7, 7)], BIG, None),
+        (&[(2, 5, 5), (4, 7, 7)], 10_000, None),
         (&[(2, 5, 5), (4, 7, 5)], 14, Some(5)),
         (&[(2, 5, 5), (4, 7, 5)], 4, None),
         (&[(2, 5, 5), (4, 7, 5)], 5, Some(5)),
@@ -92,8 +92,8 @@ fn first_times(rt: HostRuntime) -> Result<(), Fail> {
         // the second job of the first task is late
         (&[(2, 4, 4), (3, 6, 6)], 12, None),
         (&[(2, 4, 2), (3, 6, 6)], 12, Some(6)),
-        (&[(1, 1, 1), (1, BIG, BIG)], BIG, Some(BIG)),
-        (&[(1, 1, 1), (1, BIG, BIG)], BIG - 1, None),
+        (&[(1, 1, 1), (1, 1000, 1000)], 1000, Some(1000)),
+        (&[(1, 1, 1), (1, 1000, 1000)], 999, None),
         (&[(BIG, BIG, BIG)], BIG, None),
     ];
     for (tasks, last, want) in cases {
@@ -118,8 +118,8 @@ fn row(task: u8, deadline: u64) -> Ready {
 
 #[tactic(auto, using(crate::proofs::Rising::three_rise))]
 fn choose(first: Ready, second: Ready, third: Ready) -> usize
-    requires { first.task < second.task }
-    requires { second.task < third.task }
+    requires rises { first.task < second.task }
+    requires rises_on { second.task < third.task }
 {
     Earliest.pick(&[first, second, third])
 }
@@ -175,31 +175,43 @@ fn first_byte(name: &Name) -> u8 {
     name.items.first().copied().unwrap_or(0)
 }
 
-fn told(alloc: Global, case: &Case) -> Result<Told, Fail> {
+fn told_of(refused: &EdfRefused) -> Told {
+    match refused {
+        EdfRefused::Demand(t) => Told::Over(*t),
+        EdfRefused::Jitter(name) => Told::Jitter(first_byte(name)),
+        EdfRefused::Heap(Refused::Busy) => Told::Busy,
+        _ => Told::Other,
+    }
+}
+
+fn answer(alloc: Global, case: &Case) -> Result<Told, Fail> {
     let text = sheet_text(alloc, case)?;
     let Ok(sheet) = read(alloc, text.as_bytes()) else {
         return Ok(Told::Other);
     };
-    Ok(match admit_edf(alloc, sheet) {
-        Ok(checked) => Told::Fits(checked.busy),
-        Err(EdfRefused::Demand(t)) => Told::Over(t),
-        Err(EdfRefused::Jitter(name)) => Told::Jitter(first_byte(&name)),
-        Err(EdfRefused::Heap(Refused::Busy)) => Told::Busy,
-        Err(_) => Told::Other,
-    })
+    match admit_edf(alloc, sheet) {
+        Ok(checked) => Ok(Told::Fits(checked.busy)),
+        Err(refused) => Ok(told_of(&refused)),
+    }
+}
+
+fn told_by_priority(refused: &Refused) -> Told {
+    match refused {
+        Refused::Response(name) => Told::Response(first_byte(name)),
+        _ => Told::Other,
+    }
 }
 
 /// The same under fixed priorities.
-fn told_by_priority(alloc: Global, case: &Case) -> Result<Told, Fail> {
+fn answer_by_priority(alloc: Global, case: &Case) -> Result<Told, Fail> {
     let text = sheet_text(alloc, case)?;
     let Ok(sheet) = read(alloc, text.as_bytes()) else {
         return Ok(Told::Other);
     };
-    Ok(match hk_admit::admit(alloc, sheet) {
-        Ok(admitted) => Told::Fits(admitted.checked.busy),
-        Err(Refused::Response(name)) => Told::Response(first_byte(&name)),
-        Err(_) => Told::Other,
-    })
+    match admit(alloc, sheet) {
+        Ok(admitted) => Ok(Told::Fits(admitted.checked.busy)),
+        Err(refused) => Ok(told_by_priority(&refused)),
+    }
 }
 
 const FITS: Case = Case {
@@ -246,7 +258,7 @@ const CASES: &[Case] = &[
 
 fn check_all(rt: &impl Abort, alloc: Global, cases: &[Case]) -> Result<(), Fail> {
     for case in cases {
-        assert_eq!(rt; told(alloc, case)?, case.told);
+        assert_eq!(rt; answer(alloc, case)?, case.told);
     }
     Ok(())
 }
@@ -259,6 +271,9 @@ fn sheets(rt: HostRuntime) -> Result<(), Fail> {
 /// What fits by deadlines needn't by fixed priorities.
 #[test]
 fn by_priority(rt: HostRuntime) -> Result<(), Fail> {
-    assert_eq!(rt; told_by_priority(rt.alloc(), &FITS)?, Told::Response(b'b'));
+    assert_eq!(rt;
+        answer_by_priority(rt.alloc(), &FITS)?,
+        Told::Response(b'b')
+    );
     Ok(())
 }

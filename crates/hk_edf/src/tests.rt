@@ -152,10 +152,11 @@ struct Case {
     told: Told,
 }
 
-/// What a sheet is answered; a name is told by its first byte.
+/// What a sheet is answered: where it is admitted the numbers of its analysis, `work`, `attempt`, `busy` and `debt`. A name is
+/// told by its first byte.
 #[derive(Clone, Copy, Debug, PartialEq, Eq)]
 enum Told {
-    Fits(u64),
+    Fits(u64, u64, u64, u64),
     Busy,
     Jitter(u8),
     Over(u64),
@@ -190,7 +191,7 @@ fn answer(alloc: Global, case: &Case) -> Result<Told, Fail> {
         return Ok(Told::Other);
     };
     match admit_edf(alloc, sheet) {
-        Ok(checked) => Ok(Told::Fits(checked.busy)),
+        Ok(c) => Ok(Told::Fits(c.work, c.attempt, c.busy, c.debt)),
         Err(refused) => Ok(told_of(&refused)),
     }
 }
@@ -209,7 +210,7 @@ fn answer_by_priority(alloc: Global, case: &Case) -> Result<Told, Fail> {
         return Ok(Told::Other);
     };
     match admit(alloc, sheet) {
-        Ok(admitted) => Ok(Told::Fits(admitted.checked.busy)),
+        Ok(_admitted) => Ok(Told::Other),
         Err(refused) => Ok(told_by_priority(&refused)),
     }
 }
@@ -219,7 +220,7 @@ const FITS: Case = Case {
     deadline: 7,
     jitter_a: 0,
     jitter_b: 0,
-    told: Told::Fits(14),
+    told: Told::Fits(4213, 0, 14, 0),
 };
 
 const CASES: &[Case] = &[

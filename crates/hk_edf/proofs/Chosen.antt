@@ -1,13 +1,13 @@
 -- That the schedule of the jobs alone by the choice of the least deadline goes by deadlines.
-use Rattle.std.proofs.Common.{◌≡◌, ◌≢◌, ℕ, suc, ◌+◌, ◌<◌, ◌≤◌, ◌⊎◌, Bool, true, false, ◌&&◌, nat_lt, nat_le, List, Option, Some, None, length, refl, sym, ap, ◌∙◌, subst, arith, inl, inr}
+use Rattle.std.proofs.Common.{◌≡◌, ◌≢◌, ℕ, suc, ◌+◌, ◌<◌, ◌≤◌, ◌⊎◌, true, ◌&&◌, nat_lt, nat_le, List, Option, Some, None, length, refl, sym, ap, ◌∙◌, subst, arith, inl, inr}
 use Rattle.std.specs.Prelude.{if◌then◌else◌}
 use Rattle.std.proofs.lemmas.Bool.{cases_lt, cases_eq, and_parts, and_from, lt-ltb, le-leb, ltb-true, leb-true, eq-eqb, ne_eqb, true≢false}
 use Rattle.hk_rta.specs.declared.Timing.{Timing}
 use Rattle.hk_plan.specs.declared.Ready.{Ready}
 use Rattle.hk_plan.specs.AloneBy.{Jobs, is_ready_job, earliest, row_for, ready_rows, ready_at, alone_turn, is_some_at, alone_had}
-use Rattle.hk_plan.proofs.ReadyRows.{FirstIs, first_law, row_from, row_to, chosen_law}
+use Rattle.hk_plan.proofs.ReadyRows.{first_law, row_from, row_to, chosen_law}
 use Rattle.hk_edf.specs.Earliest.{earliest_row}
-use Rattle.hk_edf.specs.ByDeadlines.{due_at, IsReadyJob, ToNobody, ToEarliest, ByDeadlines}
+use Rattle.hk_edf.specs.ByDeadlines.{due_at, IsReadyJob, ToNobody, ToEarliest}
 use Rattle.hk_edf.specs.InTime.{KeepTimings, ChoiceGoesByDeadlines}
 use Rattle.hk_edf.proofs.LeastRow.{earliest_of}
 

@@ -1,14 +1,12 @@
 -- That a schedule by earliest deadlines meets each of them.
-use Rattle.std.proofs.Common.{◌≡◌, ℕ, zero, suc, ◌+◌, ◌-◌, ◌<◌, ◌≤◌, Bool, true, false, ◌&&◌, List, Option, Some, None, arith, inl, inr, refl, sym, ◌∙◌, ap, subst}
+use Rattle.std.proofs.Common.{◌≡◌, ℕ, zero, suc, ◌+◌, ◌-◌, ◌<◌, ◌≤◌, Bool, true, false, ◌&&◌, Option, Some, None, arith, inl, inr, refl, sym, ◌∙◌, ap, subst}
 use Rattle.std.specs.Prelude.{if◌then◌else◌}
 use Rattle.std.proofs.lemmas.Bool.{cases_lt, cases_eq, and_parts, eq-eqb, ne_eqb}
-use Rattle.hk_rta.specs.declared.Timing.{Timing}
-use Rattle.hk_rta.specs.Demand.{demand}
-use Rattle.hk_plan.specs.AloneBy.{Jobs, IsJob, earliest, alone_turn, is_some_at, alone_had, AloneGives, AloneEnds}
+use Rattle.hk_plan.specs.AloneBy.{Jobs, earliest, alone_turn, is_some_at, alone_had, AloneGives, AloneEnds}
 use Rattle.hk_edf.specs.Earliest.{earliest_row}
 use Rattle.hk_edf.specs.Due.{due}
 use Rattle.hk_edf.specs.ByDeadlines.{due_at, ByDeadlines}
-use Rattle.hk_edf.specs.InTime.{KeepTimings, FitsIn, WholeWhenDue, DeadlinesAreMet}
+use Rattle.hk_edf.specs.InTime.{WholeWhenDue, DeadlinesAreMet}
 use Rattle.hk_edf.proofs.Busy.{counts, work_of, had-le-had, had-le-ticks, Since, last_quiet, too_few}
 use Rattle.hk_edf.proofs.Work.{ready_is, all_come-le, all_due-le}
 use Rattle.hk_edf.proofs.Chosen.{had_more, goes_by_deadlines}

@@ -5,6 +5,8 @@ pub mod LeastRow
 pub mod Chosen
 pub mod InTime
 pub mod Points
+pub mod AllPoints
+pub mod PointWalk
 pub mod TooMuch
 pub mod Refusals
 pub mod Sessions

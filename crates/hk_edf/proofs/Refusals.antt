@@ -1,23 +1,19 @@
 -- The refusals of a sheet whose high jobs are to go by earliest deadlines.
-use Rattle.std.proofs.Common.{◌≡◌, ◌≢◌, ◌∙◌, sym, refl, ap, subst, ℕ, ◌+◌, ◌<◌, ◌≤◌, Bool, true, false, nat_lt, Some, None, List, [], ◌∷◌, length, get_or, take, All, inl, inr, arith}
-use Rattle.std.proofs.lemmas.Bool.{cases_lt, cases_eq}
+use Rattle.std.proofs.Common.{◌≡◌, ◌∙◌, sym, refl, ap, subst, ℕ, ◌<◌, true, false, Some, None, List, [], ◌∷◌, length, get_or, take, arith}
 use Rattle.std.specs.List.{find, list_any}
 use Rattle.std.specs.Option.{option_map}
-use Rattle.hk_rta.specs.Least.{IsLeast}
 use Rattle.hk_sheet.specs.declared.sheet.High.{High}
 use Rattle.hk_sheet.specs.declared.sheet.Sheet.{Sheet}
 use Rattle.hk_admit.specs.Analysis.{timings_of}
-use Rattle.hk_admit.specs.Facts.{IsChecked}
 use Rattle.hk_admit.proofs.Readable.{all_in_range, all_timed}
 use Rattle.hk_admit.proofs.Found.{failed, find_at}
 use Rattle.hk_admit.proofs.Excluded.{one_busy, checked_excludes}
 use Rattle.hk_admit.proofs.Unique.{one_heap_refusal}
-use Rattle.hk_edf.specs.declared.refused.EdfRefused.{EdfRefused}
 use Rattle.hk_edf.specs.declared.refused.EdfRefused.TheVariants.{Heap, Jitter, Demand, Memory}
 use Rattle.hk_edf.specs.Due.{FitsUpTo}
 use Rattle.hk_edf.specs.Points.{IsOver}
-use Rattle.hk_edf.specs.Refusals.{has_jitter, first_jitter, MeetsDemand, IsTooMuch, IsEdfRefusal, IsJitterRefusal, AdmittedIsNotRefused, OneRefusal, RefusedFitsNowhere}
-use Rattle.hk_edf.proofs.Points.{timed_at}
+use Rattle.hk_edf.specs.Refusals.{has_jitter, first_jitter, IsTooMuch, AdmittedIsNotRefused, OneRefusal, RefusedFitsNowhere}
+use Rattle.hk_edf.proofs.AllPoints.{timed_at}
 use Rattle.hk_edf.proofs.TooMuch.{no_schedule_fits}
 
 -- ---- the first jitter

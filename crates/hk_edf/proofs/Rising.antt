@@ -1,5 +1,5 @@
 -- Rows of three tasks in their order.
-use Rattle.std.proofs.Common.{ℕ, zero, suc, ◌+◌, ◌<◌, List, [], ◌∷◌, arith}
+use Rattle.std.proofs.Common.{zero, suc, ◌<◌, [], ◌∷◌, arith}
 use Rattle.hk_plan.specs.declared.Ready.{Ready}
 use Rattle.hk_dispatch.specs.Rows.{TasksRise}
 

@@ -1,5 +1,5 @@
 -- That in a session which goes by earliest deadlines each high job ends by its deadline.
-use Rattle.std.proofs.Common.{◌≡◌, ℕ, zero, suc, ◌+◌, ◌*◌, ◌<◌, ◌≤◌, Bool, true, false, nat_lt, List, [], ◌∷◌, map, length, Some, refl, sym, ◌∙◌, ap, subst, arith, inl, inr}
+use Rattle.std.proofs.Common.{◌≡◌, ℕ, zero, suc, ◌+◌, ◌<◌, ◌≤◌, true, false, List, [], ◌∷◌, map, length, Some, refl, sym, ◌∙◌, ap, subst, arith, inl, inr}
 use Rattle.std.specs.List.{list_any, sum_by}
 use Rattle.std.proofs.Math.Nat.{mul-le-mul_left}
 use Rattle.std.proofs.lemmas.Bool.{cases_lt, lt-ltb}
@@ -8,15 +8,14 @@ use Rattle.std.proofs.lemmas.List.Sums.{sum_by-le-sum_by, sum_by-cons}
 use Rattle.std.specs.Prelude.{slice_index_or}
 use Rattle.hk_words.specs.declared.geometry.Geometry.{Geometry}
 use Rattle.hk_rta.specs.declared.Timing.{Timing}
-use Rattle.hk_rta.specs.declared.Load.{Load}
-use Rattle.hk_rta.specs.Demand.{starts_in, demand_of, demand, timing_at}
+use Rattle.hk_rta.specs.Demand.{starts_in, demand_of, demand}
 use Rattle.hk_rta.specs.Demand as load
 use Rattle.hk_plan.specs.AloneBy.{Jobs, IsJob}
 use Rattle.hk_plan.specs.JobBounds.{JobsKeepTiming}
 use Rattle.hk_sheet.specs.declared.sheet.High.{High}
 use Rattle.hk_sheet.specs.declared.sheet.Sheet.{Sheet}
 use Rattle.hk_sheet.specs.Arrivals.{arrival_of}
-use Rattle.hk_admit.specs.Analysis.{timings_of, job_events, load_of, loads, attempt_events, IsBusy}
+use Rattle.hk_admit.specs.Analysis.{timings_of, job_events, load_of, attempt_events, IsBusy}
 use Rattle.hk_admit.proofs.Found.{failed}
 use Rattle.hk_dispatch.specs.Tasks.{no_high, high_at}
 use Rattle.hk_dispatch.specs.Turns.{arrived}

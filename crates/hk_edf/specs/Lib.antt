@@ -1,6 +1,7 @@
 pub mod Due
 pub mod Points
 pub mod Earliest
+pub mod Chooses
 pub mod ByDeadlines
 pub mod InTime
 pub mod TooMuch

@@ -1,11 +1,11 @@
 -- The promises of sessions by ceilings.
 use Rattle.std.proofs.Common.{◌≡◌, ℕ, suc, ◌+◌, ◌<◌, ◌≤◌, List, length, Some, refl, sym, ◌∙◌, ap, subst, arith, inl, inr}
 use Rattle.std.proofs.lemmas.Bool.{cases_lt}
-use Rattle.std.proofs.lemmas.List.{length-map, get_or-map}
+use Rattle.std.proofs.lemmas.List.{length-map}
 use Rattle.std.specs.Prelude.{slice_index_or}
 use Rattle.hk_words.specs.declared.geometry.Geometry.{Geometry}
 use Rattle.hk_rta.specs.declared.Timing.{Timing}
-use Rattle.hk_rta.specs.Demand.{no_timing, timing_at}
+use Rattle.hk_rta.specs.Demand.{timing_at}
 use Rattle.hk_plan.specs.declared.Ready.{Ready}
 use Rattle.hk_plan.specs.AloneBy.{Jobs, IsJob}
 use Rattle.hk_plan.specs.JobBounds.{JobsKeepTiming}
@@ -18,7 +18,7 @@ use Rattle.hk_dispatch.specs.Turns.{Turn, to_task, to_collector, to_nobody, arri
 use Rattle.hk_dispatch.specs.Session.{who_gets, IsSession, IsMoment, IsTick}
 use Rattle.hk_dispatch.specs.HighJobs.{jobs_by}
 use Rattle.hk_dispatch.proofs.AloneEnds.{ends_alone}
-use Rattle.hk_dispatch.proofs.InTime.{keeps_timing}
+use Rattle.hk_dispatch.proofs.InTime.{keeps_timing, time_is}
 use Rattle.hk_dispatch.proofs.ListedJobs as arriving
 use Rattle.hk_dispatch.proofs.ReadyMoments.{high_right}
 use Rattle.hk_ceiling.specs.declared.ceilings.TaskSection.{TaskSection}
@@ -36,10 +36,6 @@ use Rattle.hk_ceiling.proofs.SessionTicks.{moment_after}
 
 pub ceilings_choose : CeilingsChoose
 ceilings_choose sections rows some rise = (chooses_best sections rows some).within
-
--- the times of a high task in the list of all
-time_is : (tasks : List High) (i : ℕ) → i < length tasks → timing_at (timings_of tasks) i ≡ (slice_index_or tasks i no_high).timing
-time_is tasks i lt = get_or-map (λ (task : High). task.timing) tasks i no_high no_timing lt
 
 module _ (g : Geometry) (sections : List TaskSection) (sheet : Sheet) (work attempt busy debt : ℕ) (s : IsCeilingSession g sections sheet work attempt busy debt) where
   abbrev choice : List Ready → ℕ

@@ -84,7 +84,7 @@ module _ (g : Geometry) (choice : List Ready → ℕ) (sheet : Sheet) (work atte
     }
 
 -- the times of a high task in the list of all
-time_is : (tasks : List High) (i : ℕ) → i < length tasks → timing_at (timings_of tasks) i ≡ (slice_index_or tasks i no_high).timing
+pub time_is : (tasks : List High) (i : ℕ) → i < length tasks → timing_at (timings_of tasks) i ≡ (slice_index_or tasks i no_high).timing
 time_is tasks i lt = get_or-map (λ (task : High). task.timing) tasks i no_high no_timing lt
 
 -- a response time is at least a tick

@@ -1,0 +1,14 @@
+pub mod Double
+pub mod Busy
+pub mod Work
+pub mod LeastRow
+pub mod Chosen
+pub mod InTime
+pub mod Points
+pub mod AllPoints
+pub mod PointWalk
+pub mod TooMuch
+pub mod Refusals
+pub mod Sessions
+pub mod Rising
+pub mod Headline

@@ -1,0 +1,10 @@
+pub mod Due
+pub mod Points
+pub mod Earliest
+pub mod Chooses
+pub mod ByDeadlines
+pub mod InTime
+pub mod TooMuch
+pub mod Refusals
+pub mod Sessions
+pub mod Headline

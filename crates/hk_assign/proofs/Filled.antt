@@ -28,7 +28,7 @@ pub record IsFilled (timings : List Timing) (order : List ℕ) (free : ℕ) : Ty
 pub order_length : (count : ℕ) (order : List ℕ) → IsOrder count order → length order ≡ count
 order_length count order is_order = length_permutation (range_with_len 0 count) order is_order ∙ length-range_with_len 0 count
 
-all_tasks : (count : ℕ) (order : List ℕ) → IsOrder count order → All (λ (task : ℕ). task < count) order
+pub all_tasks : (count : ℕ) (order : List ℕ) → IsOrder count order → All (λ (task : ℕ). task < count) order
 all_tasks count order is_order = All-permutation (λ (task : ℕ). task < count) (range_with_len 0 count) order is_order (all_indices count)
 
 pub free_tasks : (timings : List Timing) (order : List ℕ) (free : ℕ) → IsFilled timings order free → All (λ (task : ℕ). task < length timings) (take free order)

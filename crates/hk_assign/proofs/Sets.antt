@@ -83,7 +83,7 @@ next xs k h within =
     let same : k + 1 ≡ suc k = omega arith in
     subst (λ (n : ℕ). slice_index xs k < slice_index xs n) same (h k (omega (arith, within)))
 
-rest_rises : (x : ℕ) (xs : List ℕ) → IsStrictlyIncreasing (x ∷ xs) → IsStrictlyIncreasing xs
+pub rest_rises : (x : ℕ) (xs : List ℕ) → IsStrictlyIncreasing (x ∷ xs) → IsStrictlyIncreasing xs
 rest_rises x xs h k within =
     let same : suc k ≡ k + 1 = omega arith in
     subst (λ (n : ℕ). slice_index xs k < slice_index xs n) same (next (x ∷ xs) (suc k) h (omega (arith, within)))
@@ -97,7 +97,7 @@ far xs i (suc j) h less within = elim (cases_lt i j) [
 ]
 
 -- the first is below all the others
-all_above : (x : ℕ) (xs : List ℕ) → IsStrictlyIncreasing (x ∷ xs) → (z : ℕ) → Contains xs z → x < z
+pub all_above : (x : ℕ) (xs : List ℕ) → IsStrictlyIncreasing (x ∷ xs) → (z : ℕ) → Contains xs z → x < z
 all_above x xs h z at =
     let less : x < slice_index xs at.0 = far (x ∷ xs) 0 (suc at.0) h (omega arith) (omega (arith, at.1)) in
     let same : slice_index xs at.0 ≡ z = get_or_default xs at.0 0 z at.1 ∙ at.2 in
@@ -168,7 +168,7 @@ to_the_end xs k within =
     (IsPermutation-sym (remove xs k ++ x ∷ []) (x ∷ remove xs k) (IsPermutation-to_front (remove xs k) x))
 
 -- a sum over the others, as a sum over all
-others_sum : (f : ℕ → ℕ) (xs : List ℕ) (task : ℕ) → sum_by f (others xs task) ≡ sum_by (λ z. cond (not (z == task)) (f z) 0) xs
+pub others_sum : (f : ℕ → ℕ) (xs : List ℕ) (task : ℕ) → sum_by f (others xs task) ≡ sum_by (λ z. cond (not (z == task)) (f z) 0) xs
 others_sum f [] task = refl
 others_sum f (x ∷ xs) task =
     by (x == task) (others_sum f xs task) ∙ sym (sum_by-cons (λ z. cond (not (z == task)) (f z) 0) x xs)

@@ -1,5 +1,5 @@
 -- From what the parts of the program answer to what its top call answers.
-use Rattle.std.proofs.Common.{◌≡◌, ◌≢◌, ℕ, ◌+◌, ◌<◌, ◌≤◌, ◌⊎◌, inl, inr, Bool, true, false, ◌==◌, List, [], ◌∷◌, length, Option, None, Some, Result, Ok, Err, refl, sym, ap, ◌∙◌, subst, arith, String, Global}
+use Rattle.std.proofs.Common.{◌≡◌, ◌≢◌, ℕ, ◌+◌, ◌<◌, ◌≤◌, ◌⊎◌, inl, inr, true, false, ◌==◌, List, [], ◌∷◌, length, Option, None, Some, Result, Ok, Err, refl, sym, ap, ◌∙◌, subst, arith, String, Global}
 use Rattle.std.proofs.lemmas.Bool.Decides.{nat_tests}
 use Rattle.std.proofs.lemmas.List.{length-append}
 use Rattle.std.specs.Prelude.{IfSome, MatchResult, OnOk, OnErr}
@@ -15,12 +15,12 @@ use Rattle.hk_sheet.specs.declared.error.SheetError.TheVariants as unread
 use Rattle.hk_sheet.specs.declared.sheet.Sheet.{Sheet}
 use Rattle.hk_sheet.specs.Answers.{IsRead, Answers}
 use Rattle.hk_admit.specs.Analysis.{timings_of}
-use Rattle.hk_top.specs.Refusals.{sheet_line, long_line}
-use Rattle.hk_top.specs.Tool.{IsSheetOf, too_long, no_sheet, HasText, EndsBy}
+use Rattle.hk_top.specs.Refusals.{sheet_line}
+use Rattle.hk_top.specs.Tool.{IsSheetOf, no_sheet, HasText, EndsBy}
 use Rattle.hk_top.specs.Words.{Puts}
 use Rattle.hk_assign.specs.Assignment.{IsStuck}
 use Rattle.hk_assign.specs.Sheets.{names_at, in_sheet_order, IsAssigned}
-use Rattle.hk_assign.specs.Tool.{IsAsked, usage_line, order_line, BytesCallFor, CallsFor, Writes, WritesPrefix}
+use Rattle.hk_assign.specs.Tool.{IsAsked, order_line, BytesCallFor, CallsFor, Writes, WritesPrefix}
 use Rattle.hk_assign.proofs.OneEnd.{one_status}
 
 -- ENDS

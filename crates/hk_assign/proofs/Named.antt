@@ -1,14 +1,14 @@
 -- The timings of tasks in a row, and the words of the line for tasks that have no order.
-use Rattle.std.proofs.Common.{◌≡◌, ◌∙◌, refl, sym, ap, subst, ℕ, ◌+◌, ◌<◌, ◌≤◌, List, [], ◌∷◌, ◌++◌, map, set, take, length, get_or, slice_index, arith}
+use Rattle.std.proofs.Common.{◌≡◌, ◌∙◌, sym, ap, ℕ, ◌+◌, ◌<◌, ◌≤◌, List, [], ◌∷◌, ◌++◌, set, take, length, get_or, slice_index}
 use Rattle.std.specs.Prelude.{codes}
 use denote.Ref.{Bor}
-use Rattle.std.proofs.lemmas.List.{take_more_set, map_push, map_more, take_all}
+use Rattle.std.proofs.lemmas.List.{get_or_default, take_more_set, map_push, map_more, take_all}
 use Rattle.hk_rta.specs.declared.Timing.{Timing}
 use Rattle.hk_sheet.specs.declared.sheet.High.{High}
 use Rattle.hk_admit.specs.Analysis.{timings_of}
 use Rattle.hk_top.specs.Text.{line}
 use Rattle.hk_top.specs.Words.{shown}
-use Rattle.hk_assign.specs.Sheets.{name_at, names_at}
+use Rattle.hk_assign.specs.Sheets.{no_high, name_at, names_at}
 use Rattle.hk_assign.specs.Tool.{order_line}
 
 -- one timing more
@@ -22,6 +22,11 @@ timing_read tasks row k task within short is so_far =
 -- the words of the line for some tasks
 abbrev pub words_of : List High → List ℕ → List (List ℕ)
 words_of tasks places = codes "refused" ∷ codes "order" ∷ names_at tasks places
+
+-- the name of the task that was read at a place
+pub name_read : (tasks : List High) (place other : ℕ) (task : High) → place < length tasks → task ≡ get_or tasks place task → place ≡ other → task.name ≡ name_at tasks other
+name_read tasks place other task within is same =
+    ap (λ (t : High). t.name) (is ∙ get_or_default tasks place task no_high within) ∙ ap (name_at tasks) same
 
 -- one name more
 pub name_more : (tasks : List High) (words : List (Bor (List ℕ))) (places : List ℕ) (place count : ℕ) (name : Bor (List ℕ)) → count < length words → place < length places

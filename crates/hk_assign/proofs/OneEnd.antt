@@ -1,9 +1,8 @@
 -- Words and bytes call for one end, and for one text, or for texts that are read as one sheet.
-use Rattle.std.proofs.Common.{◌≡◌, ◌≢◌, ℕ, ◌<◌, ◌≤◌, ◌⊎◌, inl, inr, List, length, All, Option, Some, None, Result, Ok, Err, refl, sym, ap, ◌∙◌, subst, arith, String, Global}
+use Rattle.std.proofs.Common.{◌≡◌, ◌≢◌, ℕ, ◌⊎◌, inl, inr, List, All, Option, Some, None, Ok, Err, refl, sym, ap, ◌∙◌, subst, arith, String, Global}
 use Rattle.toml.specs.Data.{Members}
 use Rattle.hk_io.specs.declared.Status.{Status}
 use Rattle.hk_io.specs.declared.Status.TheVariants as status
-use Rattle.hk_rta.specs.declared.Timing.{Timing}
 use Rattle.hk_rta.specs.Demand.{IsTimed}
 use Rattle.hk_sheet.specs.declared.error.SheetError.{SheetError}
 use Rattle.hk_sheet.specs.declared.error.SheetError.TheVariants as unread

@@ -170,10 +170,7 @@ pub fn run_assign<S: Source, K: Sink>(
     ensures later { (S.faults source.old ≤ S.faults source.new) × (K.faults sink.old ≤ K.faults sink.new) }
 {
     if !words.is_empty() {
-        return ended(
-            Status::Usage,
-            put_line(sink, &[b"usage: hk_assign"]),
-        );
+        return ended(Status::Usage, put_line(sink, &[b"usage: hk_assign"]));
     }
     match take_all(alloc, source) {
         Ok(bytes) => answer(alloc, bytes.as_slice(), sink),

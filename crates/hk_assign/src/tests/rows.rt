@@ -17,12 +17,19 @@ fn puts_the_tasks_into_their_order(rt: HostRuntime) -> Result<(), Fail> {
     let mut source = MemSource::new(written, vec![in alloc]?);
     let mut sink = MemSink::new(alloc, 1000, vec![in alloc]?)?;
     let check = [String::from_str(alloc, "check")?];
-    assert_eq!(rt; run_tool(alloc, &check, &mut source, &mut sink), Status::Done);
-    assert_eq!(rt; sink.bytes(), "heap work 4247 attempt 0 busy 10 debt 0
+    assert_eq!(rt;
+        run_tool(alloc, &check, &mut source, &mut sink),
+        Status::Done
+    );
+    assert_eq!(rt;
+        sink.bytes(),
+        "heap work 4247 attempt 0 busy 10 debt 0
 high b response 2 deadline 6
 high a response 3 deadline 4
 high c response 10 deadline 12
-".as_bytes());
+"
+            .as_bytes()
+    );
     Ok(())
 }
 
@@ -42,9 +49,16 @@ fn names_the_tasks_that_have_no_order(rt: HostRuntime) -> Result<(), Fail> {
     // With the deadline 9 for c none of the three can be the last. The names stand in the order of the sheet.
     let alloc = rt.alloc();
     let short = edited(&rt, alloc, THREE, "deadline = 12", "deadline = 9")?;
-    expect(&rt, alloc, short.as_str(), Status::NotAdmitted, "refused order c b a\n")?;
+    expect(
+        &rt,
+        alloc,
+        short.as_str(),
+        Status::NotAdmitted,
+        "refused order c b a\n",
+    )?;
     // One that has more time is none of them.
-    let more = format!(in alloc; "{short}
+    let more = format!(in alloc;
+        "{short}
 [[high]]
 name = \"d\"
 period = 100
@@ -54,8 +68,15 @@ words = 0
 first = 0
 every = 100
 script = \"work 1\"
-")?;
-    expect(&rt, alloc, more.as_str(), Status::NotAdmitted, "refused order c b a\n")?;
+"
+    )?;
+    expect(
+        &rt,
+        alloc,
+        more.as_str(),
+        Status::NotAdmitted,
+        "refused order c b a\n",
+    )?;
     Ok(())
 }
 
@@ -108,7 +129,8 @@ heap = { live = 62, alloc = 512, reserve = 129, rate = 12, board = [2, 2] }
     )?;
     let mut line = String::from_str(alloc, "refused order")?;
     for task in 10..22_u32 {
-        sheet.push_str(format!(in alloc; "
+        sheet.push_str(format!(in alloc;
+            "
 [[high]]
 name = \"abcdefghijklmn{task}\"
 period = 10
@@ -118,12 +140,20 @@ words = 0
 first = 0
 every = 10
 script = \"work 2\"
-")?.as_str())?;
+"
+        )?
+        .as_str())?;
         line.push_str(format!(in alloc; " abcdefghijklmn{task}")?.as_str())?;
     }
     line.push('\n')?;
     assert_eq!(rt; line.len(), 218);
-    expect(&rt, alloc, sheet.as_str(), Status::NotAdmitted, line.as_str())?;
+    expect(
+        &rt,
+        alloc,
+        sheet.as_str(),
+        Status::NotAdmitted,
+        line.as_str(),
+    )?;
     // A first part of the line, where a write fails.
     let whole = run(alloc, &[], sheet.as_str(), (&[], &[]), 218)?;
     for call in 0..whole.sink.calls() {

@@ -63,7 +63,13 @@ fn refuses_what_is_no_sheet(rt: HostRuntime) -> Result<(), Fail> {
     expect(&rt, alloc, "x", Status::Sheet, "sheet text\n")?;
     expect(&rt, alloc, "", Status::Sheet, "sheet missing version\n")?;
     let close = edited(&rt, alloc, THREE, "every = 12", "every = 11")?;
-    expect(&rt, alloc, close.as_str(), Status::Sheet, "sheet arrivals c 1 0 11\n")?;
+    expect(
+        &rt,
+        alloc,
+        close.as_str(),
+        Status::Sheet,
+        "sheet arrivals c 1 0 11\n",
+    )?;
     Ok(())
 }
 

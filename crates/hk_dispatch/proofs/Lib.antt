@@ -42,8 +42,6 @@ pub mod SessionLive
 pub mod SessionBegun
 pub mod SessionPaid
 pub mod Promises
-pub mod Replied
-pub mod Looking
 pub mod RoomWords
 pub mod RoomNews
 pub mod RoomSteps
@@ -62,3 +60,15 @@ pub mod AloneRun
 pub mod AloneEnds
 pub mod InTime
 pub mod Whole
+pub mod Replied
+pub mod Looking
+pub mod RosterAfter
+pub mod ShownAfter
+pub mod OneTask
+pub mod SeatCore
+pub mod SeatTick
+pub mod WentOn
+pub mod Started
+pub mod SeatGiven
+pub mod StandsFrom
+pub mod TurnTaken

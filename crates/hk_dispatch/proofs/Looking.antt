@@ -1,19 +1,18 @@
 -- What the roster finds as it looks through the tasks, seat by seat.
-use Rattle.std.proofs.Common.{◌≡◌, ◌≢◌, ℕ, zero, suc, ◌+◌, ◌<◌, ◌≤◌, Bool, true, false, List, [], ◌∷◌, ◌++◌, length, refl, sym, ◌∙◌, ap, subst, arith, inl, inr, Option, Some, None, get_or, set, take, length-set, ◌-◌}
+use Rattle.std.proofs.Common.{◌≡◌, ℕ, zero, suc, ◌+◌, ◌<◌, ◌≤◌, Bool, true, false, List, [], ◌∷◌, ◌++◌, length, refl, sym, ◌∙◌, ap, subst, arith, inl, inr, Option, Some, None, get_or, set, take, length-set, ◌-◌}
 use Rattle.std.proofs.Math.Seq.{take-suc-set}
 use Rattle.std.proofs.lemmas.List.{append-nil}
-use Rattle.std.proofs.lemmas.Bool.{cases_lt, lt-ltb, le-ltb, leb-true}
+use Rattle.std.proofs.lemmas.Bool.{cases_lt, lt-ltb, le-ltb, leb-true, lt-leb, le-leb}
 use Rattle.std.specs.Prelude.{nat_lt, ◌&&◌, if◌then◌else◌}
 use Rattle.hk_plan.specs.declared.Ready.{Ready}
 use Rattle.hk_plan.specs.AloneBy.{rows_below}
-use Rattle.hk_script.specs.Walks.{started}
 use Rattle.hk_sheet.specs.declared.sheet.High.{High}
 use Rattle.hk_sheet.specs.declared.sheet.Sheet.{Sheet}
 use Rattle.hk_dispatch.specs.declared.run.TaskRun.{TaskRun}
 use Rattle.hk_dispatch.specs.declared.roster.Roster.{Roster}
 use Rattle.hk_dispatch.specs.Tasks.{Task, tasks_of, task_at, high_task, high_at, no_high, is_by}
-use Rattle.hk_dispatch.specs.Moment.{Course, Moment, course_at}
-use Rattle.hk_dispatch.specs.Turns.{is_ready, arrived, row_of, ready_row, ready_rows, first_low}
+use Rattle.hk_dispatch.specs.Moment.{Moment, course_at}
+use Rattle.hk_dispatch.specs.Turns.{arrived, row_of, ready_row, ready_rows, first_low}
 use Rattle.hk_dispatch.specs.Rules.{ready_now, FirstLowIs, NoLow}
 use Rattle.hk_dispatch.specs.TaskRuns.{ShowsCourse}
 use Rattle.hk_dispatch.specs.Opened.{ShowsCourses, ShowsReady}
@@ -23,7 +22,7 @@ use Rattle.hk_dispatch.proofs.JobsKept.{high_is}
 
 -- a run of no job, which stands for a seat where there is none
 abbrev pub no_run : TaskRun
-no_run = record { job = 0; arrival = None; ready = None; walk = started 0; spent = 0; had = 0; latest = 0 }
+no_run = record { job = 0; arrival = None; ready = None; walk = record { job = 0; variables = []; place = 0; turns = [] }; spent = 0; had = 0; latest = 0 }
 
 -- the row of a high task, by its run
 abbrev pub row_by : (seat : ℕ) → TaskRun → (deadline : ℕ) → Ready
@@ -134,6 +133,17 @@ module _ (high : List High) (runs : List TaskRun) (tick : ℕ) where
       by_low : (o : Option ℕ) → r.low ≡ o → LowSoFar n o → LowSoFar (suc n) s.low
       by_low None e l = subst (LowSoFar (suc n)) (sym (first e)) (is_low, omega arith, due, l)
       by_low (Some x) e l = subst (LowSoFar (suc n)) (sym (kept x e)) (low_later n (Some x) (λ from none. absurd (cc)) l)
+
+-- a moment that isn't there, or is later, is not by a tick
+pub not_by : (o : Option ℕ) (tick : ℕ) → ((x : ℕ) → o ≡ Some x → ⊥) → is_by o tick ≡ false
+not_by None tick none = refl
+not_by (Some x) tick none = absurd (none x refl)
+
+pub not_yet : (o : Option ℕ) (tick x : ℕ) → o ≡ Some x → tick < x → is_by o tick ≡ false
+not_yet o tick x e lt = ap (λ p. is_by p tick) e ∙ lt-leb x tick lt
+
+pub by_now : (o : Option ℕ) (tick x : ℕ) → o ≡ Some x → x ≤ tick → is_by o tick ≡ true
+by_now o tick x e le = ap (λ p. is_by p tick) e ∙ le-leb x tick le
 
 -- THE WHOLE LOOK
 

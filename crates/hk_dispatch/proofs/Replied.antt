@@ -1,7 +1,6 @@
 -- How the tick of a job leaves it: with a reply that fits what the job wanted, and that its walk takes.
-use Rattle.std.proofs.Common.{◌≡◌, ℕ, zero, suc, ◌+◌, ◌^◌, ◌<◌, ◌≤◌, ◌⊎◌, Bool, true, false, List, inl, inr, refl, sym, ◌∙◌, ap, subst, arith, Option, Some, None}
-use Rattle.std.proofs.lemmas.Bool.{cases_Bool}
-use Rattle.std.specs.Prelude.{slice_get, nat_lt, ◌==◌, ◌&&◌, if◌then◌else◌}
+use Rattle.std.proofs.Common.{◌≡◌, ℕ, zero, suc, ◌+◌, ◌^◌, ◌<◌, Bool, true, false, List, inl, inr, refl, sym, ◌∙◌, ap, subst, arith, Option, Some, None}
+use Rattle.std.specs.Prelude.{slice_get, nat_lt, ◌==◌, if◌then◌else◌}
 use Rattle.hk_words.specs.declared.call.Call.{Call}
 use Rattle.hk_words.specs.declared.call.Call.TheVariants as call
 use Rattle.hk_words.specs.declared.call.Reply.{Reply}
@@ -12,7 +11,6 @@ use Rattle.hk_words.specs.Layout.{w0_words}
 use Rattle.hk_model.specs.Replies.{said}
 use Rattle.hk_core.specs.declared.flight.Flight.{Flight}
 use Rattle.hk_core.specs.declared.outcome.Fault.{Fault}
-use Rattle.hk_core.specs.declared.outcome.Outcome.{Outcome}
 use Rattle.hk_core.specs.declared.outcome.Outcome.TheVariants as outcome
 use Rattle.hk_core.specs.declared.outcome.Step.TheVariants.{Going, Ended}
 use Rattle.hk_core.specs.State.{State, IsSized, flight_of}
@@ -28,7 +26,6 @@ use Rattle.hk_script.specs.declared.walk.Need.{Need}
 use Rattle.hk_script.specs.declared.walk.Need.TheVariants as need
 use Rattle.hk_script.specs.declared.walk.Walk.{Walk}
 use Rattle.hk_script.specs.Walks.{moved, link_at, walk_after, IsAnswer, Answers}
-use Rattle.hk_dispatch.specs.declared.operation.Left.{Left}
 use Rattle.hk_dispatch.specs.declared.operation.Left.TheVariants as left
 use Rattle.hk_dispatch.specs.InStep.{SeatInStep, aside, under_way}
 use Rattle.hk_dispatch.specs.Ticks.{reply_in, left_in, leaves_first, leaves_on, left_by, asked}

@@ -1,17 +1,26 @@
 -- A session as contracts see it, and how its fields show where it stands.
-use Rattle.std.specs.Prelude.{◌≡◌, ℕ, ◌+◌, ◌*◌, ◌^◌, ◌<◌, ◌≤◌, Bool, true, false, List, length, slice_index_or, take, Option, Some, None}
+use Rattle.std.specs.Prelude.{◌≡◌, ℕ, suc, ◌*◌, ◌^◌, ◌<◌, ◌≤◌, true, List, length, slice_index_or, take, Option, Some, None}
 use Rattle.hk_words.specs.declared.geometry.Geometry.{Geometry}
-use Rattle.hk_words.specs.Geometry.{HasSizes}
-use Rattle.hk_core.specs.State.{State}
+use Rattle.hk_words.specs.Geometry.{HasSizes, tasks}
+use Rattle.hk_core.specs.State.{IsSized}
 use Rattle.hk_plan.specs.declared.Ready.{Ready}
 use Rattle.hk_sheet.specs.declared.sheet.High.{High}
 use Rattle.hk_sheet.specs.declared.sheet.Sheet.{Sheet}
 use Rattle.hk_sheet.specs.Faults.{sizes_of}
+use Rattle.hk_sheet.specs.Valid.{IsSheet}
 use Rattle.hk_dispatch.specs.declared.run.TaskRun.{TaskRun}
 use Rattle.hk_dispatch.specs.declared.roster.Roster.{Roster}
-use Rattle.hk_dispatch.specs.Tasks.{Task, tasks_of, no_high, task_at}
-use Rattle.hk_dispatch.specs.Moment.{Course, Moment, core_of, course_at}
-use Rattle.hk_dispatch.specs.Turns.{is_ready, arrived, ready_rows, first_low, in_mid_course}
+use Rattle.hk_dispatch.specs.declared.run.Done.{Done}
+use Rattle.hk_dispatch.specs.declared.stand.Stand.{Stand}
+use Rattle.hk_dispatch.specs.declared.tick.End.{End}
+use Rattle.hk_dispatch.specs.declared.tick.Tick.{Tick}
+use Rattle.hk_dispatch.specs.Tasks.{IsLowSeat, tasks_of, no_high, task_at}
+use Rattle.hk_dispatch.specs.Moment.{Moment, no_course, core_of, course_at, need_at}
+use Rattle.hk_dispatch.specs.Turns.{Turn, is_ready, arrived, ready_rows, first_low, in_mid_course}
+use Rattle.hk_dispatch.specs.Kept.{OneLow}
+use Rattle.hk_dispatch.specs.Jobs.{JobsKept}
+use Rattle.hk_dispatch.specs.Ticks.{after_task, after_turn, left_by}
+use Rattle.hk_dispatch.specs.Told.{out_of, end_of, told_turn}
 use Rattle.hk_dispatch.specs.Session.{state}
 use Rattle.hk_dispatch.specs.TaskRuns.{ShowsCourse}
 
@@ -34,6 +43,11 @@ pub record ShowsCourses (sheet : Sheet) (m : Moment) (runs : List TaskRun) : Typ
   pub all : length runs ≡ length (tasks_of sheet)
   pub each : (seat : ℕ) (d : TaskRun) → seat < length (tasks_of sheet) → ShowsCourse (task_at sheet seat) (course_at m seat) (slice_index_or runs seat d)
 
+-- before the first tick
+pub record ShowsStart (sheet : Sheet) (runs : List TaskRun) : Type 0 where
+  pub all : length runs ≡ length (tasks_of sheet)
+  pub each : (seat : ℕ) (d : TaskRun) → seat < length (tasks_of sheet) → ShowsCourse (task_at sheet seat) no_course (slice_index_or runs seat d)
+
 -- THE READY JOBS
 
 -- what the roster looks at: at most 31 tasks, the high ones first, whose deadlines and moments fit 64 bits
@@ -55,30 +69,77 @@ pub record ShowsReady (sheet : Sheet) (m : Moment) (tick : ℕ) (roster : Roster
 -- THE WHOLE
 
 -- the fields show a moment, after which a tick is the next
-pub record Shows (sheet : Sheet) (m : Moment) (tick : ℕ) (heap : State) (runs : List TaskRun) (roster : Roster) (in_mid : Option ℕ)
-    (debt flips events idle : ℕ) (over : Option ℕ) : Type 0 where
-  pub heap_is : heap ≡ core_of m
-  pub courses : ShowsCourses sheet m runs
-  pub roster_fits : roster.count ≤ 31
-  pub roster_is : tick < roster.stale_from → ShowsReady sheet m tick roster
-  pub in_mid_is : m.over ≡ None → in_mid ≡ first_low sheet (in_mid_course sheet m)
-  pub debt_is : debt ≡ m.debt
-  pub flips_is : flips ≡ m.flips
-  pub events_is : events ≡ m.events
-  pub idle_is : idle ≡ m.idle
-  pub over_is : over ≡ m.over
+pub record Shows (sheet : Sheet) (m : Moment) (tick : ℕ) (s : Stand) : Type 0 where
+  pub heap_is : s.heap ≡ core_of m
+  pub courses : ShowsCourses sheet m s.tasks.items
+  pub roster_fits : s.roster.count ≤ 31
+  pub roster_is : tick < s.roster.stale_from → ShowsReady sheet m tick s.roster
+  pub in_mid_is : m.over ≡ None → s.in_mid_course ≡ first_low sheet (in_mid_course sheet m)
+  pub debt_is : s.debt ≡ m.debt
+  pub flips_is : s.flips ≡ m.flips
+  pub events_is : s.events ≡ m.events
+  pub idle_is : s.idle ≡ m.idle
+  pub over_is : s.over ≡ m.over
 
 -- the numbers fit 64 bits: each tick adds at most one to the counts, and less than 2 ^ 33 events to the debt
-pub record Fit (given debt flips events idle : ℕ) : Type 0 where
-  pub debt_few : debt ≤ given * 2 ^ 33
-  pub flips_few : flips ≤ given
-  pub events_few : events ≤ given
-  pub idle_few : idle ≤ given
+pub record Fit (given : ℕ) (s : Stand) : Type 0 where
+  pub debt_few : s.debt ≤ given * 2 ^ 33
+  pub flips_few : s.flips ≤ given
+  pub events_few : s.events ≤ given
+  pub idle_few : s.idle ≤ given
 
 -- where a session stands: it was given at most the ticks of its sheet
-pub record Stands (choice : List Ready → ℕ) (sheet : Sheet) (g : Geometry) (given : ℕ) (heap : State) (runs : List TaskRun) (roster : Roster) (in_mid : Option ℕ)
-    (debt flips events idle : ℕ) (over : Option ℕ) : Type 0 where
-  pub sizes : HasSizes g (sizes_of sheet)
+pub record Stands (choice : List Ready → ℕ) (sheet : Sheet) (given : ℕ) (s : Stand) : Type 0 where
+  pub sizes : HasSizes s.heap.geometry (sizes_of sheet)
   pub within : given ≤ sheet.ticks
-  pub shows : Shows sheet (state g choice sheet given) given heap runs roster in_mid debt flips events idle over
-  pub fit : Fit given debt flips events idle
+  pub shows : Shows sheet (state s.heap.geometry choice sheet given) given s
+  pub fit : Fit given s
+
+-- A TICK
+
+-- what is known of a moment after which a tick is given
+pub record MayGo (sheet : Sheet) (m : Moment) (tick : ℕ) : Type 0 where
+  pub readable : IsSheet sheet
+  pub within : tick < sheet.ticks
+  pub going : m.over ≡ None
+  pub seats : tasks (core_of m).geometry ≡ length (tasks_of sheet)
+  pub registers : sheet.heap.registers ≡ (core_of m).geometry.registers
+  pub sized : IsSized (core_of m)
+  pub jobs : JobsKept sheet m tick
+  pub one_low : OneLow sheet m
+
+-- the fields show it
+pub record Before (sheet : Sheet) (m : Moment) (tick : ℕ) (s : Stand) : Type 0 where
+  pub may : MayGo sheet m tick
+  pub shows : Shows sheet m tick s
+  pub fit : Fit tick s
+
+-- and the roster was looked through where that was due
+pub record AtTurn (sheet : Sheet) (m : Moment) (tick : ℕ) (s : Stand) : Type 0 where
+  pub before : Before sheet m tick s
+  pub ready : ShowsReady sheet m tick s.roster
+
+-- no other low operation is in mid-course
+abbrev pub OnlyLow : Sheet → Moment → (seat : ℕ) → Type 0
+OnlyLow sheet m seat = (other : ℕ) → IsLowSeat sheet other → in_mid_course sheet m other ≡ true → other ≡ seat
+
+-- the job of a seat had the tick: what it did, and what it left
+pub record Gave (sheet : Sheet) (m : Moment) (tick seat : ℕ) (s : Stand) (done : Done) : Type 0 where
+  pub heap_is : s.heap ≡ core_of (after_task sheet m tick seat)
+  pub courses : ShowsCourses sheet (after_task sheet m tick seat) s.tasks.items
+  pub debt_is : s.debt ≡ (after_task sheet m tick seat).debt
+  pub debt_few : s.debt ≤ suc tick * 2 ^ 33
+  pub out_is : done.out ≡ out_of (need_at sheet m seat)
+  pub end_is : done.end ≡ end_of (task_at sheet seat) (course_at m seat).job (course_at m seat).walk tick (left_by (core_of m) seat (course_at m seat).spent (need_at sheet m seat))
+  pub mid_course_is : done.mid_course ≡ in_mid_course sheet (after_task sheet m tick seat) seat
+
+-- where a tick ended a job, the roster is looked through at the next one
+abbrev pub roster_after : Option End → Roster → Roster
+roster_after None roster = roster
+roster_after (Some end) roster = record roster { stale_from = 0 }
+
+-- somebody had the tick: what it answers, and what it left
+pub record Went (sheet : Sheet) (m : Moment) (tick : ℕ) (turn : Turn) (s : Stand) (answer : Tick) : Type 0 where
+  pub answer_is : answer ≡ told_turn sheet m tick turn
+  pub shows : Shows sheet (after_turn sheet m tick turn) (suc tick) s
+  pub fit : Fit (suc tick) s

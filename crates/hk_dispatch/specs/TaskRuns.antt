@@ -1,5 +1,5 @@
 -- The run of one task, as the code keeps it: what its tick needs, and how it shows the task's course.
-use Rattle.std.specs.Prelude.{◌≡◌, ℕ, ◌+◌, ◌<◌, ◌≤◌, ◌⊎◌, Bool, true, false, Option, Some, None}
+use Rattle.std.specs.Prelude.{◌≡◌, ℕ, ◌⊎◌, Bool, true, false, Option, Some, None}
 use Rattle.hk_words.specs.declared.geometry.Geometry.{Geometry}
 use Rattle.hk_words.specs.Calls.{RegistersFit}
 use Rattle.hk_words.specs.declared.call.Call.{Call}
@@ -84,3 +84,9 @@ LeavesBy n (left.Faults fault) = Unit {0}
 abbrev pub heard_of : Reply → Reply
 heard_of reply.Full = reply.Unit
 heard_of r = r
+
+-- a tick left the job at the same statement
+abbrev pub stays : Left → Bool
+stays left.Stays = true
+stays (left.Passes r) = false
+stays (left.Faults fault) = false

@@ -2,14 +2,30 @@
 //! after them, and before low jobs go on.
 #![tactic(auto)]
 
+#[cfg(test)]
+mod attempts;
+#[cfg(test)]
+mod choices;
+mod events;
 mod laws;
+mod needs;
 mod operation;
 mod pick;
 mod roster;
+#[cfg(test)]
+mod rows;
 mod run;
 mod schedule;
+mod seats;
 mod session;
+mod stand;
+#[cfg(test)]
+mod tests;
 mod tick;
+#[cfg(test)]
+mod watch;
+#[cfg(test)]
+mod written;
 
 pub use hk_plan::Ready;
 pub use laws::{

@@ -117,8 +117,9 @@ impl Roster {
         requires room { self.old.count < 31 }
         requires fits { arrived run.now.arrival + deadline < 2 ^ 64 }
         ensures { self.new ≡ record self.old {
-            rows = slice_set self.old.rows self.old.count (record { task = seat; job = run.now.job; arrival = arrived run.now.arrival; deadline = arrived run.now.arrival + deadline; done = run.now.had });
-            count = self.old.count + 1 } }
+          rows = slice_set self.old.rows self.old.count (record { task = seat; job = run.now.job; arrival = arrived run.now.arrival; deadline = arrived run.now.arrival + deadline; done = run.now.had });
+          count = self.old.count + 1;
+        } }
     {
         let arrival = run.arrival.unwrap_or(0);
         self.rows[self.count] = Ready {

@@ -1,24 +1,24 @@
 //! The run of one task, from job to job.
-ghost use Rattle.std.specs.Prelude.{◌≡◌, ℕ, ◌+◌, ◌^◌, ◌<◌, ◌≤◌, ◌&&◌, true, nat_lt, Some, IfSome, IsSomeAnd, length};
+ghost use Rattle.std.specs.Prelude.{◌≡◌, ℕ, ◌^◌, ◌<◌, ◌≤◌, ◌&&◌, nat_lt, Some, IfSome, IsSomeAnd};
 ghost use Rattle.hk_words.specs.Geometry.{tasks};
 ghost use Rattle.hk_core.specs.State.{IsSized, flight_of};
-ghost use Rattle.hk_script.specs.Walks.{Fits, Answers, walk_after};
-ghost use Rattle.hk_dispatch.specs.Tasks.{is_by};
+ghost use Rattle.hk_script.specs.Walks.{walk_after};
 ghost use Rattle.hk_dispatch.specs.Moment.{Course, no_course};
 ghost use Rattle.hk_dispatch.specs.Turns.{is_operation};
 ghost use Rattle.hk_dispatch.specs.InStep.{SeatInStep};
 ghost use Rattle.hk_dispatch.specs.Kept.{CourseKept};
 ghost use Rattle.hk_dispatch.specs.Ticks.{words_by, left_by, next_job, passed, course_after};
 ghost use Rattle.hk_dispatch.specs.Told.{out_of, ended, end_past, end_of};
-ghost use Rattle.hk_dispatch.specs.TaskRuns.{ShowsCourse, task_of, shown, wanted, MayWant, core_by, Replies, LeavesBy, heard_of};
+ghost use Rattle.hk_dispatch.specs.TaskRuns.{ShowsCourse, task_of, shown, wanted, MayWant, core_by, Replies, LeavesBy, stays};
 
-use crate::operation::{Left, ask, operate};
+use crate::needs::{advance, heard, is_mid_course, out_of, taken};
+use crate::operation::Left;
 use crate::tick::{End, JobFault};
 use hk_collect::OwnedHeap;
 use hk_core::Fault;
-use hk_script::{Need, Script, Walk};
+use hk_script::{Script, Walk};
 use hk_sheet::{High, Low};
-use hk_words::{Call, Reply};
+use hk_words::Reply;
 
 /// A task of a sheet, high or low.
 #[derive(Clone, Copy)]
@@ -89,65 +89,6 @@ pub(crate) struct Done {
     pub mid_course: bool,
 }
 
-/// What a statement puts out.
-fn out_of(need: Need) -> Option<u64>
-    ensures { result ≡ out_of (Some need) }
-{
-    match need {
-        Need::Out(value) => Some(value),
-        _ => None,
-    }
-}
-
-/// The words that an operation takes in its next tick: those of a new object at its third place, where its first place found
-/// room.
-fn taken(heap: &OwnedHeap, seat: u8, need: Need, spent: u64) -> u32
-    requires { seat < tasks heap.now.geometry }
-    ensures words { result ≡ words_by heap.now seat spent (Some need) }
-    ensures few { result ≤ 511 }
-{
-    match need {
-        Need::Heap(Call::New { dest: _, shape }) if spent == 2 && !heap.flight(seat).full => {
-            shape.words()
-        }
-        _ => 0,
-    }
-}
-
-/// Does one tick of what a job wants, of which it has had so many, and answers how that leaves the job.
-fn advance(heap: &mut OwnedHeap, seat: u8, need: Need, spent: u64) -> Left
-    requires sized { IsSized heap.old }
-    requires seat { seat < tasks heap.old.geometry }
-    requires wants { MayWant heap.old.geometry need }
-    requires in_step { SeatInStep (flight_of heap.old.flights seat) (Some need) spent }
-    requires early { spent < 2 ^ 24 }
-    ensures heap { heap.new ≡ core_by heap.old seat spent (Some need) }
-    ensures left { result ≡ left_by heap.old seat spent (Some need) }
-    ensures leaves { LeavesBy need result }
-{
-    match need {
-        Need::Work(ticks) if spent + 1 < u64::from(ticks) => Left::Stays,
-        Need::Work(_) | Need::Local | Need::Out(_) => Left::Passes(Reply::Unit),
-        Need::Heap(call) => operate(heap, seat, call, spent),
-        Need::Ask(call) => Left::Passes(ask(heap, seat, call)),
-    }
-}
-
-/// What a walk is told of a reply. That a new object found no room sets no variable, so it goes on as from one that did.
-fn heard(reply: Reply) -> Reply
-    ensures { result ≡ heard_of reply }
-{
-    match reply {
-        Reply::Full => Reply::Unit,
-        _ => reply,
-    }
-}
-
-/// Whether a tick left an operation in mid-course.
-fn is_mid_course(need: Need, left: Left) -> bool {
-    matches!(need, Need::Heap(_)) && left == Left::Stays
-}
-
 impl TaskRun {
     /// A task before the first tick.
     pub fn start(task: Task<'_>) -> TaskRun
@@ -205,6 +146,7 @@ impl TaskRun {
         ensures course { (course : Course) (words : ℕ) → ShowsCourse (task_of task.entry) course self.old
             → ShowsCourse (task_of task.entry) (course_after (task_of task.entry) course tick words left) self.new }
         ensures end { result ≡ end_of (task_of task.entry) self.old.job self.old.walk tick left }
+        ensures mid_course { (is_operation (wanted (task_of task.entry) self.new) && nat_lt 0 self.new.spent) ≡ (is_operation (wanted (task_of task.entry) self.old) && stays left) }
     {
         match left {
             Left::Stays => {
@@ -230,6 +172,7 @@ impl TaskRun {
         ensures course { (course : Course) (words : ℕ) → ShowsCourse (task_of task.entry) course self.old
             → ShowsCourse (task_of task.entry) (passed (task_of task.entry) course tick words (walk_after (task_of task.entry).script course.walk reply)) self.new }
         ensures end { result ≡ end_past (task_of task.entry) self.old.job tick (walk_after (task_of task.entry).script self.old.walk reply) }
+        ensures spent { self.new.spent ≡ 0 }
     {
         let script = task.script();
         self.walk.done(script, heard(reply));
@@ -250,6 +193,7 @@ impl TaskRun {
         ensures course { (course : Course) → ShowsCourse (task_of task.entry) course self.old
             → ShowsCourse (task_of task.entry) (next_job (task_of task.entry) course tick) self.new }
         ensures end { Some result ≡ ended self.old.job ((task_of task.entry).arrival self.old.job) tick fault }
+        ensures spent { self.new.spent ≡ 0 }
     {
         let job = self.job;
         let ticks = match self.arrival {

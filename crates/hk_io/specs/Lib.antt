@@ -4,3 +4,4 @@ pub mod Bytes
 pub mod InMemory
 pub mod Line
 pub mod Status
+pub mod Number

@@ -5,6 +5,7 @@ ghost use Rattle.std.specs.Prelude.{◌≡◌};
 ghost use Rattle.hk_io.specs.Status.{number_of};
 
 mod buffer;
+mod decimal;
 mod faults;
 mod gather;
 mod line;
@@ -17,6 +18,7 @@ mod streams;
 mod tests;
 mod whole;
 
+pub use decimal::{MAX_DIGITS, number};
 pub use faults::{Failed, Memory, TakeFault};
 pub use gather::{GATHER_ROOM, Gather};
 pub use line::{LINE_ROOM, Line};

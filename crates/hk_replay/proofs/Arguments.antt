@@ -6,11 +6,11 @@ use Rattle.std.specs.Char.{is_ascii_digit}
 use Rattle.std.specs.Str.Parse.{AllDigits, digits_value}
 use Rattle.std.proofs.lemmas.Bool.Decides.{nat_tests}
 use Rattle.hk_words.specs.declared.geometry.TheConstants.{REGISTERS}
-use Rattle.hk_replay.specs.declared.lex.TheConstants.{MAX_DIGITS}
-use Rattle.hk_replay.specs.Text.{is_number, number_of}
+use Rattle.hk_io.specs.declared.decimal.TheConstants.{MAX_DIGITS}
+use Rattle.hk_io.specs.Number.{is_number, number_of}
 use Rattle.hk_replay.specs.Reading.{◌>>=◌, if_below, below, if_writable, target_of}
 use Rattle.hk_replay.specs.Spelling.{Numeral, SpellsPiece, IsTarget}
-use Rattle.hk_replay.proofs.Digits.{and_parts, all_digits}
+use Rattle.hk_io.proofs.Digits.{and_parts, all_digits}
 
 pub some_is : {A : Type 0} (x y : A) → Some x ≡ Some y → x ≡ y
 some_is x y e = cc

@@ -10,7 +10,7 @@ use Rattle.hk_words.specs.declared.shape.Shape.{Shape}
 use Rattle.hk_words.specs.declared.geometry.TheConstants.{REGISTERS}
 use Rattle.hk_words.specs.declared.shape.TheConstants.{USUAL_FIELDS}
 use Rattle.hk_replay.specs.Shapes.{shape_of}
-use Rattle.hk_replay.specs.Text.{number_of}
+use Rattle.hk_io.specs.Number.{number_of}
 use Rattle.hk_replay.specs.Reading.{◌>>=◌, register_of, target_of, field_of, size_of, call_of_two, call_of_three, new_of, call_of_four}
 use Rattle.hk_replay.specs.Spelling.{Piece, Exactly, Numeral, SpellsPiece, call_pieces, IsCall}
 use Rattle.hk_replay.proofs.Arguments.{some_is, bind_some, number_takes, number_again, below_takes, below_again, target_takes, target_again}

@@ -1,4 +1,3 @@
-mod Digits
 mod Arguments
 mod Shapes
 mod Lines

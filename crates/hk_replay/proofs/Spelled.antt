@@ -11,7 +11,8 @@ use Rattle.hk_replay.specs.declared.log_line.Answer.{Answer}
 use Rattle.hk_replay.specs.declared.log_line.Answer.TheVariants as answer
 use Rattle.hk_replay.specs.declared.log_line.LogLine.{LogLine}
 use Rattle.hk_replay.specs.declared.log_line.LogLine.TheVariants as line
-use Rattle.hk_replay.specs.Text.{number_of, words_of}
+use Rattle.hk_io.specs.Number.{number_of}
+use Rattle.hk_replay.specs.Text.{words_of}
 use Rattle.hk_replay.specs.Reading.{below, call_of_two, call_of_three, call_of_four, reason_of, begin_of, fault_of, plain_answer_of, answer_of, two_words, three_words, end_of, four_words, five_words, six_words, seven_words, line_of}
 use Rattle.hk_replay.specs.Spelling.{Piece, Exactly, Numeral, SpellsPiece, SpellsLine, call_pieces, reason_word, ending_pieces, answer_pieces, pieces, IsEnding, IsAnswer, IsLine}
 use Rattle.hk_replay.proofs.Arguments.{some_is, number_takes, number_again, below_takes, below_again}

@@ -17,7 +17,7 @@ use Rattle.hk_replay.specs.declared.log_line.Heading.{Heading}
 use Rattle.hk_replay.specs.declared.log_line.LogLine.{LogLine}
 use Rattle.hk_replay.specs.declared.log_line.LogLine.TheVariants as line
 use Rattle.hk_replay.specs.Shapes.{shape_of}
-use Rattle.hk_replay.specs.Text.{number_of}
+use Rattle.hk_io.specs.Number.{number_of}
 
 infixl 10 ◌>>=◌
 abbrev pub ◌>>=◌ : {A B : Type 0} → Option A → (A → Option B) → Option B

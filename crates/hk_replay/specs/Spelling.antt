@@ -7,7 +7,7 @@ use Rattle.hk_words.specs.declared.call.Call.TheVariants as call
 use Rattle.hk_words.specs.declared.geometry.Geometry.{Geometry}
 use Rattle.hk_words.specs.declared.geometry.TheConstants.{REGISTERS}
 use Rattle.hk_words.specs.declared.shape.TheConstants.{USUAL_FIELDS}
-use Rattle.hk_replay.specs.declared.lex.TheConstants.{MAX_DIGITS}
+use Rattle.hk_io.specs.declared.decimal.TheConstants.{MAX_DIGITS}
 use Rattle.hk_replay.specs.declared.log_line.Reason.{Reason}
 use Rattle.hk_replay.specs.declared.log_line.Reason.TheVariants as reason
 use Rattle.hk_replay.specs.declared.log_line.Ending.{Ending}

@@ -21,7 +21,7 @@ use Rattle.hk_replay.specs.Judged.{IsVerdict}
 use Rattle.hk_replay.specs.Making.{made_log}
 use Rattle.hk_replay.specs.Printing.{usage_line, long_line, verdict_line}
 use Rattle.hk_replay.specs.Reading.{◌>>=◌}
-use Rattle.hk_replay.specs.Text.{number_of as number_in}
+use Rattle.hk_io.specs.Number.{number_of as number_in}
 
 -- the exit status of a program that ends so
 abbrev pub number_of : Replayed → ℕ

@@ -3,8 +3,9 @@ ghost use Rattle.std.specs.Prelude.{◌≡◌, ◌≤◌, ◌<◌, ◌^◌, IfSo
 ghost use Rattle.hk_replay.specs.Reading.{below, register_of, target_of, field_of, size_of, call_of_two, call_of_three, call_of_four, new_of, reason_of, begin_of, fault_of, plain_answer_of, answer_of, two_words, three_words, end_of, four_words, five_words, six_words, seven_words, line_of, heading_by, heading_of, IsOfHeading};
 ghost use Rattle.hk_replay.specs.Shapes.{any_shape_of, shape_of};
 
-use crate::lex::{is, number};
+use crate::lex::is;
 use crate::log_line::{Answer, Ending, Heading, LogLine, Reason};
+use hk_io::number;
 use hk_words::{Call, Geometry, REGISTERS, Shape, USUAL_FIELDS};
 
 /// A number below a limit.

@@ -6,12 +6,12 @@ ghost use Rattle.hk_io.specs.Limits.{longest_input};
 ghost use Rattle.hk_replay.specs.Tool.{form_of, IsCheck, HasText, HasEnd, IsUsage, IsMade, Tells, TellsCheck, bytes_of, CallsFor, CheckCallsFor, Writes, WritesPrefix, Ends};
 
 use crate::judge::judge;
-use crate::lex::{is, number};
+use crate::lex::is;
 use crate::make::make;
 use crate::printing::{long_line, usage_line, verdict_line};
 use crate::replayed::Replayed;
 use hk_core::Memory;
-use hk_io::{Failed, Line, Sink, Source, TakeFault, put_all, take_all};
+use hk_io::{Failed, Line, Sink, Source, TakeFault, number, put_all, take_all};
 use std::alloc::Global;
 
 /// The forms that the words may have.

@@ -1,5 +1,5 @@
 -- The headline holds of the run of every admitted sheet: each sentence is a promise of sessions.
-use Rattle.std.proofs.Common.{◌≡◌, ℕ, refl}
+use Rattle.std.proofs.Common.{ℕ}
 use Rattle.hk_words.specs.declared.geometry.Geometry.{Geometry}
 use Rattle.hk_words.specs.Geometry.{HasSizes}
 use Rattle.hk_plan.specs.AloneBy.{least_task}
@@ -8,7 +8,9 @@ use Rattle.hk_sheet.specs.Faults.{sizes_of}
 use Rattle.hk_admit.specs.declared.checked.Admitted.{Admitted}
 use Rattle.hk_dispatch.specs.Session.{IsSession}
 use Rattle.hk_dispatch.proofs.Promises.{run_is_interleaving, history_is_legal, questions_are_answered, live_over_has_cause}
-use Rattle.hk_dispatch.proofs.Whole.{ends_are_alone, jobs_end_in_time, no_new_is_refused, used_within, session_is_replay, least_is_choice}
+use Rattle.hk_dispatch.proofs.AloneEnds.{ends_are_alone}
+use Rattle.hk_dispatch.proofs.InTime.{jobs_end_in_time}
+use Rattle.hk_dispatch.proofs.Whole.{no_new_is_refused, used_within, session_is_replay, least_is_choice}
 use Rattle.hk_top.specs.Headline.{Headline}
 
 module _ (a : Admitted) (g : Geometry) (sizes : HasSizes g (sizes_of a.checked.sheet)) where

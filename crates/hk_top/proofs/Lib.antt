@@ -2,11 +2,14 @@ pub mod Written
 pub mod Parts
 pub mod Below
 pub mod Three
+pub mod Four
 pub mod WordLemmas
 pub mod ReportParts
 pub mod ReportLemmas
 pub mod SheetLemmas
+pub mod Endings
 pub mod RunEnds
+pub mod RunText
 pub mod OneRun
 pub mod Headline
 pub mod Done

@@ -1,7 +1,7 @@
 -- Words and bytes call for one end, and for one text.
-use Rattle.std.proofs.Common.{◌≡◌, ◌≢◌, ℕ, ◌-◌, ◌<◌, ◌≤◌, ◌⊎◌, inl, inr, List, [], ◌∷◌, ◌++◌, length, Result, Ok, Err, refl, sym, ap, ◌∙◌, subst, arith, slice_index, String, Global}
+use Rattle.std.proofs.Common.{◌≡◌, ◌≢◌, ℕ, ◌-◌, ◌<◌, ◌⊎◌, inl, inr, List, ◌++◌, length, Option, Some, None, Result, Ok, Err, refl, sym, ap, ◌∙◌, subst, arith, slice_index}
 use Rattle.std.proofs.lemmas.Grind.{same_number_lists}
-use Rattle.std.specs.Prelude.{unwrap_or, codes}
+use Rattle.std.specs.Prelude.{unwrap_or}
 use Rattle.toml.specs.Data.{Members}
 use Rattle.hk_io.specs.declared.Status.{Status}
 use Rattle.hk_io.specs.declared.Status.TheVariants as status
@@ -13,25 +13,21 @@ use Rattle.hk_sheet.specs.declared.sheet.Sheet.{Sheet}
 use Rattle.hk_sheet.specs.Answers.{IsDocument, IsRead, Answers}
 use Rattle.hk_sheet.specs.Faults.{sheet_of, sizes_of}
 use Rattle.hk_admit.specs.declared.checked.Admitted.{Admitted}
-use Rattle.hk_admit.specs.declared.refused.Refused.{Refused}
-use Rattle.hk_admit.specs.declared.refused.Refused.TheVariants as refused
 use Rattle.hk_admit.specs.Analysis.{timings_of, IsBusy, cycle_work, attempt_events, most_owed}
 use Rattle.hk_admit.specs.Conditions.{AreResponses}
 use Rattle.hk_admit.specs.Refusals.{IsRefusal}
 use Rattle.hk_admit.proofs.Excluded.{admitted_excludes, one_busy}
 use Rattle.hk_admit.proofs.Unique.{one_refusal}
-use Rattle.hk_words.specs.declared.geometry.Geometry.{Geometry}
 use Rattle.hk_words.specs.Geometry.{HasSizes}
 use Rattle.hk_words.proofs.OneGeometry.{one_geometry}
 use Rattle.hk_plan.specs.AloneBy.{least_task}
 use Rattle.hk_top.specs.declared.report.Form.{Form}
-use Rattle.hk_top.specs.declared.report.Finish.{Finish}
-use Rattle.hk_top.specs.declared.report.Finish.TheVariants as finish
+use Rattle.hk_top.specs.declared.report.Form.TheVariants as form
 use Rattle.hk_top.specs.declared.tool.Command.{Command}
 use Rattle.hk_top.specs.declared.tool.Command.TheVariants as command
-use Rattle.hk_top.specs.Refusals.{usage_line, sheet_line, refused_line}
+use Rattle.hk_top.specs.Refusals.{sheet_line, refused_line}
 use Rattle.hk_top.specs.Report.{analysis, IsRunText}
-use Rattle.hk_top.specs.Tool.{analysis_of, Asks, check, run, trace, IsAsked, IsSheetOf, IsNoSheet, IsUnread, too_long, no_sheet, IsNotAdmitted, IsAnalysis, IsReport, IsDone, IsLive, BytesCallFor, CallsFor}
+use Rattle.hk_top.specs.Tool.{analysis_of, status_of, IsSheetOf, IsNoSheet, IsUnread, too_long, no_sheet, IsNotAdmitted, IsAnalysis, IsReport, IsAnswer, answer_for, BytesCallFor, CommandCallsFor}
 use Rattle.hk_top.proofs.OneRun.{one_run}
 
 -- A SHEET
@@ -159,136 +155,82 @@ same_analysis a b same =
     ∙ ap (λ n. analysis sheet b.checked.work b.checked.attempt b.checked.busy n a.responses) debt
     ∙ ap (analysis sheet b.checked.work b.checked.attempt b.checked.busy b.checked.debt) responses
 
-one_analysis : (bytes t t' : List ℕ) → IsAnalysis bytes t → IsAnalysis bytes t' → t ≡ t'
-one_analysis bytes t t' a b =
-    a.text_is ∙ same_analysis a.admitted b.admitted (one_sheet bytes a.admitted.checked.sheet b.admitted.checked.sheet a.is b.is) ∙ sym b.text_is
+-- two answers for one sheet are one end and one text
+abbrev IsOne : (Admitted → Status → List ℕ → Type 0) → Type 0
+IsOne Answer = (a b : Admitted) → a.checked.sheet ≡ b.checked.sheet → (s s' : Status) (t t' : List ℕ) → Answer a s t → Answer b s' t' → (s ≡ s') × (t ≡ t')
 
--- and one report, with one end
-one_report : (f : Form) (bytes : List ℕ) (end end' : Finish) (t t' : List ℕ) → IsReport f bytes end t → IsReport f bytes end' t' → (end ≡ end') × (t ≡ t')
-one_report f bytes end end' t t' a b =
-    let same = one_sheet bytes a.admitted.checked.sheet b.admitted.checked.sheet a.is b.is in
-    let sheet = b.admitted.checked.sheet in
-    let geometry : a.geometry ≡ b.geometry = one_geometry a.geometry b.geometry (sizes_of sheet) (subst (λ (s : Sheet). HasSizes a.geometry (sizes_of s)) same a.sizes) b.sizes in
-    let here : IsRunText f b.geometry least_task sheet end a.run =
-    subst (λ g. IsRunText f g least_task sheet end a.run) geometry (subst (λ (s : Sheet). IsRunText f a.geometry least_task s end a.run) same a.run_is) in
-    let one = one_run b.geometry least_task sheet f end end' a.run b.run here b.run_is in
-    (one.0, a.text_is ∙ ap (λ x. x ++ a.run) (same_analysis a.admitted b.admitted same) ∙ ap (λ x. analysis_of b.admitted ++ x) one.1 ∙ sym b.text_is)
+one_analysis : IsOne IsAnalysis
+one_analysis a b same s s' t t' x y = (x.ended_is ∙ sym y.ended_is, x.text_is ∙ same_analysis a b same ∙ sym y.text_is)
+
+one_report : (f : Form) → IsOne (IsReport f)
+one_report f a b same s s' t t' x y =
+    let sheet = b.checked.sheet in
+    let geometry : x.geometry ≡ y.geometry = one_geometry x.geometry y.geometry (sizes_of sheet) (subst (λ (s : Sheet). HasSizes x.geometry (sizes_of s)) same x.sizes) y.sizes in
+    let here : IsRunText f y.geometry least_task sheet x.finish x.run =
+    subst (λ g. IsRunText f g least_task sheet x.finish x.run) geometry (subst (λ (s : Sheet). IsRunText f x.geometry least_task s x.finish x.run) same x.run_is) in
+    let one = one_run y.geometry least_task sheet f x.finish y.finish x.run y.run here y.run_is in
+    (x.ended_is ∙ ap status_of one.0 ∙ sym y.ended_is, x.text_is ∙ ap (λ r. r ++ x.run) (same_analysis a b same) ∙ ap (λ r. analysis_of b ++ r) one.1 ∙ sym y.text_is)
+
+one_answer : (f : Option Form) → IsOne (answer_for f)
+one_answer None = one_analysis
+one_answer (Some f) = one_report f
 
 -- THE END AND THE TEXT
+module _ (Answer : Admitted → Status → List ℕ → Type 0) (one : IsOne Answer) (bytes : List ℕ) where
+  answers : (s s' : Status) (t t' : List ℕ) → IsAnswer Answer bytes s t → IsAnswer Answer bytes s' t' → (s ≡ s') × (t ≡ t')
+  answers s s' t t' x y = one x.admitted y.admitted (one_sheet bytes x.admitted.checked.sheet y.admitted.checked.sheet x.is y.is) s s' t t' x.answer y.answer
 
-IsAtEnd : Finish → Type 0
-IsAtEnd finish.AtEnd = Unit {0}
-IsAtEnd (finish.Live words) = ⊥
+  one_bytes : (s s' : Status) (t t' : List ℕ) → BytesCallFor Answer bytes s t → BytesCallFor Answer bytes s' t' → (s ≡ s') × (t ≡ t')
+  one_bytes status.Done status.Done t t' a b = answers status.Done status.Done t t' a b
+  one_bytes status.Done status.Memory t t' a b = absurd b
+  one_bytes status.Done status.Usage t t' a b = absurd b
+  one_bytes status.Done status.ReadFault t t' a b = absurd b
+  one_bytes status.Done status.WriteFault t t' a b = absurd b
+  one_bytes status.Done status.Sheet t t' a b = absurd (none_read bytes t' a.admitted.checked.sheet b a.is)
+  one_bytes status.Done status.NotAdmitted t t' a b = absurd (none_admitted bytes t' a.admitted b a.is)
+  one_bytes status.Done status.Live t t' a b = answers status.Done status.Live t t' a b
+  one_bytes status.Memory s' t t' a b = absurd a
+  one_bytes status.Usage s' t t' a b = absurd a
+  one_bytes status.ReadFault s' t t' a b = absurd a
+  one_bytes status.WriteFault s' t t' a b = absurd a
+  one_bytes status.Sheet status.Done t t' a b = absurd (none_read bytes t b.admitted.checked.sheet a b.is)
+  one_bytes status.Sheet status.Memory t t' a b = absurd b
+  one_bytes status.Sheet status.Usage t t' a b = absurd b
+  one_bytes status.Sheet status.ReadFault t t' a b = absurd b
+  one_bytes status.Sheet status.WriteFault t t' a b = absurd b
+  one_bytes status.Sheet status.Sheet t t' a b = (refl, one_unread bytes t t' a b)
+  one_bytes status.Sheet status.NotAdmitted t t' a b = absurd (none_read bytes t b.sheet a b.is)
+  one_bytes status.Sheet status.Live t t' a b = absurd (none_read bytes t b.admitted.checked.sheet a b.is)
+  one_bytes status.NotAdmitted status.Done t t' a b = absurd (none_admitted bytes t b.admitted a b.is)
+  one_bytes status.NotAdmitted status.Memory t t' a b = absurd b
+  one_bytes status.NotAdmitted status.Usage t t' a b = absurd b
+  one_bytes status.NotAdmitted status.ReadFault t t' a b = absurd b
+  one_bytes status.NotAdmitted status.WriteFault t t' a b = absurd b
+  one_bytes status.NotAdmitted status.Sheet t t' a b = absurd (none_read bytes t' a.sheet b a.is)
+  one_bytes status.NotAdmitted status.NotAdmitted t t' a b = (refl, one_not_admitted bytes t t' a b)
+  one_bytes status.NotAdmitted status.Live t t' a b = absurd (none_admitted bytes t b.admitted a b.is)
+  one_bytes status.Live status.Done t t' a b = answers status.Live status.Done t t' a b
+  one_bytes status.Live status.Memory t t' a b = absurd b
+  one_bytes status.Live status.Usage t t' a b = absurd b
+  one_bytes status.Live status.ReadFault t t' a b = absurd b
+  one_bytes status.Live status.WriteFault t t' a b = absurd b
+  one_bytes status.Live status.Sheet t t' a b = absurd (none_read bytes t' a.admitted.checked.sheet b a.is)
+  one_bytes status.Live status.NotAdmitted t t' a b = absurd (none_admitted bytes t' a.admitted b a.is)
+  one_bytes status.Live status.Live t t' a b = answers status.Live status.Live t t' a b
 
--- an admitted sheet of the bytes, in whatever is called for
-admitted_done : (c : Command) (bytes t : List ℕ) → IsDone c bytes t → (a : Admitted) × IsSheetOf bytes a.checked.sheet
-admitted_done command.Check bytes t d = (d.admitted, d.is)
-admitted_done (command.Run f) bytes t d = (d.admitted, d.is)
+-- one end, whatever is asked for
+pub one_end : (c : Option Command) (bytes : List ℕ) (s s' : Status) (t t' : List ℕ) → CommandCallsFor c bytes s t → CommandCallsFor c bytes s' t' → s ≡ s'
+one_end None bytes s s' t t' a b = a.0 ∙ sym b.0
+one_end (Some command.Check) bytes s s' t t' a b = (one_bytes (answer_for None) (one_answer None) bytes s s' t t' a b).0
+one_end (Some (command.Run f)) bytes s s' t t' a b = (one_bytes (answer_for (Some f)) (one_answer (Some f)) bytes s s' t t' a b).0
+one_end (Some (command.Make n)) bytes s s' t t' a b = a.0 ∙ sym b.0
+one_end (Some (command.Simulate n)) bytes s s' t t' a b = (one_report form.Quiet a.admitted b.admitted (a.is ∙ sym b.is) s s' t t' a.answer b.answer).0
 
-admitted_live : (c : Command) (bytes t : List ℕ) → IsLive c bytes t → (a : Admitted) × IsSheetOf bytes a.checked.sheet
-admitted_live command.Check bytes t d = absurd d
-admitted_live (command.Run f) bytes t d = (d.1.admitted, d.1.is)
-
-one_done : (c : Command) (bytes t t' : List ℕ) → IsDone c bytes t → IsDone c bytes t' → t ≡ t'
-one_done command.Check bytes t t' a b = one_analysis bytes t t' a b
-one_done (command.Run f) bytes t t' a b = (one_report f bytes finish.AtEnd finish.AtEnd t t' a b).1
-
-one_live : (c : Command) (bytes t t' : List ℕ) → IsLive c bytes t → IsLive c bytes t' → t ≡ t'
-one_live command.Check bytes t t' a b = absurd a
-one_live (command.Run f) bytes t t' a b = (one_report f bytes (finish.Live a.0) (finish.Live b.0) t t' a.1 b.1).1
-
-not_done_and_live : (c : Command) (bytes t t' : List ℕ) → IsDone c bytes t → IsLive c bytes t' → ⊥
-not_done_and_live command.Check bytes t t' a b = b
-not_done_and_live (command.Run f) bytes t t' a b = subst IsAtEnd (one_report f bytes finish.AtEnd (finish.Live b.0) t t' a b.1).0 tt
-
-unread_and_admitted : (bytes t : List ℕ) → IsUnread bytes t → ((a : Admitted) × IsSheetOf bytes a.checked.sheet) → ⊥
-unread_and_admitted bytes t u x = none_read bytes t x.0.checked.sheet u x.1
-
-refused_and_admitted : (bytes t : List ℕ) → IsNotAdmitted bytes t → ((a : Admitted) × IsSheetOf bytes a.checked.sheet) → ⊥
-refused_and_admitted bytes t n x = none_admitted bytes t x.0 n x.1
-
-one_bytes : (c : Command) (bytes : List ℕ) (s s' : Status) (t t' : List ℕ) → BytesCallFor c bytes s t → BytesCallFor c bytes s' t' → (s ≡ s') × (t ≡ t')
-one_bytes c bytes status.Done status.Done t t' a b = (refl, one_done c bytes t t' a b)
-one_bytes c bytes status.Done status.Memory t t' a b = absurd b
-one_bytes c bytes status.Done status.Usage t t' a b = absurd b
-one_bytes c bytes status.Done status.ReadFault t t' a b = absurd b
-one_bytes c bytes status.Done status.WriteFault t t' a b = absurd b
-one_bytes c bytes status.Done status.Sheet t t' a b = absurd (unread_and_admitted bytes t' b (admitted_done c bytes t a))
-one_bytes c bytes status.Done status.NotAdmitted t t' a b = absurd (refused_and_admitted bytes t' b (admitted_done c bytes t a))
-one_bytes c bytes status.Done status.Live t t' a b = absurd (not_done_and_live c bytes t t' a b)
-one_bytes c bytes status.Memory s' t t' a b = absurd a
-one_bytes c bytes status.Usage s' t t' a b = absurd a
-one_bytes c bytes status.ReadFault s' t t' a b = absurd a
-one_bytes c bytes status.WriteFault s' t t' a b = absurd a
-one_bytes c bytes status.Sheet status.Done t t' a b = absurd (unread_and_admitted bytes t a (admitted_done c bytes t' b))
-one_bytes c bytes status.Sheet status.Memory t t' a b = absurd b
-one_bytes c bytes status.Sheet status.Usage t t' a b = absurd b
-one_bytes c bytes status.Sheet status.ReadFault t t' a b = absurd b
-one_bytes c bytes status.Sheet status.WriteFault t t' a b = absurd b
-one_bytes c bytes status.Sheet status.Sheet t t' a b = (refl, one_unread bytes t t' a b)
-one_bytes c bytes status.Sheet status.NotAdmitted t t' a b = absurd (none_read bytes t b.sheet a b.is)
-one_bytes c bytes status.Sheet status.Live t t' a b = absurd (unread_and_admitted bytes t a (admitted_live c bytes t' b))
-one_bytes c bytes status.NotAdmitted status.Done t t' a b = absurd (refused_and_admitted bytes t a (admitted_done c bytes t' b))
-one_bytes c bytes status.NotAdmitted status.Memory t t' a b = absurd b
-one_bytes c bytes status.NotAdmitted status.Usage t t' a b = absurd b
-one_bytes c bytes status.NotAdmitted status.ReadFault t t' a b = absurd b
-one_bytes c bytes status.NotAdmitted status.WriteFault t t' a b = absurd b
-one_bytes c bytes status.NotAdmitted status.Sheet t t' a b = absurd (none_read bytes t' a.sheet b a.is)
-one_bytes c bytes status.NotAdmitted status.NotAdmitted t t' a b = (refl, one_not_admitted bytes t t' a b)
-one_bytes c bytes status.NotAdmitted status.Live t t' a b = absurd (refused_and_admitted bytes t a (admitted_live c bytes t' b))
-one_bytes c bytes status.Live status.Done t t' a b = absurd (not_done_and_live c bytes t' t b a)
-one_bytes c bytes status.Live status.Memory t t' a b = absurd b
-one_bytes c bytes status.Live status.Usage t t' a b = absurd b
-one_bytes c bytes status.Live status.ReadFault t t' a b = absurd b
-one_bytes c bytes status.Live status.WriteFault t t' a b = absurd b
-one_bytes c bytes status.Live status.Sheet t t' a b = absurd (unread_and_admitted bytes t' b (admitted_live c bytes t a))
-one_bytes c bytes status.Live status.NotAdmitted t t' a b = absurd (refused_and_admitted bytes t' b (admitted_live c bytes t a))
-one_bytes c bytes status.Live status.Live t t' a b = (refl, one_live c bytes t t' a b)
-
--- THE WORDS. They ask for one thing at most
-codes_apart : (words : List (List ℕ)) (x y : List (List ℕ)) → words ≡ x → words ≡ y → x ≡ y
-codes_apart words x y a b = sym a ∙ b
-
-one_command : (words : List (String Global)) (c d : Command) → Asks words c → Asks words d → c ≡ d
-one_command words c d (check a) (check b) = refl
-one_command words c d (check a) (run b) = absurd (let e : codes "check" ∷ [] ≡ codes "run" ∷ [] = sym a ∙ b in cc)
-one_command words c d (check a) (trace b) = absurd (let e : codes "check" ∷ [] ≡ codes "run" ∷ codes "--trace" ∷ [] = sym a ∙ b in cc)
-one_command words c d (run a) (check b) = absurd (let e : codes "run" ∷ [] ≡ codes "check" ∷ [] = sym a ∙ b in cc)
-one_command words c d (run a) (run b) = refl
-one_command words c d (run a) (trace b) = absurd (let e : codes "run" ∷ [] ≡ codes "run" ∷ codes "--trace" ∷ [] = sym a ∙ b in cc)
-one_command words c d (trace a) (check b) = absurd (let e : codes "run" ∷ codes "--trace" ∷ [] ≡ codes "check" ∷ [] = sym a ∙ b in cc)
-one_command words c d (trace a) (run b) = absurd (let e : codes "run" ∷ codes "--trace" ∷ [] ≡ codes "run" ∷ [] = sym a ∙ b in cc)
-one_command words c d (trace a) (trace b) = refl
-
--- the words ask for nothing
-record IsWrong (words : List (String Global)) (s : Status) (t : List ℕ) : Type 0 where
-  usage : s ≡ status.Usage
-  wrong : ¬ (IsAsked words)
-  line : t ≡ usage_line
-
--- they ask for this
-record IsRight (words : List (String Global)) (bytes : List ℕ) (s : Status) (t : List ℕ) : Type 0 where
-  command : Command
-  asks : Asks words command
-  called : BytesCallFor command bytes s t
-
-parted : (words : List (String Global)) (bytes : List ℕ) (s : Status) (t : List ℕ) → CallsFor words bytes s t → IsWrong words s t ⊎ IsRight words bytes s t
-parted words bytes status.Done t called = inr (record { command = called.0; asks = called.1; called = called.2 })
-parted words bytes status.Memory t called = inr (record { command = called.0; asks = called.1; called = called.2 })
-parted words bytes status.Usage t called = inl (record { usage = refl; wrong = called.0; line = called.1 })
-parted words bytes status.ReadFault t called = inr (record { command = called.0; asks = called.1; called = called.2 })
-parted words bytes status.WriteFault t called = inr (record { command = called.0; asks = called.1; called = called.2 })
-parted words bytes status.Sheet t called = inr (record { command = called.0; asks = called.1; called = called.2 })
-parted words bytes status.NotAdmitted t called = inr (record { command = called.0; asks = called.1; called = called.2 })
-parted words bytes status.Live t called = inr (record { command = called.0; asks = called.1; called = called.2 })
-
--- words and bytes call for one end and one text
-pub one_call : (words : List (String Global)) (bytes : List ℕ) (s s' : Status) (t t' : List ℕ) → CallsFor words bytes s t → CallsFor words bytes s' t' → (s ≡ s') × (t ≡ t')
-one_call words bytes s s' t t' a b = go (parted words bytes s t a) (parted words bytes s' t' b)
-  where
-    go : IsWrong words s t ⊎ IsRight words bytes s t → IsWrong words s' t' ⊎ IsRight words bytes s' t' → (s ≡ s') × (t ≡ t')
-    go (inl x) (inl y) = (x.usage ∙ sym y.usage, x.line ∙ sym y.line)
-    go (inl x) (inr y) = absurd (x.wrong (y.command, y.asks))
-    go (inr x) (inl y) = absurd (y.wrong (x.command, x.asks))
-    go (inr x) (inr y) =
-        one_bytes y.command bytes s s' t t' (subst (λ c. BytesCallFor c bytes s t) (one_command words x.command y.command x.asks y.asks) x.called) y.called
+-- and one text, but for the sheet that is made for a number
+pub one_text : (c : Option Command) (bytes : List ℕ) (s s' : Status) (t t' : List ℕ) → ((n : ℕ) → c ≢ Some (command.Make n))
+    → CommandCallsFor c bytes s t → CommandCallsFor c bytes s' t' → t ≡ t'
+one_text None bytes s s' t t' other a b = a.1 ∙ sym b.1
+one_text (Some command.Check) bytes s s' t t' other a b = (one_bytes (answer_for None) (one_answer None) bytes s s' t t' a b).1
+one_text (Some (command.Run f)) bytes s s' t t' other a b = (one_bytes (answer_for (Some f)) (one_answer (Some f)) bytes s s' t t' a b).1
+one_text (Some (command.Make n)) bytes s s' t t' other a b = absurd (other n refl)
+one_text (Some (command.Simulate n)) bytes s s' t t' other a b = (one_report form.Quiet a.admitted b.admitted (a.is ∙ sym b.is) s s' t t' a.answer b.answer).1

@@ -1,7 +1,6 @@
 -- A session ends in one way, and has one text.
-use Rattle.std.proofs.Common.{◌≡◌, ℕ, zero, suc, ◌+◌, ◌-◌, ◌<◌, ◌≤◌, ◌⊎◌, List, ◌++◌, Option, Some, None, refl, sym, ap, ◌∙◌, subst, arith, inl, inr}
-use Rattle.std.proofs.lemmas.Bool.{cases_lt}
-use Rattle.std.proofs.lemmas.Bool.{cases_eq}
+use Rattle.std.proofs.Common.{◌≡◌, ℕ, zero, suc, ◌+◌, ◌-◌, ◌≤◌, List, ◌++◌, Option, Some, None, refl, sym, ap, ◌∙◌, subst, arith, inl, inr}
+use Rattle.std.proofs.lemmas.Bool.{cases_lt, cases_eq}
 use Rattle.hk_words.specs.declared.geometry.Geometry.{Geometry}
 use Rattle.hk_plan.specs.declared.Ready.{Ready}
 use Rattle.hk_sheet.specs.declared.sheet.Sheet.{Sheet}
@@ -13,19 +12,12 @@ use Rattle.hk_dispatch.specs.Told.{told}
 use Rattle.hk_top.specs.declared.report.Form.{Form}
 use Rattle.hk_top.specs.declared.report.Finish.{Finish}
 use Rattle.hk_top.specs.declared.report.Finish.TheVariants as finish
-use Rattle.hk_top.specs.Report.{ticks_text, last_lines, EndsSo, at_horizon, live_over, IsRunText}
+use Rattle.hk_top.specs.Report.{ticks_text, last_lines, live_in, EndsSo, at_horizon, live_over, IsRunText}
 use Rattle.hk_top.proofs.RunEnds.{GoesOn, ran, stands, tick_goes_on}
 
--- what an answer found too much
-found_in : Tick → Option ℕ
-found_in (tick.LiveOver words) = Some words
-found_in (tick.Ran who out end) = None
-found_in tick.Over = None
-
-found_over : (answer : Tick) (over : Option ℕ) → GoesOn answer over → over ≡ found_in answer
-unfolding found_in
-found_over answer over (ran who out end is none) = none ∙ sym (ap found_in is)
-found_over answer over (stands words is some) = some ∙ sym (ap found_in is)
+found_over : (answer : Tick) (over : Option ℕ) → GoesOn answer over → over ≡ live_in answer
+found_over answer over (ran who out end is none) = none ∙ sym (ap live_in is)
+found_over answer over (stands words is some) = some ∙ sym (ap live_in is)
 
 module _ (g : Geometry) (choice : List Ready → ℕ) (sheet : Sheet) where
   -- a session that stands stays so
@@ -45,9 +37,8 @@ module _ (g : Geometry) (choice : List Ready → ℕ) (sheet : Sheet) where
   stands_at from later words le some =
       let e : from + (later - from) ≡ later = omega (arith, le) in subst (λ t. (state g choice sheet t).over ≡ Some words) e (stands_on from (later - from) words some)
 
-  found : (at words : ℕ) → IsTick g choice sheet at → told g choice sheet at ≡ tick.LiveOver words → (state g choice sheet (suc at)).over ≡ Some words
-  unfolding found_in
-  found at words t is = found_over (told g choice sheet at) (state g choice sheet (suc at)).over (tick_goes_on g choice sheet at t) ∙ ap found_in is
+  pub found : (at words : ℕ) → IsTick g choice sheet at → told g choice sheet at ≡ tick.LiveOver words → (state g choice sheet (suc at)).over ≡ Some words
+  found at words t is = found_over (told g choice sheet at) (state g choice sheet (suc at)).over (tick_goes_on g choice sheet at t) ∙ ap live_in is
 
   none_and_some : (o : Option ℕ) (words : ℕ) → o ≡ None → o ≡ Some words → ⊥
   none_and_some o words a b = let e : None ≡ Some words = sym a ∙ b in cc
@@ -71,7 +62,7 @@ module _ (g : Geometry) (choice : List Ready → ℕ) (sheet : Sheet) where
       by_tick : at ≡ at' → (finish.Live words ≡ finish.Live words') × (suc at ≡ suc at')
       by_tick same =
           let answers : tick.LiveOver words ≡ tick.LiveOver words' = sym is ∙ ap (told g choice sheet) same ∙ is' in
-          let w : Some words ≡ Some words' = ap found_in answers in
+          let w : Some words ≡ Some words' = ap live_in answers in
           (let e : words ≡ words' = cc in ap finish.Live e, ap suc same)
 
   pub one_run : (f : Form) (end end' : Finish) (text text' : List ℕ) → IsRunText f g choice sheet end text → IsRunText f g choice sheet end' text' → (end ≡ end') × (text ≡ text')

@@ -1,5 +1,5 @@
 -- How a session ends: each tick goes on, or finds more words reserved than the space has for evacuation.
-use Rattle.std.proofs.Common.{◌≡◌, ◌≢◌, ℕ, zero, suc, ◌+◌, ◌-◌, ◌<◌, ◌≤◌, ◌⊎◌, Bool, true, false, List, Option, Some, None, refl, sym, ap, ◌∙◌, subst, arith, inl, inr}
+use Rattle.std.proofs.Common.{◌≡◌, ℕ, zero, suc, ◌+◌, ◌-◌, ◌<◌, ◌≤◌, true, List, Option, Some, None, refl, sym, ◌∙◌, subst, arith}
 use Rattle.std.specs.Prelude.{nat_lt}
 use Rattle.hk_words.specs.declared.geometry.Geometry.{Geometry}
 use Rattle.hk_core.specs.declared.spot.Work.{Work}
@@ -10,7 +10,7 @@ use Rattle.hk_dispatch.specs.declared.tick.Who.{Who}
 use Rattle.hk_dispatch.specs.declared.tick.End.{End}
 use Rattle.hk_dispatch.specs.declared.tick.Tick.{Tick}
 use Rattle.hk_dispatch.specs.declared.tick.Tick.TheVariants as tick
-use Rattle.hk_dispatch.specs.Moment.{Moment, core_of}
+use Rattle.hk_dispatch.specs.Moment.{Moment, core_of, opening}
 use Rattle.hk_dispatch.specs.Turns.{Turn, to_task, to_collector, to_nobody, turn}
 use Rattle.hk_dispatch.specs.Ticks.{over_in, after_task, after_event, after_turn}
 use Rattle.hk_dispatch.specs.Session.{after_tick, state, IsTick}
@@ -24,9 +24,13 @@ pub data GoesOn (answer : Tick) (over : Option ℕ) : Type 0 where
   ran : (who : Who) (out : Option ℕ) (end : Option End) → answer ≡ tick.Ran who out end → over ≡ None → GoesOn answer over
   stands : (words : ℕ) → answer ≡ tick.LiveOver words → over ≡ Some words → GoesOn answer over
 
-event_goes_on : (work : Work) (found : Option ℕ) → GoesOn (told_event work found) found
-event_goes_on work None = ran _ _ _ refl refl
-event_goes_on work (Some words) = stands words refl refl
+pub not_over : (answer : Tick) (over : Option ℕ) → GoesOn answer over → answer ≡ tick.Over → ⊥
+not_over answer over (ran who out end is none) e = let x : tick.Over ≡ tick.Ran who out end = sym e ∙ is in cc
+not_over answer over (stands words is some) e = let x : tick.Over ≡ tick.LiveOver words = sym e ∙ is in cc
+
+event_goes_on : (done : Work) (found : Option ℕ) → GoesOn (told_event done found) found
+event_goes_on done None = ran _ _ _ refl refl
+event_goes_on done (Some words) = stands words refl refl
 
 turn_goes_on : (sheet : Sheet) (m : Moment) (at : ℕ) (o : Turn) → m.over ≡ None → GoesOn (told_turn sheet m at o) (after_turn sheet m at o).over
 unfolding after_task after_event
@@ -59,18 +63,29 @@ module _ (g : Geometry) (choice : List Ready → ℕ) (sheet : Sheet) where
     pub so : EndsSo g choice sheet end ticks
     pub later : from ≤ ticks
 
+  ends_by : (from : ℕ) → IsTick g choice sheet from → ((state g choice sheet (suc from)).over ≡ None → Ends (suc from))
+      → GoesOn (told g choice sheet from) (state g choice sheet (suc from)).over → Ends (suc from)
+  ends_by from t on (ran who out end answer goes) = on goes
+  ends_by from t on (stands words answer over) = record { end = finish.Live words; ticks = suc from; so = live_over from words t answer; later = omega arith }
+
   ends_after : (left from : ℕ) → from + left ≡ sheet.ticks → (state g choice sheet from).over ≡ None → Ends from
   ends_after zero from here none =
       let same : from ≡ sheet.ticks = omega (arith, here) in
       record { end = finish.AtEnd; ticks = sheet.ticks; so = at_horizon (subst (λ t. (state g choice sheet t).over ≡ None) same none); later = omega (arith, same) }
-  ends_after (suc left) from here none = by_tick (tick_goes_on from t)
-    where
-      t : IsTick g choice sheet from
-      t = record { within = omega (arith, here); before_over = none }
-
-      by_tick : GoesOn (told g choice sheet from) (state g choice sheet (suc from)).over → Ends from
-      by_tick (ran who out end answer goes) = let e = ends_after left (suc from) (omega (arith, here)) goes in let l = e.later in record { end = e.end; ticks = e.ticks; so = e.so; later = omega (arith, l) }
-      by_tick (stands words answer over) = record { end = finish.Live words; ticks = suc from; so = live_over from words t answer; later = omega arith }
+  ends_after (suc left) from here none =
+      let t : IsTick g choice sheet from = record { within = omega (arith, here); before_over = none } in
+      let e = ends_by from t (λ goes. ends_after left (suc from) (omega (arith, here)) goes) (tick_goes_on from t) in
+      let l = e.later in
+      record { end = e.end; ticks = e.ticks; so = e.so; later = omega (arith, l) }
 
   pub ends_from : (from : ℕ) → from ≤ sheet.ticks → (state g choice sheet from).over ≡ None → Ends from
   ends_from from le none = ends_after (sheet.ticks - from) from (omega (arith, le)) none
+
+  -- and with a tick, after that
+  pub ends_past : (from : ℕ) → IsTick g choice sheet from → Ends (suc from)
+  ends_past from t = let within = t.within in ends_by from t (λ goes. ends_from (suc from) (omega (arith, within)) goes) (tick_goes_on from t)
+
+  -- the session is open at first
+  pub opened : (state g choice sheet 0).over ≡ None
+  unfolding state opening
+  opened = refl

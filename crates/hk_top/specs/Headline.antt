@@ -1,5 +1,5 @@
 -- What the run of an admitted sheet promises, sentence by sentence.
-use Rattle.std.specs.Prelude.{◌≡◌, ◌≢◌, ℕ, ◌+◌, ◌-◌, ◌<◌, ◌≤◌, ◌↔◌, List, length, slice_index_or, Option, Some, None}
+use Rattle.std.specs.Prelude.{◌≡◌, ◌≢◌, ℕ, ◌+◌, ◌-◌, ◌<◌, ◌≤◌, ◌↔◌, List, length, slice_index_or, Some}
 use Rattle.hk_words.specs.declared.geometry.Geometry.{Geometry}
 use Rattle.hk_words.specs.declared.call.Call.{Call}
 use Rattle.hk_words.specs.declared.call.Reply.TheVariants.{Full}
@@ -16,7 +16,7 @@ use Rattle.hk_sheet.specs.Arrivals.{arrival_of}
 use Rattle.hk_admit.specs.Analysis.{largest_low}
 use Rattle.hk_dispatch.specs.declared.operation.Left.TheVariants.{Passes}
 use Rattle.hk_dispatch.specs.Tasks.{high_at}
-use Rattle.hk_dispatch.specs.Moment.{Moment, core_of, history_of, used_at, plain_heap, flip_heap, course_at, need_at}
+use Rattle.hk_dispatch.specs.Moment.{core_of, history_of, used_at, plain_heap, flip_heap, course_at, need_at}
 use Rattle.hk_dispatch.specs.Turns.{to_task, turn}
 use Rattle.hk_dispatch.specs.Ticks.{asked, left_by}
 use Rattle.hk_dispatch.specs.Session.{state, who_gets, IsMoment, IsTick, JobEndsAt}
@@ -55,3 +55,7 @@ pub record Headline (g : Geometry) (sheet : Sheet) (responses : List ℕ) : Type
       × (end_in (told g least_task sheet t) ≡ replayed_end (opening_of g) sheet (who_gets g least_task sheet) t)
   -- whatever the interleaving: the run of the heap is a list of begins, steps and events, of which every one keeps these promises
   pub whatever_the_interleaving : (t : ℕ) → IsMoment g least_task sheet t → (actions : List Action) × ((state g least_task sheet t).trace ≡ traced g actions)
+
+-- At no flip of the run of a sheet more words are live than it declares
+abbrev pub LiveIsWithin : Geometry → Sheet → Type 0
+LiveIsWithin g sheet = (t : ℕ) → t ≤ sheet.ticks → ¬ (LiveExceeds g (flip_heap g (state g least_task sheet t)) sheet.heap.live)

@@ -105,6 +105,12 @@ text_of_tick f sheet at (tick.Ran who out end) =
 text_of_tick f sheet at (tick.LiveOver words) = traced f (event_line at (codes "live"))
 text_of_tick f sheet at tick.Over = []
 
+-- the words that a tick found reserved, where these were too many
+abbrev pub live_in : Tick → Option ℕ
+live_in (tick.LiveOver words) = Some words
+live_in (tick.Ran who out end) = None
+live_in tick.Over = None
+
 -- the texts of the numbers below a bound, in order
 unfoldable pub texts_below : (ℕ → List ℕ) → (bound : ℕ) → List ℕ
 texts_below text zero = []

@@ -1,14 +1,13 @@
 //! The report of a session, written as it runs. No memory is taken.
-ghost use Rattle.std.specs.Prelude.{◌≡◌, ℕ, ◌<◌, ◌++◌, ◌≤◌, List, length, true, OnOk, OnErr, IfOk, None, Some};
+ghost use Rattle.std.specs.Prelude.{◌≡◌, ℕ, ◌+◌, ◌<◌, ◌++◌, ◌≤◌, List, length, OnOk, OnErr, IfOk};
 ghost use Rattle.std.specs.Io.KnownBytes.{Appends};
 ghost use Rattle.hk_io.specs.Bytes.{AppendsPrefix, AppendsFront};
 ghost use Rattle.hk_io.specs.Faults.{HasCause};
-ghost use Rattle.hk_dispatch.specs.Tasks.{tasks_of};
-ghost use Rattle.hk_dispatch.specs.Session.{state};
-ghost use Rattle.hk_dispatch.specs.declared.tick.Tick.TheVariants.{Ran, LiveOver};
+ghost use Rattle.hk_dispatch.specs.Session.{state, IsTick};
+ghost use Rattle.hk_dispatch.specs.Told.{told};
+ghost use Rattle.hk_dispatch.specs.declared.tick.Tick.TheVariants.{Ran};
 ghost use Rattle.hk_top.specs.Names.{AreNamed, AreLowNamed};
-ghost use Rattle.hk_top.specs.Text.{live_line};
-ghost use Rattle.hk_top.specs.Report.{high_lines, low_lines, analysis, name_of, who_text, event_text, out_text, fault_in, fault_text, ended_text, traced, voiced, text_of_tick, texts_below, line_of_high_end, line_of_low_end, closing, IsRunText};
+ghost use Rattle.hk_top.specs.Report.{high_lines, low_lines, analysis, name_of, who_text, out_text, fault_text, ended_text, traced, voiced, text_of_tick, live_in, texts_below, line_of_high_end, line_of_low_end, closing, IsRunText};
 
 use crate::lines::{
     cycles_line, done_line, end_line, ended_line, event_line, fault_line, heap_line, high_line,
@@ -174,12 +173,7 @@ fn who_line(sheet: &Sheet, tick: u64, who: Who) -> Line
 }
 
 /// Writes a line behind what waits, where a trace is asked for.
-fn trace<K: Sink>(
-    form: Form,
-    line: &Line,
-    gather: &mut Gather,
-    sink: &mut K,
-) -> Result<(), Failed>
+fn trace<K: Sink>(form: Form, line: &Line, gather: &mut Gather, sink: &mut K) -> Result<(), Failed>
     ensures ok { OnOk result (AppendsFront (K.taken sink.old) (K.taken sink.new) (gather.old ++ traced form line.now) gather.new) }
     ensures prefix { OnErr result (AppendsPrefix (K.taken sink.old) (K.taken sink.new) (gather.old ++ traced form line.now)) }
     ensures cause { HasCause (K.faults sink.old) (K.faults sink.new) result }
@@ -229,11 +223,13 @@ fn write_fault<K: Sink>(
     match (form, end) {
         (
             Form::Plain | Form::Trace,
-            Some(End {
-                job,
-                ticks: _,
-                fault: Some(fault),
-            }),
+            Some(
+                End {
+                    job,
+                    ticks: _,
+                    fault: Some(fault),
+                },
+            ),
         ) => gather.push(sink, fault_line(tick, name, job, fault).bytes()),
         _ => Ok(()),
     }
@@ -254,7 +250,12 @@ fn write_ended<K: Sink>(
     ensures cause { HasCause (K.faults sink.old) (K.faults sink.new) result }
 {
     match end {
-        Some(end) => trace(form, &ended_line(tick, name, end.job, end.ticks), gather, sink),
+        Some(end) => trace(
+            form,
+            &ended_line(tick, name, end.job, end.ticks),
+            gather,
+            sink,
+        ),
         None => Ok(()),
     }
 }
@@ -282,12 +283,21 @@ fn write_tick<K: Sink>(
     write_ended(form, tick, name, end, gather, sink)
 }
 
+/// The seat of a place.
+fn seat_of(place: usize) -> u8
+    requires { place < 256 }
+    ensures { result ≡ place }
+{
+    place as u8
+}
+
 /// Writes what each high task came to behind what waits.
 fn write_high_ends<P: Pick, K: Sink>(
     session: &SessionBy<P>,
     gather: &mut Gather,
     sink: &mut K,
 ) -> Result<(), Failed>
+    requires few { length session.now.sheet.high + length session.now.sheet.low ≤ 31 }
     requires names { AreNamed session.now.sheet.high }
     ensures ok { OnOk result (AppendsFront (K.taken sink.old) (K.taken sink.new) (gather.old ++ texts_below (line_of_high_end session.now.sheet (state session.now.geometry (P.choice session.now.pick) session.now.sheet session.now.given)) (length session.now.sheet.high)) gather.new) }
     ensures prefix { OnErr result (AppendsPrefix (K.taken sink.old) (K.taken sink.new) (gather.old ++ texts_below (line_of_high_end session.now.sheet (state session.now.geometry (P.choice session.now.pick) session.now.sheet session.now.given)) (length session.now.sheet.high))) }
@@ -295,8 +305,12 @@ fn write_high_ends<P: Pick, K: Sink>(
 {
     let tasks = high_tasks(&session.checked().sheet);
     for (place, task) in tasks.iter().enumerate() {
-        let seat = place as u8;
-        let line = done_line(bytes_of(&task.name), session.ended(seat), session.latest(seat));
+        let seat = seat_of(place);
+        let line = done_line(
+            bytes_of(&task.name),
+            session.ended(seat),
+            session.latest(seat),
+        );
         gather.push(sink, line.bytes())?;
     }
     Ok(())
@@ -308,6 +322,7 @@ fn write_low_ends<P: Pick, K: Sink>(
     gather: &mut Gather,
     sink: &mut K,
 ) -> Result<(), Failed>
+    requires few { length session.now.sheet.high + length session.now.sheet.low ≤ 31 }
     requires names { AreLowNamed session.now.sheet.low }
     ensures ok { OnOk result (AppendsFront (K.taken sink.old) (K.taken sink.new) (gather.old ++ texts_below (line_of_low_end session.now.sheet (state session.now.geometry (P.choice session.now.pick) session.now.sheet session.now.given)) (length session.now.sheet.low)) gather.new) }
     ensures prefix { OnErr result (AppendsPrefix (K.taken sink.old) (K.taken sink.new) (gather.old ++ texts_below (line_of_low_end session.now.sheet (state session.now.geometry (P.choice session.now.pick) session.now.sheet session.now.given)) (length session.now.sheet.low))) }
@@ -316,8 +331,12 @@ fn write_low_ends<P: Pick, K: Sink>(
     let sheet = &session.checked().sheet;
     let first = high_tasks(sheet).len();
     for (place, task) in low_tasks(sheet).iter().enumerate() {
-        let seat = (first + place) as u8;
-        let line = done_line(bytes_of(&task.name), session.ended(seat), session.latest(seat));
+        let seat = seat_of(first + place);
+        let line = done_line(
+            bytes_of(&task.name),
+            session.ended(seat),
+            session.latest(seat),
+        );
         gather.push(sink, line.bytes())?;
     }
     Ok(())
@@ -329,6 +348,7 @@ fn write_closing<P: Pick, K: Sink>(
     gather: &mut Gather,
     sink: &mut K,
 ) -> Result<(), Failed>
+    requires few { length session.now.sheet.high + length session.now.sheet.low ≤ 31 }
     requires high { AreNamed session.now.sheet.high }
     requires low { AreLowNamed session.now.sheet.low }
     ensures ok { OnOk result (AppendsFront (K.taken sink.old) (K.taken sink.new) (gather.old ++ closing session.now.sheet (state session.now.geometry (P.choice session.now.pick) session.now.sheet session.now.given)) gather.new) }
@@ -340,6 +360,37 @@ fn write_closing<P: Pick, K: Sink>(
     let cycles = cycles_line(session.flips(), session.events(), session.idle());
     gather.push(sink, cycles.bytes())?;
     gather.push(sink, end_line(session.checked().sheet.ticks).bytes())
+}
+
+/// Gives a session a tick, and writes what it was behind what waits. It answers the words that the collector found reserved,
+/// where these were more than the space has for evacuation.
+fn write_next<P: Pick, K: Sink>(
+    session: &mut SessionBy<P>,
+    form: Form,
+    tick: u64,
+    gather: &mut Gather,
+    sink: &mut K,
+) -> Result<Option<u64>, Failed>
+    requires at { session.old.given ≡ tick }
+    requires before { IsTick session.old.geometry (P.choice session.old.pick) session.old.sheet tick }
+    ensures opened { session.new ≡ record session.old { given = tick + 1 } }
+    ensures ok { OnOk result (AppendsFront (K.taken sink.old) (K.taken sink.new) (gather.old ++ text_of_tick form session.old.sheet tick (told session.old.geometry (P.choice session.old.pick) session.old.sheet tick)) gather.new) }
+    ensures live { IfOk result (λ live. live ≡ live_in (told session.old.geometry (P.choice session.old.pick) session.old.sheet tick)) }
+    ensures prefix { OnErr result (AppendsPrefix (K.taken sink.old) (K.taken sink.new) (gather.old ++ text_of_tick form session.old.sheet tick (told session.old.geometry (P.choice session.old.pick) session.old.sheet tick))) }
+    ensures cause { HasCause (K.faults sink.old) (K.faults sink.new) result }
+{
+    match session.tick() {
+        Tick::Ran { who, out, end } => {
+            let sheet = &session.checked().sheet;
+            write_tick(form, sheet, tick, (who, out, end), gather, sink)?;
+            Ok(None)
+        }
+        Tick::LiveOver(words) => {
+            trace(form, &event_line(tick, b"live"), gather, sink)?;
+            Ok(Some(words))
+        }
+        Tick::Over => unreachable!(),
+    }
 }
 
 /// Runs a session that has had no tick to its end, and writes the lines of its ticks and the last lines. It answers how the
@@ -363,19 +414,11 @@ pub fn write_run<P: Pick, K: Sink>(
     let ticks = session.checked().sheet.ticks;
     let mut gather = Gather::new();
     for tick in 0..ticks {
-        match session.tick() {
-            Tick::Ran { who, out, end } => {
-                let sheet = &session.checked().sheet;
-                write_tick(form, sheet, tick, (who, out, end), &mut gather, sink)?;
-            }
-            Tick::LiveOver(words) => {
-                let limit = session.checked().sheet.heap.live;
-                trace(form, &event_line(tick, b"live"), &mut gather, sink)?;
-                gather.push(sink, live_line(tick, words, u64::from(limit)).bytes())?;
-                gather.flush(sink)?;
-                return Ok(Finish::Live(words));
-            }
-            Tick::Over => unreachable!(),
+        if let Some(words) = write_next(session, form, tick, &mut gather, sink)? {
+            let limit = session.checked().sheet.heap.live;
+            gather.push(sink, live_line(tick, words, u64::from(limit)).bytes())?;
+            gather.flush(sink)?;
+            return Ok(Finish::Live(words));
         }
     }
     write_closing(session, &mut gather, sink)?;

@@ -1,5 +1,6 @@
 //! Runs worked out by hand.
 mod edits;
+mod made;
 mod orders;
 mod rows;
 mod runs;

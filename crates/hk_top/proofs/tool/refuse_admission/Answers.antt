@@ -3,5 +3,5 @@ use Rattle.hk_top.proofs.ToolLemmas.{admission_refused}
 use Rattle.hk_top.proofs.tool.refuse_admission.Goals as goal
 
 pub returns-in_default-clause-ends : goal.returns-in_default-clause-ends
-returns-in_default-clause-ends g c = λ bytes sheet is refusal.
-    admission_refused _ _ _ _ bytes sheet c.args.refused.now c.put_refused.result c.ended.result is refusal c.in_default.not-Memory c.put_refused.ensures c.ended.ensures
+returns-in_default-clause-ends g c = λ form bytes sheet is refusal.
+    admission_refused _ _ _ _ form bytes sheet c.args.refused.now c.put_refused.result c.ended.result is refusal c.in_default.not-Memory c.put_refused.ensures c.ended.ensures

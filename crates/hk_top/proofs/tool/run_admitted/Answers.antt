@@ -1,28 +1,33 @@
--- The line for a sheet whose run isn't built, or its report.
-use Rattle.std.proofs.Common.{refl, sym, ◌∙◌}
+-- The report that was written, whole or in part, is that of the admitted sheet.
+use Rattle.std.proofs.Common.{refl, sym, ap}
 use Rattle.hk_io.specs.declared.Status.TheVariants as status
-use Rattle.hk_top.specs.Refusals.{not_built_line}
-use Rattle.hk_top.specs.Report.{report}
-use Rattle.hk_top.specs.Tool.{AdmittedCallsFor}
-use Rattle.hk_top.proofs.SheetLemmas.{runnable}
-use Rattle.hk_top.proofs.ToolLemmas.{ends_written}
+use Rattle.hk_top.specs.Tool.{status_of, IsReport}
+use Rattle.hk_top.proofs.ToolLemmas.{ends_whole, ends_cut, own_report}
 use Rattle.hk_top.proofs.tool.run_admitted.Goals as goal
 
-pub returns-then-is_unbuilt-clause-ends : goal.returns-then-is_unbuilt-clause-ends
-returns-then-is_unbuilt-clause-ends g c =
-    ends_written (AdmittedCallsFor c.args.admitted.now) _ _ _ _ status.NotBuilt not_built_line c.put_line.result c.ended.result tt
-    (sym c.is_unbuilt.ensures ∙ c.if-is_unbuilt.true, refl)
-    (record { ok = c.put_line.ensures.ok; prefix = c.put_line.ensures.prefix; cause = c.put_line.ensures.cause }) c.ended.ensures
+pub returns-in-Ok-AtEnd-clause-ends : goal.returns-in-Ok-AtEnd-clause-ends
+returns-in-Ok-AtEnd-clause-ends g c =
+    let by = c.in-Ok.session.by in
+    let e = c.in-Ok.ensures in
+    let a = c.args.admitted in
+    let report = own_report c.args.form a by.sheet by.work by.attempt by.busy by.debt c.in-Ok.session.responses by.geometry e.sheet e.numbers.0 e.numbers.1 e.numbers.2 e.numbers.3 e.responses e.sizes in
+    let ok = c.in-Ok-AtEnd.ensures.ok in
+    ends_whole (IsReport c.args.form a) _ _ _ _ status.Done _ (report status.Done c.in-Ok-AtEnd.field-0 ok.0 (sym (ap status_of c.in-Ok-AtEnd.field-0-is)) ok.1) tt ok.2 c.in-Ok-AtEnd.ensures.cause.kept
 
-pub open-requires : goal.open-requires
-open-requires g c = (runnable c.args.admitted.now.checked.sheet c.args.admitted.now.checked.sound.readable (sym c.is_unbuilt.ensures ∙ c.if-is_unbuilt.false)).tasks
+pub returns-in-Ok-Live-clause-ends : goal.returns-in-Ok-Live-clause-ends
+returns-in-Ok-Live-clause-ends g c =
+    let by = c.in-Ok.session.by in
+    let e = c.in-Ok.ensures in
+    let a = c.args.admitted in
+    let report = own_report c.args.form a by.sheet by.work by.attempt by.busy by.debt c.in-Ok.session.responses by.geometry e.sheet e.numbers.0 e.numbers.1 e.numbers.2 e.numbers.3 e.responses e.sizes in
+    let ok = c.in-Ok-Live.ensures.ok in
+    ends_whole (IsReport c.args.form a) _ _ _ _ status.Live _ (report status.Live c.in-Ok-Live.field-0 ok.0 (sym (ap status_of c.in-Ok-Live.field-0-is)) ok.1) tt ok.2 c.in-Ok-Live.ensures.cause.kept
 
-pub write_report-requires-clause-sheet : goal.write_report-requires-clause-sheet
-write_report-requires-clause-sheet g c =
-    runnable c.args.admitted.now.checked.sheet c.args.admitted.now.checked.sound.readable (sym c.is_unbuilt.ensures ∙ c.if-is_unbuilt.false)
-
-pub returns-in-Ok-clause-ends : goal.returns-in-Ok-clause-ends
-returns-in-Ok-clause-ends g c =
-    ends_written (AdmittedCallsFor c.args.admitted.now) _ _ _ _ status.Done (report c.args.admitted.now) c.write_report.result c.ended-in-Ok.result tt
-    (sym c.is_unbuilt.ensures ∙ c.if-is_unbuilt.false, refl)
-    (record { ok = c.write_report.ensures.ok; prefix = c.write_report.ensures.prefix; cause = c.write_report.ensures.cause }) c.ended-in-Ok.ensures
+pub returns-clause-ends : goal.returns-clause-ends
+returns-clause-ends g c =
+    let by = c.in-Ok.session.by in
+    let e = c.in-Ok.ensures in
+    let a = c.args.admitted in
+    let report = own_report c.args.form a by.sheet by.work by.attempt by.busy by.debt c.in-Ok.session.responses by.geometry e.sheet e.numbers.0 e.numbers.1 e.numbers.2 e.numbers.3 e.responses e.sizes in
+    let cut = c.in-Err-write_report.ensures.prefix in
+    ends_cut (IsReport c.args.form a) _ _ _ _ (status_of cut.0) _ (report (status_of cut.0) cut.0 cut.1 refl cut.2) cut.3 c.in-Err-write_report.ensures.cause.failed c.in-Err-write_report.ensures.cause.later

@@ -1,79 +1,133 @@
 -- What the parts answer is what the program answers.
-use Rattle.std.proofs.Common.{◌≡◌, ℕ, List, Option, Err, refl, sym, ap, subst}
-use Rattle.std.proofs.lemmas.Bool.{both_ways}
-use Rattle.std.specs.Prelude.{IfSome, false}
+use Rattle.std.proofs.Common.{◌≡◌, ℕ, List, Some, None, Ok, refl, sym, ap, ◌∙◌, subst}
+use Rattle.hk_io.specs.declared.Status.{Status}
 use Rattle.hk_io.specs.declared.Status.TheVariants as status
-use Rattle.hk_top.specs.Refusals.{usage_line, long_line}
-use Rattle.hk_top.specs.Tool.{BytesCallFor, CallsFor, too_long}
-use Rattle.hk_top.proofs.ToolLemmas.{ends_written, ends_as, run_calls, writes, writes_prefix, complete, long_input, any_input}
+use Rattle.hk_sheet.specs.Answers.{IsRead}
+use Rattle.hk_gen.specs.Made.{made}
+use Rattle.hk_top.specs.declared.tool.Command.TheVariants as command
+use Rattle.hk_top.specs.Refusals.{usage_line}
+use Rattle.hk_top.specs.Tool.{answer_for, BytesCallFor, HasText, IsSimulation}
+use Rattle.hk_top.proofs.ToolLemmas.{ends_written, asked_as, on_any_input, no_read_fault, writes, writes_prefix, complete}
 use Rattle.hk_top.proofs.tool.run_tool.Goals as goal
 
--- the input is what a call that took equal bytes says
-told_as : (input : Option (List ℕ)) (bytes slice : List ℕ) → slice ≡ bytes → IfSome input (λ left. bytes ≡ left) → IfSome input (λ left. slice ≡ left)
-told_as input bytes slice same told = subst (λ b. IfSome input (λ left. b ≡ left)) (sym same) told
+-- the usage line
+abbrev UsageCalls : Status → List ℕ → Type 0
+UsageCalls ended text = (ended ≡ status.Usage) × (text ≡ usage_line)
 
-pub returns-then-not-is_run-clause-whole : goal.returns-then-not-is_run-clause-whole
-returns-then-not-is_run-clause-whole g c =
+-- a text that is read as the sheet that is made for a number
+abbrev MadeCalls : ℕ → Status → List ℕ → Type 0
+MadeCalls n ended text = (ended ≡ status.Done) × IsRead text (Ok (made n))
+
+pub returns-in_default-clause-whole : goal.returns-in_default-clause-whole
+returns-in_default-clause-whole g c = λ has.
     let words = c.args.words.now in
-    let input = any_input (g.S.Source.left c.args.source.now) in
-    let ends = ends_written (CallsFor words input.0) _ _ _ _ status.Usage usage_line c.put_line.result c.ended.result tt
-    (λ r. both_ways false refl (c.if-not-is_run.ensures.1 r), refl)
+    let left = g.S.Source.left c.args.source.now in
+    let asks = sym c.command_of.ensures ∙ c.in_default.is in
+    let ends = ends_written UsageCalls _ _ _ _ status.Usage usage_line c.put_line.result c.ended.result tt (refl, refl)
     (record { ok = c.put_line.ensures.ok; prefix = c.put_line.ensures.prefix; cause = c.put_line.ensures.cause }) c.ended.ensures in
-    writes words (g.S.Source.left c.args.source.now) _ _ _ _ input.0 input.1 c.ended.result ends
+    writes (λ bytes. UsageCalls) words left _ _ _ _ c.ended.result (asked_as words None asks) (on_any_input UsageCalls left _ _ _ _ c.ended.result ends) has
 
-pub returns-then-not-is_run-clause-prefix : goal.returns-then-not-is_run-clause-prefix
-returns-then-not-is_run-clause-prefix g c =
+pub returns-in_default-clause-prefix : goal.returns-in_default-clause-prefix
+returns-in_default-clause-prefix g c = λ fault.
     let words = c.args.words.now in
-    let input = any_input (g.S.Source.left c.args.source.now) in
-    let ends = ends_written (CallsFor words input.0) _ _ _ _ status.Usage usage_line c.put_line.result c.ended.result tt
-    (λ r. both_ways false refl (c.if-not-is_run.ensures.1 r), refl)
+    let left = g.S.Source.left c.args.source.now in
+    let asks = sym c.command_of.ensures ∙ c.in_default.is in
+    let ends = ends_written UsageCalls _ _ _ _ status.Usage usage_line c.put_line.result c.ended.result tt (refl, refl)
     (record { ok = c.put_line.ensures.ok; prefix = c.put_line.ensures.prefix; cause = c.put_line.ensures.cause }) c.ended.ensures in
-    writes_prefix words (g.S.Source.left c.args.source.now) _ _ _ _ input.0 input.1 c.ended.result ends
+    writes_prefix (λ bytes. UsageCalls) words left _ _ _ _ c.ended.result (asked_as words None asks) (on_any_input UsageCalls left _ _ _ _ c.ended.result ends) fault
 
-pub returns-in-Ok-clause-whole : goal.returns-in-Ok-clause-whole
-returns-in-Ok-clause-whole g c =
-    let words = c.args.words.now in
-    let slice = c.as_slice.result.now in
-    let left = g.S.Source.left c.args.source.now in
-    let told = told_as left c.in-Ok.bytes.items slice c.as_slice.ensures.value c.in-Ok.ensures.whole in
-    let ends = ends_as (BytesCallFor slice) _ _ _ _ (CallsFor words slice) c.run_bytes.result (run_calls words slice (c.if-not-is_run.ensures.0 refl)) c.run_bytes.ensures.ends in
-    writes words left _ _ _ _ slice told c.run_bytes.result ends
-
-pub returns-in-Ok-clause-prefix : goal.returns-in-Ok-clause-prefix
-returns-in-Ok-clause-prefix g c =
-    let words = c.args.words.now in
-    let slice = c.as_slice.result.now in
-    let left = g.S.Source.left c.args.source.now in
-    let told = told_as left c.in-Ok.bytes.items slice c.as_slice.ensures.value c.in-Ok.ensures.whole in
-    let ends = ends_as (BytesCallFor slice) _ _ _ _ (CallsFor words slice) c.run_bytes.result (run_calls words slice (c.if-not-is_run.ensures.0 refl)) c.run_bytes.ensures.ends in
-    writes_prefix words left _ _ _ _ slice told c.run_bytes.result ends
-
-pub returns-in-Ok-clause-complete : goal.returns-in-Ok-clause-complete
-returns-in-Ok-clause-complete g c = λ _ kept.
-    let words = c.args.words.now in
-    let slice = c.as_slice.result.now in
-    let left = g.S.Source.left c.args.source.now in
-    let told = told_as left c.in-Ok.bytes.items slice c.as_slice.ensures.value c.in-Ok.ensures.whole in
-    let ends = ends_as (BytesCallFor slice) _ _ _ _ (CallsFor words slice) c.run_bytes.result (run_calls words slice (c.if-not-is_run.ensures.0 refl)) c.run_bytes.ensures.ends in
-    complete words left _ _ c.run_bytes.result (writes words left _ _ _ _ slice told c.run_bytes.result ends)
-    c.run_bytes.ensures.ends.no_read (λ w. kept (c.run_bytes.ensures.ends.cause w))
-
-pub returns-in-Err-Long-clause-whole : goal.returns-in-Err-Long-clause-whole
-returns-in-Err-Long-clause-whole g c =
+pub returns-in-Check-clause-whole : goal.returns-in-Check-clause-whole
+returns-in-Check-clause-whole g c = λ has.
     let words = c.args.words.now in
     let left = g.S.Source.left c.args.source.now in
-    let long = long_input left (g.S.Source.left c.take_all.new.source) (c.in-Err-Long.ensures.long (ap Err c.in-Err-Long.field-0-is)) in
-    let ends = ends_written (CallsFor words long.0) _ _ _ _ status.Sheet long_line c.put_line-in-Err-Long.result c.ended-in-Err-Long.result tt
-    (c.if-not-is_run.ensures.0 refl, too_long long.2 refl)
-    (record { ok = c.put_line-in-Err-Long.ensures.ok; prefix = c.put_line-in-Err-Long.ensures.prefix; cause = c.put_line-in-Err-Long.ensures.cause }) c.ended-in-Err-Long.ensures in
-    writes words left _ _ _ _ long.0 long.1 c.ended-in-Err-Long.result ends
+    let asks = sym c.command_of.ensures ∙ c.in-Some.is ∙ ap Some c.in-Check.is in
+    let Calls = BytesCallFor (answer_for None) in
+    writes Calls words left _ _ _ _ c.answer_input.result (asked_as words (Some command.Check) asks) (c.answer_input.ensures.ends (λ r. subst HasText r has)) has
 
-pub returns-in-Err-Long-clause-prefix : goal.returns-in-Err-Long-clause-prefix
-returns-in-Err-Long-clause-prefix g c =
+pub returns-in-Check-clause-prefix : goal.returns-in-Check-clause-prefix
+returns-in-Check-clause-prefix g c = λ fault.
     let words = c.args.words.now in
     let left = g.S.Source.left c.args.source.now in
-    let long = long_input left (g.S.Source.left c.take_all.new.source) (c.in-Err-Long.ensures.long (ap Err c.in-Err-Long.field-0-is)) in
-    let ends = ends_written (CallsFor words long.0) _ _ _ _ status.Sheet long_line c.put_line-in-Err-Long.result c.ended-in-Err-Long.result tt
-    (c.if-not-is_run.ensures.0 refl, too_long long.2 refl)
-    (record { ok = c.put_line-in-Err-Long.ensures.ok; prefix = c.put_line-in-Err-Long.ensures.prefix; cause = c.put_line-in-Err-Long.ensures.cause }) c.ended-in-Err-Long.ensures in
-    writes_prefix words left _ _ _ _ long.0 long.1 c.ended-in-Err-Long.result ends
+    let asks = sym c.command_of.ensures ∙ c.in-Some.is ∙ ap Some c.in-Check.is in
+    let Calls = BytesCallFor (answer_for None) in
+    writes_prefix Calls words left _ _ _ _ c.answer_input.result (asked_as words (Some command.Check) asks) (c.answer_input.ensures.ends (no_read_fault c.answer_input.result fault)) fault
+
+pub returns-in-Check-clause-complete : goal.returns-in-Check-clause-complete
+returns-in-Check-clause-complete g c = λ no_read no_write.
+    let words = c.args.words.now in
+    let left = g.S.Source.left c.args.source.now in
+    let asks = sym c.command_of.ensures ∙ c.in-Some.is ∙ ap Some c.in-Check.is in
+    let Calls = BytesCallFor (answer_for None) in
+    complete words left _ _ c.answer_input.result (λ has. writes Calls words left _ _ _ _ c.answer_input.result (asked_as words (Some command.Check) asks) (c.answer_input.ensures.ends (λ r. subst HasText r has)) has)
+    (λ r. no_read (c.answer_input.ensures.read r).0) (λ w. no_write ((c.answer_input.ensures.ends (no_read_fault c.answer_input.result w)).ends.cause w))
+
+pub returns-in-Run-clause-whole : goal.returns-in-Run-clause-whole
+returns-in-Run-clause-whole g c = λ has.
+    let words = c.args.words.now in
+    let left = g.S.Source.left c.args.source.now in
+    let asks = sym c.command_of.ensures ∙ c.in-Some.is ∙ ap Some c.in-Run.is in
+    let Calls = BytesCallFor (answer_for (Some c.in-Run.form)) in
+    writes Calls words left _ _ _ _ c.answer_input-in-Run.result (asked_as words (Some (command.Run c.in-Run.form)) asks) (c.answer_input-in-Run.ensures.ends (λ r. subst HasText r has)) has
+
+pub returns-in-Run-clause-prefix : goal.returns-in-Run-clause-prefix
+returns-in-Run-clause-prefix g c = λ fault.
+    let words = c.args.words.now in
+    let left = g.S.Source.left c.args.source.now in
+    let asks = sym c.command_of.ensures ∙ c.in-Some.is ∙ ap Some c.in-Run.is in
+    let Calls = BytesCallFor (answer_for (Some c.in-Run.form)) in
+    writes_prefix Calls words left _ _ _ _ c.answer_input-in-Run.result (asked_as words (Some (command.Run c.in-Run.form)) asks) (c.answer_input-in-Run.ensures.ends (no_read_fault c.answer_input-in-Run.result fault)) fault
+
+pub returns-in-Run-clause-complete : goal.returns-in-Run-clause-complete
+returns-in-Run-clause-complete g c = λ no_read no_write.
+    let words = c.args.words.now in
+    let left = g.S.Source.left c.args.source.now in
+    let asks = sym c.command_of.ensures ∙ c.in-Some.is ∙ ap Some c.in-Run.is in
+    let Calls = BytesCallFor (answer_for (Some c.in-Run.form)) in
+    complete words left _ _ c.answer_input-in-Run.result (λ has. writes Calls words left _ _ _ _ c.answer_input-in-Run.result (asked_as words (Some (command.Run c.in-Run.form)) asks) (c.answer_input-in-Run.ensures.ends (λ r. subst HasText r has)) has)
+    (λ r. no_read (c.answer_input-in-Run.ensures.read r).0) (λ w. no_write ((c.answer_input-in-Run.ensures.ends (no_read_fault c.answer_input-in-Run.result w)).ends.cause w))
+
+pub returns-in-Make-clause-whole : goal.returns-in-Make-clause-whole
+returns-in-Make-clause-whole g c = λ has.
+    let words = c.args.words.now in
+    let left = g.S.Source.left c.args.source.now in
+    let asks = sym c.command_of.ensures ∙ c.in-Some.is ∙ ap Some c.in-Make.is in
+    let Calls = MadeCalls c.in-Make.number in
+    let on = on_any_input Calls left _ _ _ _ c.write_made.result c.write_made.ensures.ends in
+    writes (λ bytes. Calls) words left _ _ _ _ c.write_made.result (asked_as words (Some (command.Make c.in-Make.number)) asks) on has
+
+pub returns-in-Make-clause-prefix : goal.returns-in-Make-clause-prefix
+returns-in-Make-clause-prefix g c = λ fault.
+    let words = c.args.words.now in
+    let left = g.S.Source.left c.args.source.now in
+    let asks = sym c.command_of.ensures ∙ c.in-Some.is ∙ ap Some c.in-Make.is in
+    let Calls = MadeCalls c.in-Make.number in
+    let on = on_any_input Calls left _ _ _ _ c.write_made.result c.write_made.ensures.ends in
+    writes_prefix (λ bytes. Calls) words left _ _ _ _ c.write_made.result (asked_as words (Some (command.Make c.in-Make.number)) asks) on fault
+
+pub returns-in-Simulate-clause-whole : goal.returns-in-Simulate-clause-whole
+returns-in-Simulate-clause-whole g c = λ has.
+    let words = c.args.words.now in
+    let left = g.S.Source.left c.args.source.now in
+    let asks = sym c.command_of.ensures ∙ c.in-Some.is ∙ ap Some c.in-Simulate.is in
+    let Calls = IsSimulation c.in-Simulate.number in
+    let on = on_any_input Calls left _ _ _ _ c.simulate.result c.simulate.ensures.ends in
+    writes (λ bytes. Calls) words left _ _ _ _ c.simulate.result (asked_as words (Some (command.Simulate c.in-Simulate.number)) asks) on has
+
+pub returns-in-Simulate-clause-prefix : goal.returns-in-Simulate-clause-prefix
+returns-in-Simulate-clause-prefix g c = λ fault.
+    let words = c.args.words.now in
+    let left = g.S.Source.left c.args.source.now in
+    let asks = sym c.command_of.ensures ∙ c.in-Some.is ∙ ap Some c.in-Simulate.is in
+    let Calls = IsSimulation c.in-Simulate.number in
+    let on = on_any_input Calls left _ _ _ _ c.simulate.result c.simulate.ensures.ends in
+    writes_prefix (λ bytes. Calls) words left _ _ _ _ c.simulate.result (asked_as words (Some (command.Simulate c.in-Simulate.number)) asks) on fault
+
+pub returns-in-Simulate-clause-complete : goal.returns-in-Simulate-clause-complete
+returns-in-Simulate-clause-complete g c = λ no_read no_write.
+    let words = c.args.words.now in
+    let left = g.S.Source.left c.args.source.now in
+    let asks = sym c.command_of.ensures ∙ c.in-Some.is ∙ ap Some c.in-Simulate.is in
+    let Calls = IsSimulation c.in-Simulate.number in
+    let on = on_any_input Calls left _ _ _ _ c.simulate.result c.simulate.ensures.ends in
+    complete words left _ _ c.simulate.result (λ has. writes (λ bytes. Calls) words left _ _ _ _ c.simulate.result (asked_as words (Some (command.Simulate c.in-Simulate.number)) asks) on has)
+    c.simulate.ensures.ends.no_read (λ w. no_write (c.simulate.ensures.ends.cause w))

@@ -1,6 +1,6 @@
 use Rattle.std.proofs.Common.{◌+◌, ◌*◌, ℕ, ap, sym, ◌∙◌, arith}
-use Rattle.hk_replay.proofs.Digits.{small_so_far, one_more}
-use Rattle.hk_replay.proofs.lex.digits_of.Goals as goal
+use Rattle.hk_io.proofs.Digits.{small_so_far, one_more}
+use Rattle.hk_io.proofs.decimal.digits_of.Goals as goal
 
 pub overflow_mul-value : goal.overflow_mul-value
 overflow_mul-value c =

@@ -1,0 +1,14 @@
+-- The number that a word spells.
+use Rattle.std.specs.Prelude.{ℕ, ◌^◌, Bool, List, length, Option, Some, None, nat_lt, nat_le, ◌&&◌, if◌then◌else◌}
+use Rattle.std.specs.List.{list_all}
+use Rattle.std.specs.Char.{is_ascii_digit}
+use Rattle.std.specs.Str.Parse.{digits_value}
+use Rattle.hk_io.specs.declared.decimal.TheConstants.{MAX_DIGITS}
+
+-- 1 to 20 decimal digits, of a number below 2 ^ 64
+abbrev pub is_number : List ℕ → Bool
+is_number word = nat_lt 0 (length word) && nat_le (length word) MAX_DIGITS && list_all is_ascii_digit word && nat_lt (digits_value 10 word) (2 ^ 64)
+
+-- the number that a word spells
+unfoldable pub number_of : List ℕ → Option ℕ
+number_of word = if is_number word then Some (digits_value 10 word) else None

@@ -1,14 +1,13 @@
 -- Why there is no order: tasks of which none can be the last.
-use Rattle.std.proofs.Common.{◌≡◌, ◌∙◌, refl, sym, ap, subst, ℕ, ◌+◌, ◌<◌, ◌≤◌, ◌⊎◌, zero, suc, List, [], ◌∷◌, ◌++◌, All, Contains, length, take, get_or, slice_index, arith, inl, inr}
+use Rattle.std.proofs.Common.{◌≡◌, ◌∙◌, sym, ap, subst, ℕ, ◌+◌, ◌<◌, ◌≤◌, ◌⊎◌, zero, suc, List, [], ◌∷◌, ◌++◌, All, Contains, length, take, slice_index, arith, inl, inr}
 use Rattle.std.specs.List.{range_with_len}
 use Rattle.std.proofs.lemmas.List.{take_all, take_more}
 use Rattle.std.proofs.lemmas.List.Elements.{All-contains, Contains-push_cases, Contains-get_or}
-use Rattle.std.proofs.lemmas.List.FromFn.{length-range_with_len}
-use Rattle.std.proofs.lemmas.List.Sorted.{Contains-permutation, length_permutation}
+use Rattle.std.proofs.lemmas.List.Sorted.{Contains-permutation}
 use Rattle.hk_rta.specs.declared.Timing.{Timing}
 use Rattle.hk_rta.specs.Demand.{IsTimed, timing_at, no_timing}
 use Rattle.hk_assign.specs.Orders.{IsInTime, KeepsDeadlines}
-use Rattle.hk_assign.specs.Assignment.{others, CanBeLast, IsBlocked, IsStuck}
+use Rattle.hk_assign.specs.Assignment.{others, IsBlocked, IsStuck}
 use Rattle.hk_assign.proofs.Demands.{asks}
 use Rattle.hk_assign.proofs.Fewer.{fewer}
 use Rattle.hk_assign.proofs.Sets.{among_others, different_others, rising_differ, part-le, is_index}

@@ -1,10 +1,10 @@
 -- What tasks demand, by their indices, and what the equation of the response time says of a task behind others.
-use Rattle.std.proofs.Common.{◌≡◌, ◌∙◌, refl, sym, ap, ℕ, ◌+◌, ◌<◌, ◌≤◌, List, [], ◌∷◌, ◌++◌, map, length, take, arith}
+use Rattle.std.proofs.Common.{◌≡◌, ◌∙◌, refl, sym, ap, ℕ, ◌+◌, ◌<◌, List, [], ◌∷◌, ◌++◌, length, take}
 use Rattle.std.specs.List.{sum_by}
 use Rattle.std.proofs.lemmas.List.{map_push, length-map, take_at, get_or_push}
 use Rattle.std.proofs.lemmas.List.Sums.{sum_by-cons}
 use Rattle.hk_rta.specs.declared.Timing.{Timing}
-use Rattle.hk_rta.specs.Demand.{demand, demand_of, timing_at, cost_at, deadline_at, jitter_at, no_timing}
+use Rattle.hk_rta.specs.Demand.{demand, demand_of, timing_at, cost_at, no_timing}
 use Rattle.hk_rta.specs.Response.{Solves}
 use Rattle.hk_assign.specs.Orders.{in_order}
 

@@ -1,12 +1,12 @@
 -- Where tasks that demand no more go before it, a task that was in time is in time.
-use Rattle.std.proofs.Common.{◌≡◌, ◌∙◌, refl, sym, ap, subst, ℕ, ◌+◌, ◌-◌, ◌<◌, ◌≤◌, zero, suc, Bool, true, false, ◌&&◌, nat_lt, nat_le, ltb, leb, List, [], ◌∷◌, ◌++◌, length, arith, inl, inr}
+use Rattle.std.proofs.Common.{◌≡◌, refl, sym, ap, subst, ℕ, ◌+◌, ◌-◌, ◌<◌, ◌≤◌, zero, suc, Bool, true, false, ◌&&◌, nat_lt, nat_le, List, [], ◌∷◌, ◌++◌, length, arith, inl, inr}
 use Rattle.std.specs.List.{sum_by}
 use Rattle.std.proofs.lemmas.Bool.{cases_lt}
 use Rattle.std.proofs.lemmas.Bool.Decides.{nat_tests}
 use Rattle.hk_rta.specs.declared.Timing.{Timing}
-use Rattle.hk_rta.specs.Demand.{demand, timing_at, cost_at, deadline_at, jitter_at}
+use Rattle.hk_rta.specs.Demand.{timing_at, jitter_at}
 use Rattle.hk_rta.specs.Least.{IsLeast}
-use Rattle.hk_rta.specs.Response.{Solves, Response}
+use Rattle.hk_rta.specs.Response.{Solves}
 use Rattle.hk_rta.proofs.Steps.{demand_grows}
 use Rattle.hk_assign.specs.Orders.{in_order, IsInTime}
 use Rattle.hk_assign.proofs.Demands.{asks, demand_is, last_is, Ends, ends_from, solves_from}

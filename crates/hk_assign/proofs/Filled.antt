@@ -1,10 +1,10 @@
 -- An order whose last places are filled.
-use Rattle.std.proofs.Common.{◌≡◌, ◌∙◌, refl, sym, ap, subst, ℕ, ◌+◌, ◌<◌, ◌≤◌, ◌⊎◌, List, [], ◌∷◌, ◌++◌, All, Contains, length, take, drop, get_or, slice_index, arith, inl, inr}
+use Rattle.std.proofs.Common.{◌≡◌, ◌∙◌, sym, ap, subst, ℕ, ◌+◌, ◌<◌, ◌≤◌, ◌⊎◌, List, [], ◌∷◌, ◌++◌, All, Contains, length, take, drop, get_or, slice_index, arith, inl, inr}
 use Rattle.std.specs.List.{remove, range_with_len}
 use Rattle.std.specs.List.Sorted.{IsStrictlyIncreasing, IsPermutation}
 use Rattle.std.proofs.lemmas.List.{append_assoc, take-append-drop, take_all, drop_all, take_at, drop_at, length-take-le}
 use Rattle.std.proofs.lemmas.List.Edits.{length-remove}
-use Rattle.std.proofs.lemmas.List.Elements.{All-take, All-contains, Contains-append_left, Contains-append_right, Contains-get_or}
+use Rattle.std.proofs.lemmas.List.Elements.{All-take, All-contains, Contains-append_left, Contains-append_right}
 use Rattle.std.proofs.lemmas.List.FromFn.{length-range_with_len}
 use Rattle.std.proofs.lemmas.List.Sorted.{IsPermutation-refl, IsPermutation-trans, IsPermutation-append_left, All-permutation, length_permutation}
 use Rattle.hk_rta.specs.declared.Timing.{Timing}
@@ -28,7 +28,7 @@ pub record IsFilled (timings : List Timing) (order : List ℕ) (free : ℕ) : Ty
 pub order_length : (count : ℕ) (order : List ℕ) → IsOrder count order → length order ≡ count
 order_length count order is_order = length_permutation (range_with_len 0 count) order is_order ∙ length-range_with_len 0 count
 
-all_tasks : (count : ℕ) (order : List ℕ) → IsOrder count order → All (λ (task : ℕ). task < count) order
+pub all_tasks : (count : ℕ) (order : List ℕ) → IsOrder count order → All (λ (task : ℕ). task < count) order
 all_tasks count order is_order = All-permutation (λ (task : ℕ). task < count) (range_with_len 0 count) order is_order (all_indices count)
 
 pub free_tasks : (timings : List Timing) (order : List ℕ) (free : ℕ) → IsFilled timings order free → All (λ (task : ℕ). task < length timings) (take free order)

@@ -5,3 +5,9 @@ pub mod Blocked
 pub mod Placed
 pub mod Filled
 pub mod Rows
+pub mod Permuted
+pub mod Standing
+pub mod OneOrder
+pub mod Named
+pub mod Ends
+pub mod OneEnd

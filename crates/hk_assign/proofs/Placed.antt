@@ -1,19 +1,19 @@
 -- Places that are filled from the last to the first.
-use Rattle.std.proofs.Common.{◌≡◌, ◌∙◌, refl, sym, ap, subst, ℕ, ◌+◌, ◌<◌, ◌≤◌, ◌⊎◌, zero, suc, List, [], ◌∷◌, ◌++◌, All, Contains, length, take, drop, get_or, slice_index, arith, inl, inr}
-use Rattle.std.specs.List.{sum_by, remove, range_with_len}
+use Rattle.std.proofs.Common.{◌≡◌, ◌∙◌, refl, sym, ap, subst, ℕ, ◌<◌, ◌≤◌, ◌⊎◌, zero, suc, List, [], ◌∷◌, ◌++◌, All, Contains, length, take, get_or, slice_index, arith, inl, inr}
+use Rattle.std.specs.List.{remove}
 use Rattle.std.specs.List.Sorted.{IsStrictlyIncreasing, IsPermutation}
 use Rattle.std.proofs.lemmas.Bool.{cases_lt}
 use Rattle.std.proofs.lemmas.List.{append-nil, append_assoc, take_more, get_or_default}
 use Rattle.std.proofs.lemmas.List.Elements.{All-contains, Contains-push_cases, Contains-get_or}
-use Rattle.std.proofs.lemmas.List.Sorted.{IsPermutation-sym, IsPermutation-append_left, IsPermutation-remove, Contains-permutation, sum_by-IsPermutation}
+use Rattle.std.proofs.lemmas.List.Sorted.{IsPermutation-sym, IsPermutation-append_left, Contains-permutation, sum_by-IsPermutation}
 use Rattle.hk_rta.specs.declared.Timing.{Timing}
 use Rattle.hk_rta.specs.Demand.{IsTimed, timing_at}
 use Rattle.hk_assign.specs.Orders.{IsInTime, IsOrder, KeepsDeadlines}
 use Rattle.hk_assign.specs.Assignment.{others, CanBeLast, TakesGreatest, IsBlocked, IsStuck}
-use Rattle.hk_assign.specs.Placing.{IsPlaced, ArePlaced, FitsAt, IsLastFit, NoneFits}
+use Rattle.hk_assign.specs.Placing.{IsPlaced, ArePlaced, IsLastFit, NoneFits}
 use Rattle.hk_assign.proofs.Demands.{asks}
 use Rattle.hk_assign.proofs.Fewer.{fewer}
-use Rattle.hk_assign.proofs.Sets.{first_or_rest, others_left, others_permuted, to_the_end, far}
+use Rattle.hk_assign.proofs.Sets.{others_left, others_permuted, to_the_end, far}
 use Rattle.hk_assign.proofs.Blocked.{blocked_before}
 
 -- a task takes a tick at least, and so does each of some

@@ -1,8 +1,7 @@
 -- The timings of tasks in a row.
-use Rattle.std.proofs.Common.{◌≡◌, ◌∙◌, refl, sym, ap, subst, ℕ, ◌+◌, ◌<◌, ◌≤◌, ◌↔◌, suc, Bool, true, false, List, [], ◌∷◌, ◌++◌, All, length, take, drop, get_or, set, slice_index, IsTrue, IfSome, IsNone, Option, Some, None, is_some, ◌-◌, arith}
+use Rattle.std.proofs.Common.{◌≡◌, ◌∙◌, refl, sym, ap, subst, ℕ, ◌+◌, ◌<◌, ◌≤◌, ◌↔◌, suc, List, [], ◌∷◌, ◌++◌, All, length, take, drop, get_or, set, slice_index, IsTrue, IfSome, IsNone, Option, Some, None, is_some, ◌-◌, arith}
 use Rattle.std.specs.List.{remove, range_with_len}
-use Rattle.std.proofs.lemmas.List.{take_more, take_more_set, map_more, map-id, take-map, drop-map, map_push, map-append, get_or-map, length-map, length-take-le, length_push}
-use Rattle.std.proofs.lemmas.List.Edits.{length-remove}
+use Rattle.std.proofs.lemmas.List.{take_more_set, map_more, map-id, take-map, drop-map, map_push, map-append, get_or-map, length-map}
 use Rattle.std.proofs.lemmas.List.Sorted.{All-permutation}
 use Rattle.std.proofs.lemmas.Slice.{put_mid-rotated}
 use borrow.Rule.Slice.PartMut.{put_mid, mid_of}
@@ -12,7 +11,6 @@ use Rattle.hk_rta.specs.declared.Timing.{Timing}
 use Rattle.hk_rta.specs.Demand.{IsTimed, timing_at, deadline_at, jitter_at, no_timing}
 use Rattle.hk_rta.specs.Response.{Response, IsLate}
 use Rattle.hk_assign.specs.Orders.{in_order, IsInTime}
-use Rattle.hk_assign.specs.Placing.{FitsAt}
 use Rattle.hk_assign.proofs.Demands.{last_is}
 use Rattle.hk_assign.proofs.Sets.{to_the_end}
 

@@ -1,12 +1,11 @@
 -- Lists of different numbers as sets.
-use Rattle.std.proofs.Common.{◌≡◌, ◌∙◌, refl, sym, ap, subst, ℕ, ◌+◌, ◌<◌, ◌≤◌, ◌⊎◌, zero, suc, Bool, true, false, cond, not, ◌==◌, eqb, List, [], ◌∷◌, ◌++◌, All, Contains, length, get_or, slice_index, arith, inl, inr}
-use Rattle.std.specs.List.{sum_by, filter, remove, range_with_len}
+use Rattle.std.proofs.Common.{◌≡◌, ◌∙◌, refl, sym, ap, subst, ℕ, ◌+◌, ◌<◌, ◌≤◌, ◌⊎◌, zero, suc, Bool, true, false, cond, not, ◌==◌, List, [], ◌∷◌, ◌++◌, All, Contains, length, get_or, slice_index, arith, inl, inr}
+use Rattle.std.specs.List.{sum_by, remove, range_with_len}
 use Rattle.std.specs.List.Sorted.{IsStrictlyIncreasing, IsPermutation}
-use Rattle.std.proofs.lemmas.Bool.{cases_lt, cases_eq}
+use Rattle.std.proofs.lemmas.Bool.{cases_lt}
 use Rattle.std.proofs.lemmas.Bool.Decides.{nat_tests}
-use Rattle.std.proofs.lemmas.List.{length-map, get_or_default}
+use Rattle.std.proofs.lemmas.List.{get_or_default}
 use Rattle.std.proofs.lemmas.List.Edits.{length-remove, get_or-remove_below, get_or-remove_above}
-use Rattle.std.proofs.lemmas.List.Elements.{All-nil, All-cons, All-tail, All-filter, All-contains, Contains-get_or}
 use Rattle.std.proofs.lemmas.List.FromFn.{length-range_with_len, get_or-range_with_len}
 use Rattle.std.proofs.lemmas.List.Sorted.{IsPermutation-remove, IsPermutation-sym, IsPermutation-to_front, IsPermutation-trans, Contains-permutation, sum_by-IsPermutation}
 use Rattle.std.proofs.lemmas.List.Sums.{sum_by-cons}
@@ -83,7 +82,7 @@ next xs k h within =
     let same : k + 1 ≡ suc k = omega arith in
     subst (λ (n : ℕ). slice_index xs k < slice_index xs n) same (h k (omega (arith, within)))
 
-rest_rises : (x : ℕ) (xs : List ℕ) → IsStrictlyIncreasing (x ∷ xs) → IsStrictlyIncreasing xs
+pub rest_rises : (x : ℕ) (xs : List ℕ) → IsStrictlyIncreasing (x ∷ xs) → IsStrictlyIncreasing xs
 rest_rises x xs h k within =
     let same : suc k ≡ k + 1 = omega arith in
     subst (λ (n : ℕ). slice_index xs k < slice_index xs n) same (next (x ∷ xs) (suc k) h (omega (arith, within)))
@@ -97,7 +96,7 @@ far xs i (suc j) h less within = elim (cases_lt i j) [
 ]
 
 -- the first is below all the others
-all_above : (x : ℕ) (xs : List ℕ) → IsStrictlyIncreasing (x ∷ xs) → (z : ℕ) → Contains xs z → x < z
+pub all_above : (x : ℕ) (xs : List ℕ) → IsStrictlyIncreasing (x ∷ xs) → (z : ℕ) → Contains xs z → x < z
 all_above x xs h z at =
     let less : x < slice_index xs at.0 = far (x ∷ xs) 0 (suc at.0) h (omega arith) (omega (arith, at.1)) in
     let same : slice_index xs at.0 ≡ z = get_or_default xs at.0 0 z at.1 ∙ at.2 in
@@ -168,7 +167,7 @@ to_the_end xs k within =
     (IsPermutation-sym (remove xs k ++ x ∷ []) (x ∷ remove xs k) (IsPermutation-to_front (remove xs k) x))
 
 -- a sum over the others, as a sum over all
-others_sum : (f : ℕ → ℕ) (xs : List ℕ) (task : ℕ) → sum_by f (others xs task) ≡ sum_by (λ z. cond (not (z == task)) (f z) 0) xs
+pub others_sum : (f : ℕ → ℕ) (xs : List ℕ) (task : ℕ) → sum_by f (others xs task) ≡ sum_by (λ z. cond (not (z == task)) (f z) 0) xs
 others_sum f [] task = refl
 others_sum f (x ∷ xs) task =
     by (x == task) (others_sum f xs task) ∙ sym (sum_by-cons (λ z. cond (not (z == task)) (f z) 0) x xs)

@@ -10,7 +10,7 @@ use crate::placing::place_all;
 use hk_rta::{MAX_TASKS, Timing};
 
 /// So many indices, from 0 on.
-fn indices(count: usize) -> [u8; MAX_TASKS]
+pub(crate) fn indices(count: usize) -> [u8; MAX_TASKS]
     requires { count ≤ 31 }
     ensures { take count result ≡ range_with_len 0 count }
 {

@@ -73,6 +73,22 @@ impl Stuck {
         Stuck { tasks, count }
     }
 
+    /// How many tasks there are.
+    pub fn len(&self) -> usize
+        ensures count { result ≡ length self.now }
+        ensures few { result ≤ 31 }
+    {
+        self.count
+    }
+
+    /// The task at a place, by its index.
+    pub fn at(&self, place: u8) -> u8
+        requires { place < length self.now }
+        ensures { result ≡ slice_index self.now place }
+    {
+        self.tasks[place as usize]
+    }
+
     /// Whether a task is one of the set.
     pub fn has(&self, task: u8) -> bool
         ensures { IsTrue result ↔ Contains self.now task }

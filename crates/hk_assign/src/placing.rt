@@ -9,7 +9,7 @@ ghost use Rattle.hk_assign.specs.Placing.{FitsAt, IsLastFit, NoneFits};
 use hk_rta::{MAX_TASKS, Timing, response};
 
 /// A task that stands for none.
-const NO_TIMING: Timing = Timing {
+pub(crate) const NO_TIMING: Timing = Timing {
     cost: 1,
     period: 1,
     deadline: 1,

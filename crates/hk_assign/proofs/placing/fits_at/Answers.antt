@@ -1,7 +1,6 @@
-use Rattle.std.proofs.Common.{ap, sym, subst, length, take, List, All, Bool, IsTrue, arith}
+use Rattle.std.proofs.Common.{sym, subst, All, arith}
 use Rattle.std.specs.List.{remove}
 use Rattle.std.proofs.lemmas.List.Edits.{length-remove}
-use Rattle.hk_rta.specs.declared.Timing.{Timing}
 use Rattle.hk_rta.specs.Demand.{IsTimed}
 use Rattle.hk_assign.proofs.Rows.{rotated, all_timed, turned_tasks, last_answer}
 use Rattle.hk_assign.proofs.placing.fits_at.Goals as goal

@@ -1,0 +1,6 @@
+-- The number doesn't stand at the places so far.
+use Rattle.std.proofs.Common.{◌≡◌, ℕ, ◌<◌, slice_index}
+use Rattle.hk_assign.proofs.reorder.place_of.Given as goal
+
+abbrev pub invariant-loop-place : goal.invariant-loop-place
+invariant-loop-place l = (k : ℕ) → k < l.place → ¬ (slice_index l.numbers k ≡ l.number)

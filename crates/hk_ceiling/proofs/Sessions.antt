@@ -5,7 +5,6 @@ use Rattle.std.proofs.lemmas.List.{length-map}
 use Rattle.std.specs.Prelude.{slice_index_or}
 use Rattle.hk_words.specs.declared.geometry.Geometry.{Geometry}
 use Rattle.hk_rta.specs.declared.Timing.{Timing}
-use Rattle.hk_rta.specs.Demand.{timing_at}
 use Rattle.hk_plan.specs.declared.Ready.{Ready}
 use Rattle.hk_plan.specs.AloneBy.{Jobs, IsJob}
 use Rattle.hk_plan.specs.JobBounds.{JobsKeepTiming}

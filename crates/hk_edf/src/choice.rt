@@ -11,6 +11,7 @@ impl Pick for Earliest {
     ghost use Rattle.hk_edf.specs.Chooses.{earliest_chooses};
 
     ghost choice = { λ pick rows. earliest_row rows };
+
     ghost chooses = { λ pick. earliest_chooses };
 
     fn pick(&self, ready: &[Ready]) -> usize {

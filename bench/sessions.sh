@@ -47,11 +47,12 @@ turn() {
 import os, resource, subprocess, sys, time
 program, name, *words = sys.argv[1:]
 with open(name + ".toml", "rb") as sheet, open("report", "wb") as report:
+    before = resource.getrusage(resource.RUSAGE_CHILDREN)
     start = time.perf_counter()
     status = subprocess.run([program, "run", *words], stdin=sheet, stdout=report).returncode
     wall = time.perf_counter() - start
 usage = resource.getrusage(resource.RUSAGE_CHILDREN)
-print(f"{name} status {status} wall {wall:.3f} s user {usage.ru_utime:.2f} s system {usage.ru_stime:.2f} s bytes {os.path.getsize('report')}")
+print(f"{name} status {status} wall {wall:.3f} s user {usage.ru_utime - before.ru_utime:.2f} s system {usage.ru_stime - before.ru_stime:.2f} s bytes {os.path.getsize('report')}")
 PY
 }
 for name in controller making; do

@@ -46,7 +46,7 @@ IsGood (Err error) = ⊥
 one_read : (bytes : List ℕ) (r s : Result Sheet SheetError) → IsRead bytes r → IsRead bytes s → r ≡ s
 one_read bytes r s x y = sym x.read ∙ ap sheet_of (one_document bytes x.document y.document x.is y.is) ∙ y.read
 
-one_sheet : (bytes : List ℕ) (x y : Sheet) → IsSheetOf bytes x → IsSheetOf bytes y → x ≡ y
+pub one_sheet : (bytes : List ℕ) (x y : Sheet) → IsSheetOf bytes x → IsSheetOf bytes y → x ≡ y
 unfolding sheet_or
 one_sheet bytes x y a b = ap (sheet_or x) (one_read bytes (Ok x) (Ok y) a.read b.read)
 
@@ -95,12 +95,12 @@ not_answered bytes sheet error x told a = go (told_by bytes error told a)
     go (inr p) = not_both bytes sheet error x p
 
 -- bytes that aren't read are no sheet
-none_read : (bytes text : List ℕ) (sheet : Sheet) → IsUnread bytes text → IsSheetOf bytes sheet → ⊥
+pub none_read : (bytes text : List ℕ) (sheet : Sheet) → IsUnread bytes text → IsSheetOf bytes sheet → ⊥
 none_read bytes text sheet (too_long long is) x = let s = x.short in omega (arith, long, s)
 none_read bytes text sheet (no_sheet error e is) x = not_answered bytes sheet error x.read e.told e.answers
 
 -- a sheet that isn't admitted is none that is
-none_admitted : (bytes text : List ℕ) (a : Admitted) → IsNotAdmitted bytes text → IsSheetOf bytes a.checked.sheet → ⊥
+pub none_admitted : (bytes text : List ℕ) (a : Admitted) → IsNotAdmitted bytes text → IsSheetOf bytes a.checked.sheet → ⊥
 none_admitted bytes text a n x =
     let same = one_sheet bytes n.sheet a.checked.sheet n.is x in
     n.told (admitted_excludes a.checked.sheet a.checked.work a.checked.attempt a.checked.busy a.checked.debt a.responses n.why a.checked.sound a.in_time
@@ -108,7 +108,7 @@ none_admitted bytes text a n x =
 
 -- THE TEXTS
 
-one_unread : (bytes t t' : List ℕ) → IsUnread bytes t → IsUnread bytes t' → t ≡ t'
+pub one_unread : (bytes t t' : List ℕ) → IsUnread bytes t → IsUnread bytes t' → t ≡ t'
 one_unread bytes t t' (too_long long is) (too_long long' is') = is ∙ sym is'
 one_unread bytes t t' (too_long long is) (no_sheet error e is') = let s = e.short in absurd (omega (arith, long, s))
 one_unread bytes t t' (no_sheet error e is) (too_long long is') = let s = e.short in absurd (omega (arith, long, s))

@@ -43,7 +43,7 @@ pub fn put_line<K: Sink>(sink: &mut K, words: &[&[u8]]) -> Result<(), Failed>
 }
 
 /// The digits of a number.
-fn digits(value: u64) -> Line
+pub fn digits(value: u64) -> Line
     ensures { result ≡ decimal value }
 {
     let mut line = Line::new();

@@ -49,13 +49,6 @@ fn writes_a_made_sheet(rt: HostRuntime) -> Result<(), Fail> {
     Ok(())
 }
 
-#[test]
-fn tells_that_a_made_sheet_is_not_written(rt: HostRuntime) -> Result<(), Fail> {
-    let failed = run(rt.alloc(), &["gen", "7"], "", (&[], &[0]), 65536)?;
-    expect_end(&rt, &failed, Status::WriteFault, "");
-    Ok(())
-}
-
 /// What is written for a number, checked.
 fn checked(rt: &impl Abort, alloc: Global, number: &str) -> Result<Ended, AllocError> {
     let made = unread(rt, alloc, &["gen", number])?;
@@ -115,6 +108,8 @@ fn admits_made_sheets(rt: HostRuntime) -> Result<(), Fail> {
         let ended = checked(&rt, alloc, word.as_str())?;
         assert_eq!(rt; ended.status, Status::Done);
     }
+    let largest = checked(&rt, alloc, "18446744073709551615")?;
+    assert_eq!(rt; largest.status, Status::Done);
     Ok(())
 }
 
@@ -152,12 +147,5 @@ fn takes_numbers_alone(rt: HostRuntime) -> Result<(), Fail> {
         expect_no_number(&rt, rt.alloc(), "gen", word)?;
         expect_no_number(&rt, rt.alloc(), "sim", word)?;
     }
-    Ok(())
-}
-
-#[test]
-fn takes_the_largest_number(rt: HostRuntime) -> Result<(), Fail> {
-    let largest = unread(&rt, rt.alloc(), &["gen", "18446744073709551615"])?;
-    assert_eq!(rt; largest.status, Status::Done);
     Ok(())
 }

@@ -27,107 +27,213 @@ const WRONG: &[&[&str]] = &[
     &["gen"],
 ];
 
-/// Compares that words are refused before anything is read, also where their line isn't taken.
-fn expect_usage(rt: &impl Abort, alloc: Global, words: &[&str]) -> Result<(), AllocError> {
-    let ended = run(alloc, words, SMALLEST, (&[0], &[]), 100)?;
+/// Compares how words end that read nothing, where these calls of the sink fail: each call of the source would fail.
+fn expect_unread(
+    rt: &impl Abort,
+    alloc: Global,
+    words: &[&str],
+    fails: &[u64],
+    status: Status,
+    text: &str,
+) -> Result<(), AllocError> {
+    let ended = run(alloc, words, SMALLEST, (&[0], fails), 100)?;
     assert_eq!(rt; ended.source.calls(), 0);
-    expect_end(rt, &ended, Status::Usage, USAGE);
-    Ok(())
-}
-
-fn expect_no_usage(rt: &impl Abort, alloc: Global, words: &[&str]) -> Result<(), AllocError> {
-    let failed = run(alloc, words, SMALLEST, (&[], &[0]), 100)?;
-    assert_eq!(rt; failed.source.calls(), 0);
-    expect_end(rt, &failed, Status::WriteFault, "");
+    expect_end(rt, &ended, status, text);
     Ok(())
 }
 
 #[test]
 fn refuses_other_words_before_it_reads(rt: HostRuntime) -> Result<(), Fail> {
     for words in WRONG {
-        expect_usage(&rt, rt.alloc(), words)?;
-        expect_no_usage(&rt, rt.alloc(), words)?;
+        expect_unread(&rt, rt.alloc(), words, &[], Status::Usage, USAGE)?;
+        expect_unread(&rt, rt.alloc(), words, &[0], Status::WriteFault, "")?;
     }
-    Ok(())
-}
-
-/// Compares that nothing is written where the call with this number reads and fails: there are two calls, one for all bytes, and
-/// one that finds the end.
-fn expect_read_fault(
-    rt: &impl Abort,
-    alloc: Global,
-    words: &[&str],
-    call: u64,
-) -> Result<(), AllocError> {
-    let ended = run(alloc, words, SMALLEST, (&[call], &[]), 1000)?;
-    expect_end(rt, &ended, Status::ReadFault, "");
-    Ok(())
-}
-
-/// Compares that nothing is written where the first write fails.
-fn expect_write_fault(rt: &impl Abort, alloc: Global, words: &[&str]) -> Result<(), AllocError> {
-    let ended = run(alloc, words, SMALLEST, (&[], &[0]), 1000)?;
-    expect_end(rt, &ended, Status::WriteFault, "");
     Ok(())
 }
 
 /// The forms that read a sheet.
 const FORMS: &[&[&str]] = &[CHECK, RUN, TRACE];
 
-#[test]
-fn tells_a_failed_read_from_the_end(rt: HostRuntime) -> Result<(), Fail> {
-    for words in FORMS {
-        expect_read_fault(&rt, rt.alloc(), words, 0)?;
-        expect_read_fault(&rt, rt.alloc(), words, 1)?;
+/// Words, the calls of the source and of the sink that fail, the room of the sink, and how the program ends on the smallest
+/// sheet and what it writes.
+#[derive(Clone, Copy)]
+struct Failing {
+    words: &'static [&'static str],
+    reads: &'static [u64],
+    writes: &'static [u64],
+    room: usize,
+    status: Status,
+    text: &'static str,
+}
+
+const FAILING: &[Failing] = &[
+    // There are two calls of the source: one for all bytes, and one that finds the end. A third one would fail.
+    Failing {
+        words: CHECK,
+        reads: &[0],
+        writes: &[],
+        room: 1000,
+        status: Status::ReadFault,
+        text: "",
+    },
+    Failing {
+        words: CHECK,
+        reads: &[1],
+        writes: &[],
+        room: 1000,
+        status: Status::ReadFault,
+        text: "",
+    },
+    Failing {
+        words: RUN,
+        reads: &[0],
+        writes: &[],
+        room: 1000,
+        status: Status::ReadFault,
+        text: "",
+    },
+    Failing {
+        words: RUN,
+        reads: &[1],
+        writes: &[],
+        room: 1000,
+        status: Status::ReadFault,
+        text: "",
+    },
+    Failing {
+        words: TRACE,
+        reads: &[0],
+        writes: &[],
+        room: 1000,
+        status: Status::ReadFault,
+        text: "",
+    },
+    Failing {
+        words: TRACE,
+        reads: &[1],
+        writes: &[],
+        room: 1000,
+        status: Status::ReadFault,
+        text: "",
+    },
+    Failing {
+        words: RUN,
+        reads: &[2],
+        writes: &[],
+        room: 1000,
+        status: Status::Done,
+        text: REPORT,
+    },
+    // The analysis goes out in one piece, and what one job does in another. A third call of the sink would fail.
+    Failing {
+        words: CHECK,
+        reads: &[],
+        writes: &[0],
+        room: 1000,
+        status: Status::WriteFault,
+        text: "",
+    },
+    Failing {
+        words: RUN,
+        reads: &[],
+        writes: &[0],
+        room: 1000,
+        status: Status::WriteFault,
+        text: "",
+    },
+    Failing {
+        words: TRACE,
+        reads: &[],
+        writes: &[0],
+        room: 1000,
+        status: Status::WriteFault,
+        text: "",
+    },
+    Failing {
+        words: RUN,
+        reads: &[],
+        writes: &[1],
+        room: 1000,
+        status: Status::WriteFault,
+        text: ANALYSIS,
+    },
+    Failing {
+        words: RUN,
+        reads: &[],
+        writes: &[2],
+        room: REPORT.len(),
+        status: Status::Done,
+        text: REPORT,
+    },
+    // Room for fewer bytes than the report has.
+    Failing {
+        words: RUN,
+        reads: &[],
+        writes: &[],
+        room: 0,
+        status: Status::WriteFault,
+        text: "",
+    },
+    Failing {
+        words: RUN,
+        reads: &[],
+        writes: &[],
+        room: 1,
+        status: Status::WriteFault,
+        text: "h",
+    },
+    Failing {
+        words: RUN,
+        reads: &[],
+        writes: &[],
+        room: 40,
+        status: Status::WriteFault,
+        text: "heap work 4179 attempt 0 busy 2 debt 0\nh",
+    },
+    Failing {
+        words: RUN,
+        reads: &[],
+        writes: &[],
+        room: REPORT.len() - 1,
+        status: Status::WriteFault,
+        text: "heap work 4179 attempt 0 busy 2 debt 0
+high a response 2 deadline 10
+out 1 a 0
+done a jobs 1 latest 2
+cycles 0 collector 0 idle 8
+end 10",
+    },
+    // What is made for a number.
+    Failing {
+        words: &["gen", "7"],
+        reads: &[0],
+        writes: &[0],
+        room: 65536,
+        status: Status::WriteFault,
+        text: "",
+    },
+];
+
+fn expect_failing(rt: &impl Abort, alloc: Global, cases: &[Failing]) -> Result<(), AllocError> {
+    for case in cases {
+        let fails = (case.reads, case.writes);
+        let ended = run(alloc, case.words, SMALLEST, fails, case.room)?;
+        expect_end(rt, &ended, case.status, case.text);
     }
     Ok(())
 }
 
 #[test]
-fn does_not_read_behind_the_end(rt: HostRuntime) -> Result<(), Fail> {
-    let ended = run(rt.alloc(), RUN, SMALLEST, (&[2], &[]), 1000)?;
-    expect_end(&rt, &ended, Status::Done, REPORT);
+fn tells_failures_from_ends(rt: HostRuntime) -> Result<(), Fail> {
+    expect_failing(&rt, rt.alloc(), FAILING)?;
     Ok(())
 }
 
-#[test]
-fn tells_a_failed_write(rt: HostRuntime) -> Result<(), Fail> {
-    for words in FORMS {
-        expect_write_fault(&rt, rt.alloc(), words)?;
-    }
-    Ok(())
-}
-
-/// Compares that a write failed, and that a first part of a text was written.
+/// Compares that a write failed, and that a first part of a text was written, and not all of it.
 fn expect_part(rt: &impl Abort, ended: &Ended, text: &str) {
     assert_eq!(rt; ended.status, Status::WriteFault);
     assert!(rt; text.as_bytes().starts_with(ended.sink.bytes()));
-}
-
-/// The analysis goes out in one piece, and what one job does in another.
-#[test]
-fn leaves_the_analysis_where_the_second_write_fails(rt: HostRuntime) -> Result<(), Fail> {
-    let ended = run(rt.alloc(), RUN, SMALLEST, (&[], &[1]), 1000)?;
-    expect_end(&rt, &ended, Status::WriteFault, ANALYSIS);
-    let ended = run(rt.alloc(), RUN, SMALLEST, (&[], &[2]), REPORT.len())?;
-    expect_end(&rt, &ended, Status::Done, REPORT);
-    Ok(())
-}
-
-/// Compares what is written where there is room for so many bytes, fewer than the report has.
-fn expect_room(rt: &impl Abort, alloc: Global, room: usize) -> Result<(), AllocError> {
-    let ended = run(alloc, RUN, SMALLEST, (&[], &[]), room)?;
-    expect_part(rt, &ended, REPORT);
-    assert_eq!(rt; ended.sink.bytes().len(), room);
-    Ok(())
-}
-
-#[test]
-fn leaves_a_prefix_where_room_ends(rt: HostRuntime) -> Result<(), Fail> {
-    for room in [0, 1, 40, REPORT.len() - 1] {
-        expect_room(&rt, rt.alloc(), room)?;
-    }
-    Ok(())
+    assert!(rt; ended.sink.bytes().len() < text.len());
 }
 
 /// Compares that each call to write that fails, so many there are, leaves a first part of a text.

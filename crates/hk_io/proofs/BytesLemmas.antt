@@ -89,6 +89,12 @@ AppendsFront-behind a b waited bytes all = record {
   waits = sym (drop_at waited bytes _ refl);
 }
 
+-- what waited was taken, and nothing waits
+pub AppendsFront-all : (a b : Option (List ℕ)) (waited rest : List ℕ) → rest ≡ [] → Appends a b waited → AppendsFront a b waited rest
+AppendsFront-all a b waited rest none all =
+    let whole = subst (λ x. AppendsFront a b x []) (append-nil waited) (AppendsFront-behind a b waited [] all) in
+    subst (AppendsFront a b waited) (sym none) whole
+
 -- so many bytes more
 pub length-more : (bytes piece : List ℕ) (n : ℕ) → n ≤ length piece → length (bytes ++ take n piece) ≡ length bytes + n
 length-more bytes piece n within = omega (arith, length-append bytes (take n piece), length-take-le n piece within)
@@ -116,4 +122,4 @@ AppendsFront-rest a b c bytes rest n front more =
 pub ruleset written = (AppendsFront-none, AppendsFront-rest, Appends-whole, AppendsPrefix-kept)
 
 -- how calls of `Gather` follow one another
-pub ruleset gathered = (AppendsFront-none, AppendsFront-behind, AppendsFront-trans, Appends-all, AppendsPrefix-behind, AppendsPrefix-rest, AppendsPrefix-append)
+pub ruleset gathered = (AppendsFront-none, AppendsFront-behind, AppendsFront-all, AppendsFront-trans, Appends-all, AppendsPrefix-behind, AppendsPrefix-rest, AppendsPrefix-append)

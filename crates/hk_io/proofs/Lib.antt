@@ -1,3 +1,4 @@
 pub mod BytesLemmas
 pub mod LineLemmas
 pub mod Digits
+pub mod DecimalDigits

@@ -1,6 +1,8 @@
 //! Bytes in a fixed array.
 ghost use Rattle.std.specs.Prelude.{◌≡◌, ◌+◌, ◌≤◌, [], ◌++◌, length};
+ghost use Rattle.std.specs.Fmt.{decimal};
 
+use crate::spelling::{count_digits, write_digits};
 use std::marker::Model;
 
 /// At most `N` bytes, which stand in an array from its front.
@@ -44,6 +46,16 @@ impl<const N: usize> Buffer<N> {
         let end = self.filled + bytes.len();
         let all = &mut self.bytes[..];
         all[self.filled..end].copy_from_slice(bytes);
+        self.filled = end;
+    }
+
+    pub fn push_number(&mut self, value: u64)
+        requires { length self.old + length (decimal value) ≤ N }
+        ensures { self.new ≡ self.old ++ decimal value }
+    {
+        let end = self.filled + count_digits(value);
+        let all = &mut self.bytes[..];
+        write_digits(value, all, end);
         self.filled = end;
     }
 

@@ -1,5 +1,6 @@
 //! Writes in large pieces.
 ghost use Rattle.std.specs.Prelude.{◌≡◌, ◌+◌, ◌≤◌, [], ◌++◌, length, OnOk, OnErr};
+ghost use Rattle.std.specs.Fmt.{decimal};
 ghost use Rattle.std.specs.Io.KnownBytes.{Appends};
 ghost use Rattle.hk_io.specs.Bytes.{AppendsPrefix, AppendsFront};
 ghost use Rattle.hk_io.specs.Faults.{HasCause};
@@ -53,6 +54,39 @@ impl Gather {
         }
         self.waiting.push(bytes);
         Ok(())
+    }
+
+    /// Makes room for this many bytes more. Where there is less, those that wait are written.
+    #[tactic(auto, using(crate::proofs::BytesLemmas::gathered))]
+    pub fn make_room<K: Sink>(&mut self, sink: &mut K, bytes: usize) -> Result<(), Failed>
+        requires { bytes ≤ GATHER_ROOM }
+        ensures room { OnOk result (length self.new + bytes ≤ GATHER_ROOM) }
+        ensures ok { OnOk result (AppendsFront (K.taken sink.old) (K.taken sink.new) self.old self.new) }
+        ensures prefix { OnErr result (AppendsPrefix (K.taken sink.old) (K.taken sink.new) self.old) }
+        ensures kept { OnErr result (self.new ≡ self.old) }
+        ensures cause { HasCause (K.faults sink.old) (K.faults sink.new) result }
+        ensures waits { length self.old + bytes ≤ GATHER_ROOM → (self.new ≡ self.old) × (sink.new ≡ sink.old) }
+    {
+        if bytes > GATHER_ROOM - self.waiting.as_slice().len() {
+            self.flush(sink)?;
+        }
+        Ok(())
+    }
+
+    /// Adds bytes for which there is room.
+    pub fn add(&mut self, bytes: &[u8])
+        requires { length self.old + length bytes.now ≤ GATHER_ROOM }
+        ensures { self.new ≡ self.old ++ bytes.now }
+    {
+        self.waiting.push(bytes);
+    }
+
+    /// Adds the decimal digits of a number, for which there is room.
+    pub fn add_number(&mut self, value: u64)
+        requires { length self.old + length (decimal value) ≤ GATHER_ROOM }
+        ensures { self.new ≡ self.old ++ decimal value }
+    {
+        self.waiting.push_number(value);
     }
 
     /// Writes the bytes that wait.

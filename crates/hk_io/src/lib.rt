@@ -11,6 +11,7 @@ mod gather;
 mod line;
 mod mem_sink;
 mod mem_source;
+mod spelling;
 mod std_sink;
 mod std_source;
 mod streams;

@@ -75,9 +75,6 @@ impl Line {
         requires { length self.old + length (decimal value) ≤ longest_line }
         ensures { self.new ≡ self.old ++ decimal value }
     {
-        if value >= 10 {
-            self.digits(value / 10);
-        }
-        self.held.push(&[b'0' + (value % 10) as u8]);
+        self.held.push_number(value);
     }
 }

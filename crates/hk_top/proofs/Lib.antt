@@ -1,4 +1,5 @@
 pub mod Written
+pub mod InPlace
 pub mod Parts
 pub mod Below
 pub mod Three

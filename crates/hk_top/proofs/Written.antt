@@ -1,7 +1,7 @@
 -- Texts that are handed to a sink one behind another.
-use Rattle.std.proofs.Common.{◌≡◌, ℕ, List, [], ◌++◌, Option, ap, ◌∙◌, subst, append_assoc}
+use Rattle.std.proofs.Common.{◌≡◌, ℕ, List, [], ◌++◌, Option, sym, ap, ◌∙◌, subst, append_assoc}
 use Rattle.hk_io.specs.Bytes.{AppendsPrefix, AppendsFront}
-use Rattle.hk_io.proofs.BytesLemmas.{AppendsPrefix-append, AppendsFront-trans, AppendsPrefix-behind}
+use Rattle.hk_io.proofs.BytesLemmas.{AppendsPrefix-append, AppendsFront-none, AppendsFront-trans, AppendsPrefix-behind}
 
 module _ (a b : Option (List ℕ)) where
   -- what is a first part of the first part of a text is a first part of the text
@@ -28,3 +28,10 @@ front_alone a b waiting text rest none front = subst (λ x. AppendsFront a b (x 
 
 pub prefix_alone : (a b : Option (List ℕ)) (waiting text : List ℕ) → waiting ≡ [] → AppendsPrefix a b (waiting ++ text) → AppendsPrefix a b text
 prefix_alone a b waiting text none prefix = subst (λ x. AppendsPrefix a b (x ++ text)) none prefix
+
+-- what was added behind what waits
+pub front_more : (a b : Option (List ℕ)) (waiting waiting1 bytes rest text : List ℕ) → AppendsFront a b waiting waiting1 → rest ≡ waiting1 ++ bytes → text ≡ bytes → AppendsFront a b (waiting ++ text) rest
+front_more a b waiting waiting1 bytes rest text front is same =
+    subst (λ x. AppendsFront a b (waiting ++ x) rest) (sym same)
+    (subst (AppendsFront a b (waiting ++ bytes)) (sym is)
+    (AppendsFront-trans a b b waiting waiting1 bytes (waiting1 ++ bytes) front (AppendsFront-none b (waiting1 ++ bytes))))

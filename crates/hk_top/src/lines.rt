@@ -1,11 +1,12 @@
 //! The lines of the report.
-ghost use Rattle.std.specs.Prelude.{◌≡◌, ◌+◌, ◌≤◌, length};
+ghost use Rattle.std.specs.Prelude.{◌≡◌, ◌+◌, ◌≤◌, [], ◌∷◌, ◌++◌, codes, decimal, length};
 ghost use Rattle.hk_io.specs.Line.{with_word, with_number, with_end};
 ghost use Rattle.hk_io.specs.Limits.{longest_line};
+ghost use Rattle.hk_io.specs.declared.gather.TheConstants.{GATHER_ROOM};
 ghost use Rattle.hk_top.specs.Text.{heap_line, high_line, low_line, out_line, fault_line, ended_line, task_line, event_line, lost_line, idle_line, done_line, cycles_line, end_line, live_line};
 
 use hk_dispatch::JobFault;
-use hk_io::Line;
+use hk_io::{Gather, Line};
 
 /// Adds a word to a line that has room for it and a space.
 fn add_word(line: &mut Line, bytes: &[u8])
@@ -175,20 +176,70 @@ pub fn ended_line(tick: u64, name: &[u8], job: u64, ticks: u64) -> Line
     line
 }
 
-/// A tick went to a task of a kind.
+/// Adds a word behind a space to what waits, where there is room.
+fn add_next_word(gather: &mut Gather, bytes: &[u8])
+    requires { length gather.old + 1 + length bytes.now ≤ GATHER_ROOM }
+    ensures added { gather.new ≡ gather.old ++ 32 ∷ bytes.now }
+    ensures room { length gather.new ≤ length gather.old + 1 + length bytes.now }
+{
+    gather.add(b" ");
+    gather.add(bytes);
+}
+
+/// Adds the beginning of the line of a tick to what waits, where there is room.
+fn add_tick(gather: &mut Gather, tick: u64)
+    requires { length gather.old + 22 ≤ GATHER_ROOM }
+    ensures added { gather.new ≡ (gather.old ++ codes "t ") ++ decimal tick }
+    ensures room { length gather.new ≤ length gather.old + 22 }
+{
+    gather.add(b"t ");
+    gather.add_number(tick);
+}
+
+/// Adds the newline to what waits, where there is room.
+fn add_end(gather: &mut Gather)
+    requires { length gather.old + 1 ≤ GATHER_ROOM }
+    ensures { gather.new ≡ gather.old ++ 10 ∷ [] }
+{
+    gather.add(b"\n");
+}
+
+/// Adds that a tick went to a task of a kind to what waits, where there is room for a line.
 #[tactic(auto, unfolding(crate::specs::Text::task_line))]
-pub fn task_line(tick: u64, kind: &[u8], name: &[u8]) -> Line
+pub fn add_task_line(gather: &mut Gather, tick: u64, kind: &[u8], name: &[u8])
     requires kind { length kind.now ≤ 16 }
     requires name { length name.now ≤ 16 }
-    ensures { result ≡ task_line tick kind.now name.now }
+    requires room { length gather.old + longest_line ≤ GATHER_ROOM }
+    ensures { gather.new ≡ gather.old ++ task_line tick kind.now name.now }
 {
-    let mut line = Line::new();
-    add_word(&mut line, b"t");
-    add_number(&mut line, tick);
-    add_word(&mut line, kind);
-    add_word(&mut line, name);
-    end(&mut line);
-    line
+    add_tick(gather, tick);
+    add_next_word(gather, kind);
+    add_next_word(gather, name);
+    add_end(gather);
+}
+
+/// Adds that a tick went to the collector, for an event of this kind, to what waits, where there is room for a line.
+#[tactic(auto, unfolding(crate::specs::Text::event_line))]
+pub fn add_event_line(gather: &mut Gather, tick: u64, event: &[u8])
+    requires event { length event.now ≤ 16 }
+    requires room { length gather.old + longest_line ≤ GATHER_ROOM }
+    ensures { gather.new ≡ gather.old ++ event_line tick event.now }
+{
+    add_tick(gather, tick);
+    add_next_word(gather, b"gc");
+    add_next_word(gather, event);
+    add_end(gather);
+}
+
+/// Adds that a tick went to nobody to what waits, where there is room for a line.
+#[tactic(auto, unfolding(crate::specs::Text::idle_line))]
+pub fn add_idle_line(gather: &mut Gather, tick: u64)
+    requires room { length gather.old + longest_line ≤ GATHER_ROOM }
+    ensures { gather.new ≡ gather.old ++ idle_line tick }
+{
+    add_tick(gather, tick);
+    add_next_word(gather, b"idle");
+    add_end(gather);
 }
 
 /// A tick went to the collector, for an event of this kind.
@@ -216,19 +267,6 @@ pub fn lost_line(tick: u64, events: u64) -> Line
     add_number(&mut line, tick);
     add_word(&mut line, b"gc lost");
     add_number(&mut line, events);
-    end(&mut line);
-    line
-}
-
-/// A tick went to nobody.
-#[tactic(auto, unfolding(crate::specs::Text::idle_line))]
-pub fn idle_line(tick: u64) -> Line
-    ensures { result ≡ idle_line tick }
-{
-    let mut line = Line::new();
-    add_word(&mut line, b"t");
-    add_number(&mut line, tick);
-    add_word(&mut line, b"idle");
     end(&mut line);
     line
 }

@@ -3,6 +3,8 @@ ghost use Rattle.std.specs.Prelude.{◌≡◌, ℕ, ◌+◌, ◌<◌, ◌++◌, 
 ghost use Rattle.std.specs.Io.KnownBytes.{Appends};
 ghost use Rattle.hk_io.specs.Bytes.{AppendsPrefix, AppendsFront};
 ghost use Rattle.hk_io.specs.Faults.{HasCause};
+ghost use Rattle.hk_io.specs.Limits.{longest_line};
+ghost use Rattle.hk_io.specs.declared.gather.TheConstants.{GATHER_ROOM};
 ghost use Rattle.hk_dispatch.specs.Session.{state, IsTick};
 ghost use Rattle.hk_dispatch.specs.Told.{told};
 ghost use Rattle.hk_dispatch.specs.declared.tick.Tick.TheVariants.{Ran};
@@ -10,12 +12,12 @@ ghost use Rattle.hk_top.specs.Names.{AreNamed, AreLowNamed};
 ghost use Rattle.hk_top.specs.Report.{high_lines, low_lines, analysis, name_of, who_text, out_text, fault_text, ended_text, traced, voiced, text_of_tick, live_in, texts_below, line_of_high_end, line_of_low_end, closing, IsRunText};
 
 use crate::lines::{
-    cycles_line, done_line, end_line, ended_line, event_line, fault_line, heap_line, high_line,
-    idle_line, live_line, lost_line, low_line, out_line, task_line,
+    add_event_line, add_idle_line, add_task_line, cycles_line, done_line, end_line, ended_line,
+    event_line, fault_line, heap_line, high_line, live_line, lost_line, low_line, out_line,
 };
 use hk_admit::Checked;
 use hk_dispatch::{Chore, End, Pick, SessionBy, Tick, Who};
-use hk_io::{Failed, Gather, Line, Sink};
+use hk_io::{Failed, Gather, LINE_ROOM, Line, Sink};
 use hk_sheet::{High, Low, Name, Sheet, Ticks};
 
 /// How much is written of a run.
@@ -156,19 +158,45 @@ fn name_of(sheet: &Sheet, who: Who) -> &[u8]
     }
 }
 
-/// Who got a tick.
-fn who_line(sheet: &Sheet, tick: u64, who: Who) -> Line
+/// Adds who got a tick to what waits, where there is room for a line.
+fn add_who(gather: &mut Gather, sheet: &Sheet, tick: u64, who: Who)
     requires high { AreNamed sheet.now.high }
     requires low { AreLowNamed sheet.now.low }
-    ensures { result ≡ who_text sheet.now tick who }
+    requires room { length gather.old + longest_line ≤ GATHER_ROOM }
+    ensures { gather.new ≡ gather.old ++ who_text sheet.now tick who }
 {
     match who {
-        Who::Hi(_) => task_line(tick, b"high", name_of(sheet, who)),
-        Who::Lo(_) => task_line(tick, b"low", name_of(sheet, who)),
-        Who::Gc(Chore::Step) => event_line(tick, b"step"),
-        Who::Gc(Chore::Flip) => event_line(tick, b"flip"),
-        Who::Gc(Chore::Lost(events)) => lost_line(tick, u64::from(events)),
-        Who::Idle => idle_line(tick),
+        Who::Hi(_) => add_task_line(gather, tick, b"high", name_of(sheet, who)),
+        Who::Lo(_) => add_task_line(gather, tick, b"low", name_of(sheet, who)),
+        Who::Gc(Chore::Step) => add_event_line(gather, tick, b"step"),
+        Who::Gc(Chore::Flip) => add_event_line(gather, tick, b"flip"),
+        Who::Gc(Chore::Lost(events)) => gather.add(lost_line(tick, u64::from(events)).bytes()),
+        Who::Idle => add_idle_line(gather, tick),
+    }
+}
+
+/// Writes who got a tick behind what waits, where a trace is asked for.
+fn write_who<K: Sink>(
+    form: Form,
+    sheet: &Sheet,
+    tick: u64,
+    who: Who,
+    gather: &mut Gather,
+    sink: &mut K,
+) -> Result<(), Failed>
+    requires high { AreNamed sheet.now.high }
+    requires low { AreLowNamed sheet.now.low }
+    ensures ok { OnOk result (AppendsFront (K.taken sink.old) (K.taken sink.new) (gather.old ++ traced form (who_text sheet.now tick who)) gather.new) }
+    ensures prefix { OnErr result (AppendsPrefix (K.taken sink.old) (K.taken sink.new) (gather.old ++ traced form (who_text sheet.now tick who))) }
+    ensures cause { HasCause (K.faults sink.old) (K.faults sink.new) result }
+{
+    match form {
+        Form::Trace => {
+            gather.make_room(sink, LINE_ROOM)?;
+            add_who(gather, sheet, tick, who);
+            Ok(())
+        }
+        Form::Plain | Form::Quiet => Ok(()),
     }
 }
 
@@ -249,14 +277,18 @@ fn write_ended<K: Sink>(
     ensures prefix { OnErr result (AppendsPrefix (K.taken sink.old) (K.taken sink.new) (gather.old ++ traced form (ended_text tick name.now end))) }
     ensures cause { HasCause (K.faults sink.old) (K.faults sink.new) result }
 {
-    match end {
-        Some(end) => trace(
-            form,
-            &ended_line(tick, name, end.job, end.ticks),
-            gather,
-            sink,
-        ),
-        None => Ok(()),
+    match (form, end) {
+        (
+            Form::Trace,
+            Some(
+                End {
+                    job,
+                    ticks,
+                    fault: _,
+                },
+            ),
+        ) => gather.push(sink, ended_line(tick, name, job, ticks).bytes()),
+        _ => Ok(()),
     }
 }
 
@@ -277,7 +309,7 @@ fn write_tick<K: Sink>(
 {
     let (who, out, end) = ran;
     let name = name_of(sheet, who);
-    trace(form, &who_line(sheet, tick, who), gather, sink)?;
+    write_who(form, sheet, tick, who, gather, sink)?;
     write_out(form, tick, name, out, gather, sink)?;
     write_fault(form, tick, name, end, gather, sink)?;
     write_ended(form, tick, name, end, gather, sink)

@@ -1,5 +1,7 @@
 //! Runs worked out by hand.
+mod controller;
 mod edits;
+mod forms;
 mod made;
 mod orders;
 mod rows;
@@ -99,8 +101,22 @@ cycles 0 collector 0 idle 2
 end 12
 ";
 
-/// A low task, behind the smallest sheet.
-const LOW: &str = "[[low]]\nname = \"b\"\nfirst = 0\nevery = 10\nscript = \"work 1\"\n";
+/// The words of the forms that read a sheet.
+const CHECK: &[&str] = &["check"];
+
+const RUN: &[&str] = &["run"];
+
+const TRACE: &[&str] = &["run", "--trace"];
+
+/// Words of the program, a sheet with parts of its text changed one after another, how the program ends, and what it writes.
+#[derive(Clone, Copy)]
+struct Case {
+    words: &'static [&'static str],
+    sheet: &'static str,
+    changes: &'static [(&'static str, &'static str)],
+    status: Status,
+    text: &'static str,
+}
 
 /// How a run ended, and its source and sink.
 #[derive(Drop)]
@@ -136,6 +152,26 @@ fn run(
     })
 }
 
+/// Compares how a run ended, and what it wrote.
+fn expect_end(rt: &impl Abort, ended: &Ended, status: Status, text: &str) {
+    assert_eq!(rt; ended.status, status);
+    assert_eq!(rt; ended.sink.bytes(), text.as_bytes());
+}
+
+/// Compares what some words write for an input, and how the program ends.
+fn expect(
+    rt: &impl Abort,
+    alloc: Global,
+    words: &[&str],
+    input: &str,
+    status: Status,
+    text: &str,
+) -> Result<(), AllocError> {
+    let ended = run(alloc, words, input, (&[], &[]), 65536)?;
+    expect_end(rt, &ended, status, text);
+    Ok(())
+}
+
 /// Compares what the word `run` writes for an input, and how it ends.
 fn expect_run(
     rt: &impl Abort,
@@ -144,10 +180,7 @@ fn expect_run(
     status: Status,
     text: &str,
 ) -> Result<(), AllocError> {
-    let ended = run(alloc, &["run"], input, (&[], &[]), 65536)?;
-    assert_eq!(rt; ended.status, status, "{input}");
-    assert_eq!(rt; ended.sink.bytes(), text.as_bytes(), "{input}");
-    Ok(())
+    expect(rt, alloc, RUN, input, status, text)
 }
 
 /// A sheet with a part of its text changed.
@@ -162,4 +195,39 @@ fn edited(
         panic!(rt; "the sheet lacks {old:?}");
     };
     format!(in alloc; "{before}{new}{after}")
+}
+
+/// A sheet with parts of its text changed, one after another.
+fn changed(
+    rt: &impl Abort,
+    alloc: Global,
+    sheet: &str,
+    changes: &[(&str, &str)],
+) -> Result<String, AllocError> {
+    let mut text = String::from_str(alloc, sheet)?;
+    for (old, new) in changes {
+        text = edited(rt, alloc, text.as_str(), old, new)?;
+    }
+    Ok(text)
+}
+
+/// Runs a case, and compares how it ends and what it writes.
+fn expect_case(rt: &impl Abort, alloc: Global, case: &Case) -> Result<(), AllocError> {
+    let input = changed(rt, alloc, case.sheet, case.changes)?;
+    expect(
+        rt,
+        alloc,
+        case.words,
+        input.as_str(),
+        case.status,
+        case.text,
+    )
+}
+
+/// Runs cases, and compares how each ends and what it writes.
+fn expect_cases(rt: &impl Abort, alloc: Global, cases: &[Case]) -> Result<(), AllocError> {
+    for case in cases {
+        expect_case(rt, alloc, case)?;
+    }
+    Ok(())
 }

@@ -1,6 +1,8 @@
 //! Sheets worked out by hand, with their reports.
-use super::{ANALYSIS, SMALLEST, expect_run, run};
+use super::expect_run;
 use hk_io::Status;
+use std::alloc::{AllocError, Global};
+use std::process::Abort;
 use std::test::Fail;
 
 /// A sheet, and how its run ends.
@@ -263,46 +265,16 @@ end 20
     },
 ];
 
-#[test]
-fn rows(rt: HostRuntime) -> Result<(), Fail> {
-    for row in ROWS {
-        expect_run(&rt, rt.alloc(), row.sheet, row.status, row.report)?;
+/// Runs these sheets, and compares how each run ends and what it writes.
+fn expect_rows(rt: &impl Abort, alloc: Global, rows: &[Row]) -> Result<(), AllocError> {
+    for row in rows {
+        expect_run(rt, alloc, row.sheet, row.status, row.report)?;
     }
     Ok(())
 }
 
-/// The smallest sheet with a trace: who got each tick, what it put out, and which job ended with it.
 #[test]
-fn trace(rt: HostRuntime) -> Result<(), Fail> {
-    let text = "heap work 4179 attempt 0 busy 2 debt 0
-high a response 2 deadline 10
-t 0 high a
-t 1 high a
-out 1 a 0
-ended 1 a 0 2
-t 2 idle
-t 3 idle
-t 4 idle
-t 5 idle
-t 6 idle
-t 7 idle
-t 8 idle
-t 9 idle
-done a jobs 1 latest 2
-cycles 0 collector 0 idle 8
-end 10
-";
-    let ended = run(rt.alloc(), &["run", "--trace"], SMALLEST, (&[], &[]), 65536)?;
-    assert_eq!(rt; ended.status, Status::Done);
-    assert_eq!(rt; ended.sink.bytes(), text.as_bytes());
-    Ok(())
-}
-
-/// The analysis alone.
-#[test]
-fn analysis(rt: HostRuntime) -> Result<(), Fail> {
-    let ended = run(rt.alloc(), &["check"], SMALLEST, (&[], &[]), 65536)?;
-    assert_eq!(rt; ended.status, Status::Done);
-    assert_eq!(rt; ended.sink.bytes(), ANALYSIS.as_bytes());
+fn rows(rt: HostRuntime) -> Result<(), Fail> {
+    expect_rows(&rt, rt.alloc(), ROWS)?;
     Ok(())
 }

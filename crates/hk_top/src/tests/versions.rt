@@ -1,5 +1,5 @@
 //! Release jitter, and sheets of version 2.
-use super::{SMALLEST, THREE, edited, expect_run};
+use super::{CHECK, Case, RUN, SMALLEST, THREE, expect_cases};
 use hk_io::Status;
 use std::test::Fail;
 
@@ -18,20 +18,33 @@ arrivals = [0]
 script = "new r31 0 254"
 "#;
 
-/// The first task of the sheet of three waits up to 3 ticks after an arrival: its jobs are ready at 0, 7 and 10. The ticks go
-/// to a, b, b, c, c, c, b, a, b, nobody, a, nobody.
-#[test]
-fn ready_moments(rt: HostRuntime) -> Result<(), Fail> {
-    let alloc = rt.alloc();
-    let old = "cost = 1\nwords = 0\n";
-    let late = edited(
-        &rt,
-        alloc,
-        THREE,
-        old,
-        "cost = 1\nwords = 0\njitter = 3\nlag = 3\n",
-    )?;
-    let report = "heap work 4247 attempt 0 busy 11 debt 0
+/// The first task of the sheet of three waits up to 3 ticks after an arrival.
+const LATE: (&str, &str) = ("cost = 1\nwords = 0\n", "cost = 1\nwords = 0\njitter = 3\n");
+
+/// So it does, and its jobs are ready at 0, 7 and 10. The ticks go to a, b, b, c, c, c, b, a, b, nobody, a, nobody.
+const LATE_BY_LAG: (&str, &str) = (
+    "cost = 1\nwords = 0\n",
+    "cost = 1\nwords = 0\njitter = 3\nlag = 3\n",
+);
+
+const READY_MOMENTS: &[Case] = &[
+    Case {
+        words: CHECK,
+        sheet: THREE,
+        changes: &[LATE],
+        status: Status::Done,
+        text: "heap work 4247 attempt 0 busy 11 debt 0
+high a response 4 deadline 4
+high b response 4 deadline 6
+high c response 11 deadline 12
+",
+    },
+    Case {
+        words: RUN,
+        sheet: THREE,
+        changes: &[LATE_BY_LAG],
+        status: Status::Done,
+        text: "heap work 4247 attempt 0 busy 11 debt 0
 high a response 4 deadline 4
 high b response 4 deadline 6
 high c response 11 deadline 12
@@ -40,58 +53,61 @@ done b jobs 2 latest 3
 done c jobs 1 latest 6
 cycles 0 collector 0 idle 2
 end 12
-";
-    expect_run(&rt, alloc, late.as_str(), Status::Done, report)?;
-    let short = edited(&rt, alloc, late.as_str(), "deadline = 12", "deadline = 10")?;
-    expect_run(
-        &rt,
-        alloc,
-        short.as_str(),
-        Status::NotAdmitted,
-        "refused response c\n",
-    )?;
+",
+    },
+    Case {
+        words: CHECK,
+        sheet: THREE,
+        changes: &[LATE, ("deadline = 12", "deadline = 10")],
+        status: Status::NotAdmitted,
+        text: "refused response c\n",
+    },
+    Case {
+        words: RUN,
+        sheet: THREE,
+        changes: &[LATE_BY_LAG, ("deadline = 12", "deadline = 10")],
+        status: Status::NotAdmitted,
+        text: "refused response c\n",
+    },
+];
+
+#[test]
+fn ready_moments(rt: HostRuntime) -> Result<(), Fail> {
+    expect_cases(&rt, rt.alloc(), READY_MOMENTS)?;
     Ok(())
 }
 
 /// The smallest sheet with two registers: frames have fewer registers, so that a cycle is shorter.
-#[test]
-fn other_registers(rt: HostRuntime) -> Result<(), Fail> {
-    let alloc = rt.alloc();
-    let second = edited(&rt, alloc, SMALLEST, "version = 1", "version = 2")?;
-    let few = edited(
-        &rt,
-        alloc,
-        second.as_str(),
-        "board = [2, 2]",
-        "board = [2, 2]\nregisters = 2",
-    )?;
-    let report = "heap work 4155 attempt 0 busy 2 debt 0
+const FEW_REGISTERS: &[Case] = &[Case {
+    words: RUN,
+    sheet: SMALLEST,
+    changes: &[
+        ("version = 1", "version = 2"),
+        ("board = [2, 2]", "board = [2, 2]\nregisters = 2"),
+    ],
+    status: Status::Done,
+    text: "heap work 4155 attempt 0 busy 2 debt 0
 high a response 2 deadline 10
 out 1 a 0
 done a jobs 1 latest 2
 cycles 0 collector 0 idle 8
 end 10
-";
-    expect_run(&rt, alloc, few.as_str(), Status::Done, report)?;
+",
+}];
+
+#[test]
+fn other_registers(rt: HostRuntime) -> Result<(), Fail> {
+    expect_cases(&rt, rt.alloc(), FEW_REGISTERS)?;
     Ok(())
 }
 
-/// A sheet, a part of its text and what stands in its place, and how the run ends.
-#[derive(Clone, Copy)]
-struct Case {
-    sheet: &'static str,
-    old: &'static str,
-    new: &'static str,
-    status: Status,
-    text: &'static str,
-}
-
-const CASES: &[Case] = &[
+/// Sheets with wide objects and other numbers of registers.
+const WIDE_SHEETS: &[Case] = &[
     // The object's 255 words make the collector owe 10,200 events, of which the run has 93.
     Case {
+        words: RUN,
         sheet: WIDE,
-        old: "",
-        new: "",
+        changes: &[],
         status: Status::Done,
         text: "heap work 8325 attempt 1272 busy 11479 debt 11472
 high a response 7 deadline 20000
@@ -101,37 +117,37 @@ end 100
 ",
     },
     Case {
+        words: RUN,
         sheet: WIDE,
-        old: "reserve = 300",
-        new: "reserve = 286",
+        changes: &[("reserve = 300", "reserve = 286")],
         status: Status::NotAdmitted,
         text: "refused reserve have 11440 need 11472\n",
     },
     Case {
+        words: RUN,
         sheet: SMALLEST,
-        old: "work 1\nout v0",
-        new: "new r31 0 254",
+        changes: &[("work 1\nout v0", "new r31 0 254")],
         status: Status::Sheet,
         text: "sheet script a register 1\n",
     },
     Case {
+        words: RUN,
         sheet: SMALLEST,
-        old: "work 1\nout v0",
-        new: "new r1 0 254",
+        changes: &[("work 1\nout v0", "new r1 0 254")],
         status: Status::Sheet,
         text: "sheet script a shape 1\n",
     },
     Case {
+        words: RUN,
         sheet: SMALLEST,
-        old: "board = [2, 2]",
-        new: "board = [2, 2]\nregisters = 8",
+        changes: &[("board = [2, 2]", "board = [2, 2]\nregisters = 8")],
         status: Status::Sheet,
         text: "sheet unknown heap.registers\n",
     },
     Case {
+        words: RUN,
         sheet: WIDE,
-        old: ", registers = 32",
-        new: "",
+        changes: &[(", registers = 32", "")],
         status: Status::Sheet,
         text: "sheet missing heap.registers\n",
     },
@@ -139,10 +155,6 @@ end 100
 
 #[test]
 fn wide_sheets(rt: HostRuntime) -> Result<(), Fail> {
-    let alloc = rt.alloc();
-    for case in CASES {
-        let input = edited(&rt, alloc, case.sheet, case.old, case.new)?;
-        expect_run(&rt, alloc, input.as_str(), case.status, case.text)?;
-    }
+    expect_cases(&rt, rt.alloc(), WIDE_SHEETS)?;
     Ok(())
 }

@@ -1,4 +1,0 @@
-use Rattle.hk_io.proofs.line.Line.+digits.Given as goal
-
-abbrev pub decreases-digits : goal.decreases-digits
-decreases-digits l = l.value

@@ -1,5 +1,5 @@
 -- A sheet that is admitted with its sections is run to its end, where no more words are live than the sheet declares.
-use Rattle.std.proofs.Common.{◌≡◌, ℕ, suc, ◌≤◌, List, ◌++◌, refl, subst, arith}
+use Rattle.std.proofs.Common.{◌≡◌, ℕ, suc, ◌≤◌, List, ◌++◌, refl, arith}
 use Rattle.hk_words.specs.declared.geometry.Geometry.{Geometry}
 use Rattle.hk_words.specs.Geometry.{HasSizes}
 use Rattle.hk_io.specs.declared.Status.TheVariants as status

@@ -1,8 +1,6 @@
 -- From what the parts of the program answer to what its top call answers.
-use Rattle.std.proofs.Common.{◌≡◌, ◌≢◌, ℕ, ◌≤◌, ◌⊎◌, inl, inr, true, false, List, ◌++◌, length, Option, Some, None, Result, Ok, Err, refl, sym, ap, ◌∙◌, subst, arith, String, Global}
+use Rattle.std.proofs.Common.{◌≡◌, ◌≢◌, ℕ, ◌≤◌, ◌⊎◌, inl, inr, true, false, List, ◌++◌, length, Option, Some, None, Result, Err, refl, sym, ap, ◌∙◌, subst, arith, String, Global}
 use Rattle.std.specs.Prelude.{IfSome, MatchOption, MatchResult}
-use Rattle.std.specs.Io.KnownBytes.{Appends}
-use Rattle.hk_io.specs.Bytes.{AppendsPrefix}
 use Rattle.hk_io.specs.declared.Status.{Status}
 use Rattle.hk_io.specs.declared.Status.TheVariants as status
 use Rattle.hk_io.specs.declared.faults.Failed.{Failed}
@@ -33,7 +31,7 @@ use Rattle.hk_ceiling.specs.declared.refused.CeilRefused.{CeilRefused}
 use Rattle.hk_ceiling.specs.declared.refused.CeilRefused.TheVariants as refusal
 use Rattle.hk_ceiling.specs.declared.told.Section.{Section}
 use Rattle.hk_ceiling.specs.Admission.{IsCeilRefusal}
-use Rattle.hk_ceiling.specs.Tool.{usage_line, ceil_line, numbered_of, analysis_of, IsReport, IsAnswer, BytesCallFor, CallsFor, Writes, WritesPrefix}
+use Rattle.hk_ceiling.specs.Tool.{usage_line, ceil_line, numbered_of, analysis_of, IsReport, BytesCallFor, CallsFor, Writes, WritesPrefix}
 use Rattle.hk_ceiling.specs.Words.{are_sections, sections_from}
 
 -- why bytes are no sheet

@@ -1,5 +1,5 @@
 -- What the parts answer is what the program answers.
-use Rattle.std.proofs.Common.{◌≡◌, ◌≢◌, ℕ, List, false, refl, sym, ◌∙◌, subst}
+use Rattle.std.proofs.Common.{◌≡◌, ◌≢◌, ℕ, List, refl, sym, ◌∙◌, subst}
 use Rattle.hk_io.specs.declared.Status.{Status}
 use Rattle.hk_io.specs.declared.Status.TheVariants as status
 use Rattle.hk_top.specs.Tool.{HasText}

@@ -1,5 +1,5 @@
 -- The analysis, and the text of the run behind it.
-use Rattle.std.proofs.Common.{ℕ, List, ◌++◌, refl, subst, arith}
+use Rattle.std.proofs.Common.{ℕ, List, ◌++◌, subst}
 use Rattle.std.specs.Io.KnownBytes.{Appends}
 use Rattle.std.proofs.lemmas.Result.{err_from_is_err_and, on_err_weaker}
 use Rattle.hk_io.specs.Bytes.{AppendsPrefix}

@@ -12,7 +12,7 @@ use Rattle.hk_sheet.specs.declared.sheet.High.{High}
 use Rattle.hk_sheet.specs.declared.sheet.Sheet.{Sheet}
 use Rattle.hk_sheet.specs.Arrivals.{arrival_of}
 use Rattle.hk_admit.specs.Analysis.{timings_of}
-use Rattle.hk_dispatch.specs.Tasks.{no_high, high_at}
+use Rattle.hk_dispatch.specs.Tasks.{high_at}
 use Rattle.hk_dispatch.specs.Turns.{Turn, to_task, to_collector, to_nobody, arrived}
 use Rattle.hk_dispatch.specs.Session.{who_gets, IsSession, IsMoment, IsTick}
 use Rattle.hk_dispatch.specs.HighJobs.{jobs_by}

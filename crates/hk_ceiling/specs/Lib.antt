@@ -9,4 +9,5 @@ pub mod Promises
 pub mod Sessions
 pub mod Single
 pub mod Told
+pub mod Tool
 pub mod Words

@@ -10,6 +10,7 @@ ghost use Rattle.hk_ceiling.specs.Admission.{IsHeld, IsCeilRefusal};
 ghost use Rattle.hk_ceiling.specs.Headline.{HeadlineHolds};
 ghost use Rattle.hk_ceiling.specs.Promises.{OneHolder, HeldUpByOne, EndInTime};
 ghost use Rattle.hk_ceiling.specs.Sessions.{CeilingsChoose, OneHolderAtATime, HeldUpByOneSection, JobsEndWithin};
+ghost use Rattle.hk_ceiling.specs.Tool.{OneEnd, OneText, AdmittedIsDone};
 
 /// The law of exclusion: at no tick do two jobs hold one resource.
 pub fn one_job_holds_a_resource()
@@ -64,4 +65,17 @@ pub fn no_refusal()
 pub fn one_refusal()
     ensures { (sheet : Sheet) (sections : List Section) (one other : CeilRefused)
         → IsCeilRefusal sheet sections one → IsCeilRefusal sheet sections other → one ≢ Memory → other ≢ Memory → one ≡ other }
+{}
+
+/// The words and the bytes of an input call for one end of the program at most, and for one text.
+pub fn one_end_and_one_text()
+    ensures status { OneEnd }
+    ensures text { OneText }
+{}
+
+/// The run of a sheet that is admitted with the sections of the words is called for to its end, where no more words are live at
+/// the flips of the run than the sheet declares. So, by what the top call says of ends that are called for, the program does it
+/// where nothing fails.
+pub fn admitted_sheets_are_done()
+    ensures { AdmittedIsDone }
 {}

@@ -1,11 +1,17 @@
-//! Sheets with sections, and what they are answered. Each wanted line is worked out by hand from the formulas.
+//! Sheets with sections, and what they are answered; and the program. Each wanted line is worked out by hand from the formulas.
 mod admission;
 mod order;
+mod runs;
+mod streams;
 mod words;
 
 ghost use Rattle.std.specs.Prelude.{◌≤◌, length};
 
-use super::*;
+use crate::admission::admit_ceiling;
+use crate::admitted::Held;
+use crate::refused::CeilRefused;
+use crate::told::Sections;
+use crate::words::read_sections;
 use hk_admit::Refused;
 use hk_sheet::{Name, read};
 use std::alloc::{AllocError, Global};

@@ -4,7 +4,7 @@ ghost use Rattle.std.specs.List.{list_all};
 ghost use Rattle.std.specs.Char.{is_ascii_digit};
 ghost use Rattle.std.specs.Str.Parse.{digits_value};
 ghost use Rattle.hk_sheet.specs.Faults.{is_name, is_name_byte};
-ghost use Rattle.hk_ceiling.specs.Words.{has_colon, head, rest, number_of, is_section, section_from, Tells, are_sections, sections_from};
+ghost use Rattle.hk_ceiling.specs.Words.{has_colon, head, rest, number_of, is_section, section_from, Tells, tells, are_sections, sections_from};
 
 use crate::ceilings::MAX_SECTIONS;
 use crate::told::{Section, Sections};
@@ -87,6 +87,27 @@ fn told(word: &str) -> Option<(&str, u32, u32, u32)>
     let start = number(start.as_bytes())?;
     let len = number(len.as_bytes())?;
     Some((name, res, start, len))
+}
+
+/// Whether a word tells a section.
+fn tells(word: &str) -> bool
+    ensures { result ≡ is_section word.now }
+{
+    told(word).is_some()
+}
+
+/// Whether each word tells a section.
+fn all_tell(words: &[String]) -> bool
+    ensures { result ≡ list_all tells words.now }
+{
+    words.iter().all(|word| tells(word.as_str()))
+}
+
+/// Whether there are at most 64 words and each tells a section. It takes no memory.
+pub(crate) fn are_sections(words: &[String]) -> bool
+    ensures { result ≡ are_sections words.now }
+{
+    words.len() <= MAX_SECTIONS && all_tell(words)
 }
 
 /// The section that a word tells, where it is of the form.

@@ -47,7 +47,7 @@ fn is_refused_by_priorities(rt: HostRuntime) -> Result<(), Fail> {
     let check = [String::from_str(alloc, "check")?];
     let status = run_tool(alloc, &check, &mut source, &mut sink);
     assert_eq!(rt; status, Status::NotAdmitted);
-    assert_eq!(rt; sink.bytes(), b"refused response b\n");
+    assert_eq!(rt; sink.bytes(), "refused response b\n".as_bytes());
     Ok(())
 }
 

@@ -8,6 +8,7 @@ use std::process::Abort;
 use std::test::Fail;
 
 /// A sheet of two high tasks: `a` has cost 2, period and deadline 5, and `b` the period 7.
+#[derive(Clone, Copy)]
 pub(crate) struct Case {
     pub(crate) cost: u64,
     pub(crate) deadline: u64,

@@ -12,7 +12,7 @@ fn refuses_words_before_it_reads(rt: HostRuntime) -> Result<(), Fail> {
         let ended = run(rt.alloc(), words, "", (&[0], &[]), 100)?;
         assert_eq!(rt; ended.status, Status::Usage);
         assert_eq!(rt; ended.source.calls(), 0);
-        assert_eq!(rt; ended.sink.bytes(), b"usage: hk_edf\n");
+        assert_eq!(rt; ended.sink.bytes(), "usage: hk_edf\n".as_bytes());
         let failed = run(rt.alloc(), words, "", (&[], &[0]), 100)?;
         assert_eq!(rt; failed.status, Status::WriteFault);
         assert_eq!(rt; failed.source.calls(), 0);

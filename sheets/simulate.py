@@ -4,7 +4,9 @@
 It was written from the rules alone (docs/), shares no code with henri, and made the reports beside the sheets of this
 folder. It is slow, proves nothing, and takes the sheet to be right: what is looked at is what an admitted sheet does.
 
-    simulate.py [--check | --trace | --quiet] SHEET
+    simulate.py [--check | --trace | --quiet] [--deadlines] SHEET
+
+With --deadlines the high jobs go by earliest deadlines, as hk_edf does it.
 """
 import sys
 import tomllib
@@ -396,6 +398,32 @@ class Session:
     def took(self, words):
         self.debt += self.sheet["heap"]["rate"] * words
 
+    def late(self):
+        """Fixed priorities: the response of each high task, or the line of the first whose response is beyond its deadline."""
+        responses = []
+        for place, task in enumerate(self.high):
+            own, before = task.keys, [other.keys for other in self.high[:place]]
+            window = own["cost"]
+            while True:
+                asked = own["cost"] + sum(
+                    starts(window + k.get("jitter", 0), k["period"]) * k["cost"] for k in before
+                )
+                if asked + own.get("jitter", 0) > own["deadline"]:
+                    return [], f"refused response {task.name}"
+                if asked == window:
+                    break
+                window = asked
+            responses.append(window + own.get("jitter", 0))
+        lines = [
+            f"high {task.name} response {response} deadline {task.keys['deadline']}"
+            for task, response in zip(self.high, responses)
+        ]
+        return lines, None
+
+    def beyond(self, busy):
+        """Nothing more is asked of a sheet that goes by fixed priorities, once its heap has room."""
+        return None
+
     def analysis(self):
         """The lines of the analysis, or of the refusal, and the status."""
         heap, tasks = self.heap, self.high + self.low
@@ -411,20 +439,9 @@ class Session:
         for task in self.high:
             if task.script.words > task.keys["words"]:
                 return [f"refused words {task.name} need {task.script.words} declared {task.keys['words']}"], 6
-        responses = []
-        for place, task in enumerate(self.high):
-            own, before = task.keys, [other.keys for other in self.high[:place]]
-            window = own["cost"]
-            while True:
-                asked = own["cost"] + sum(
-                    starts(window + k.get("jitter", 0), k["period"]) * k["cost"] for k in before
-                )
-                if asked + own.get("jitter", 0) > own["deadline"]:
-                    return [f"refused response {task.name}"], 6
-                if asked == window:
-                    break
-                window = asked
-            responses.append(window + own.get("jitter", 0))
+        high_lines, refused = self.late()
+        if refused:
+            return [refused], 6
         owed_low = rate * largest_low + attempt if self.low else 0
         base = 10 + owed_low if self.low else 0
         owed = [(k.keys, rate * k.keys["words"] + attempt) for k in self.high]
@@ -444,16 +461,21 @@ class Session:
             return [f"refused rate have {have} need {work}"], 6
         if rate * heap.reserve < debt:
             return [f"refused reserve have {rate * heap.reserve} need {debt}"], 6
+        refused = self.beyond(busy)
+        if refused:
+            return [refused], 6
         lines = [f"heap work {work} attempt {attempt} busy {busy} debt {debt}"]
-        for task, response in zip(self.high, responses):
-            lines.append(f"high {task.name} response {response} deadline {task.keys['deadline']}")
-        return lines + [f"low {task.name}" for task in self.low], 0
+        return lines + high_lines + [f"low {task.name}" for task in self.low], 0
+
+    def chosen(self, ready):
+        """Of the high tasks with a ready job, in the order of the sheet, the one that goes first."""
+        return ready[0]
 
     def turn(self, tick):
         """Who gets the tick, by the five rules."""
-        for task in self.high:
-            if task.ready(tick):
-                return task
+        ready = [task for task in self.high if task.ready(tick)]
+        if ready:
+            return self.chosen(ready)
         for task in self.low:
             if task.operation is not None:
                 return task
@@ -618,11 +640,39 @@ class Session:
         return 0
 
 
+class DeadlineSession(Session):
+    """A session whose high jobs go by earliest deadlines."""
+
+    def late(self):
+        return [f"high {task.name} deadline {task.keys['deadline']}" for task in self.high], None
+
+    def beyond(self, busy):
+        """A jitter, or the least time within which more is due than there are ticks."""
+        for task in self.high:
+            if task.keys.get("jitter", 0):
+                return f"refused jitter {task.name}"
+        due = [0] * (busy + 1)
+        for task in self.high:
+            for deadline in range(task.keys["deadline"], busy + 1, task.keys["period"]):
+                due[deadline] += task.keys["cost"]
+        asked = 0
+        for time in range(1, busy + 1):
+            asked += due[time]
+            if asked > time:
+                return f"refused demand {time}"
+        return None
+
+    def chosen(self, ready):
+        return min(ready, key=lambda task: task.arrival(task.job) + task.keys["deadline"])
+
+
 def main():
     forms = [word[2:] for word in sys.argv[1:] if word.startswith("--")]
     (path,) = [word for word in sys.argv[1:] if not word.startswith("--")]
+    kind = DeadlineSession if "deadlines" in forms else Session
+    (form,) = [form for form in forms if form != "deadlines"] or ["plain"]
     with open(path, "rb") as file:
-        session = Session(tomllib.load(file), forms[0] if forms else "plain")
+        session = kind(tomllib.load(file), form)
     status = session.run()
     print("\n".join(session.lines))
     sys.exit(status)

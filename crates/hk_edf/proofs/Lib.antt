@@ -12,3 +12,9 @@ pub mod Refusals
 pub mod Sessions
 pub mod Rising
 pub mod Headline
+pub mod Reserve
+pub mod OneAnswer
+pub mod ToolLemmas
+pub mod Puts
+pub mod RunText
+pub mod Done

@@ -8,3 +8,6 @@ pub mod TooMuch
 pub mod Refusals
 pub mod Sessions
 pub mod Headline
+pub mod Reserve
+pub mod Text
+pub mod Tool

@@ -8,9 +8,9 @@ use hk_dispatch::{Pick, Ready};
 pub struct Earliest;
 
 impl Pick for Earliest {
-    ghost use Rattle.hk_edf.specs.Chooses.{earliest_chooses};
-
     ghost choice = { λ pick rows. earliest_row rows };
+
+    ghost use Rattle.hk_edf.specs.Chooses.{earliest_chooses};
 
     ghost chooses = { λ pick. earliest_chooses };
 

@@ -4,6 +4,8 @@ ghost use Rattle.hk_edf.specs.TooMuch.{NoScheduleFits};
 ghost use Rattle.hk_edf.specs.Refusals.{AdmittedIsNotRefused, OneRefusal, RefusedFitsNowhere};
 ghost use Rattle.hk_edf.specs.Sessions.{EarliestIsChoice, JobsEndByDeadlines};
 ghost use Rattle.hk_edf.specs.Headline.{HeadlineHolds};
+ghost use Rattle.hk_edf.specs.Reserve.{ReserveHolds};
+ghost use Rattle.hk_edf.specs.Tool.{OneEnd, OneText, AdmittedIsDone};
 
 /// The row with the least deadline is one of the rows, so that each law of sessions holds where it is chosen.
 pub fn earliest_is_choice()
@@ -31,6 +33,12 @@ pub fn headline_holds()
     ensures { HeadlineHolds }
 {}
 
+/// In the run of every admitted sheet what the collector owes stays within the analysis, each cycle is paid for, each New finds
+/// room, and the collector waits for nobody. So it is by any choice among the high jobs.
+pub fn reserve_holds()
+    ensures { ReserveHolds }
+{}
+
 /// Where more is due within a time than it has ticks, no schedule ends all of it in time.
 pub fn no_schedule_fits()
     ensures { NoScheduleFits }
@@ -49,4 +57,16 @@ pub fn no_refusal()
 /// A sheet has one refusal at most, but for want of memory: the first.
 pub fn one_refusal()
     ensures { OneRefusal }
+{}
+
+/// The words and the bytes of an input call for one end of the program at most, and for one text.
+pub fn one_end_and_one_text()
+    ensures status { OneEnd }
+    ensures text { OneText }
+{}
+
+/// The run of an admitted sheet is called for to its end, where no more words are live at the flips of the run than the sheet
+/// declares. So, by what the top call says of ends that are called for, the program does it where nothing fails.
+pub fn admitted_sheets_are_done()
+    ensures { AdmittedIsDone }
 {}

@@ -1,34 +1,34 @@
 //! What sheets are answered.
 use crate::admission::admit_edf;
 use crate::refused::EdfRefused;
-use hk_admit::{Refused, admit};
+use hk_admit::Refused;
 use hk_sheet::{Name, read};
 use std::alloc::{AllocError, Global};
 use std::process::Abort;
 use std::test::Fail;
 
 /// A sheet of two high tasks: `a` has cost 2, period and deadline 5, and `b` the period 7.
-struct Case {
-    cost: u64,
-    deadline: u64,
-    jitter_a: u64,
-    jitter_b: u64,
-    told: Told,
+#[derive(Clone, Copy)]
+pub(crate) struct Case {
+    pub(crate) cost: u64,
+    pub(crate) deadline: u64,
+    pub(crate) jitter_a: u64,
+    pub(crate) jitter_b: u64,
+    pub(crate) told: Told,
 }
 
 /// What a sheet is answered: where it is admitted the numbers of its analysis, `work`, `attempt`, `busy` and `debt`. A name is
 /// told by its first byte.
 #[derive(Clone, Copy, Debug, PartialEq, Eq)]
-enum Told {
+pub(crate) enum Told {
     Fits(u64, u64, u64, u64),
     Busy,
     Jitter(u8),
     Over(u64),
-    Response(u8),
     Other,
 }
 
-fn sheet_text(alloc: Global, case: &Case) -> Result<String, AllocError> {
+pub(crate) fn sheet_text(alloc: Global, case: &Case) -> Result<String, AllocError> {
     let (cost, deadline) = (case.cost, case.deadline);
     let (a, b) = (case.jitter_a, case.jitter_b);
     format!(in alloc;
@@ -60,26 +60,7 @@ fn answer(alloc: Global, case: &Case) -> Result<Told, Fail> {
     }
 }
 
-fn told_by_priority(refused: &Refused) -> Told {
-    match refused {
-        Refused::Response(name) => Told::Response(first_byte(name)),
-        _ => Told::Other,
-    }
-}
-
-/// The same under fixed priorities.
-fn answer_by_priority(alloc: Global, case: &Case) -> Result<Told, Fail> {
-    let text = sheet_text(alloc, case)?;
-    let Ok(sheet) = read(alloc, text.as_bytes()) else {
-        return Ok(Told::Other);
-    };
-    match admit(alloc, sheet) {
-        Ok(_admitted) => Ok(Told::Other),
-        Err(refused) => Ok(told_by_priority(&refused)),
-    }
-}
-
-const FITS: Case = Case {
+pub(crate) const FITS: Case = Case {
     cost: 4,
     deadline: 7,
     jitter_a: 0,
@@ -131,14 +112,4 @@ fn check_all(rt: &impl Abort, alloc: Global, cases: &[Case]) -> Result<(), Fail>
 #[test]
 fn sheets(rt: HostRuntime) -> Result<(), Fail> {
     check_all(&rt, rt.alloc(), CASES)
-}
-
-/// What fits by deadlines needn't by fixed priorities.
-#[test]
-fn by_priority(rt: HostRuntime) -> Result<(), Fail> {
-    assert_eq!(rt;
-        answer_by_priority(rt.alloc(), &FITS)?,
-        Told::Response(b'b')
-    );
-    Ok(())
 }

@@ -1,4 +1,4 @@
-use Rattle.std.proofs.Common.{◌≡◌, ap, arith}
+use Rattle.std.proofs.Common.{ap, arith}
 use Rattle.hk_words.specs.Geometry.{tasks}
 use Rattle.hk_keeper.proofs.tests.close_all.Goals as goal
 

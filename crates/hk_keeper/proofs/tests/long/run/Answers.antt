@@ -1,4 +1,4 @@
-use Rattle.std.proofs.Common.{◌≡◌, sym, subst, arith, zero, suc, [], ◌∷◌}
+use Rattle.std.proofs.Common.{sym, subst, arith, zero, suc, [], ◌∷◌}
 use Rattle.std.specs.Prelude.{All}
 use Rattle.hk_table.specs.Passes.{IsPassOf}
 use Rattle.hk_table.specs.declared.pass.Pass.{Pass}

@@ -1,14 +1,12 @@
-use Rattle.std.proofs.Common.{arith, ◌≡◌, ◌∙◌, ap, sym, subst, refl, ℕ, List, [], length, ◌<◌}
+use Rattle.std.proofs.Common.{arith, ◌∙◌, ap, sym, subst, ℕ, List, [], length, ◌<◌}
 use Rattle.hk_words.specs.declared.geometry.Geometry.{Geometry}
-use Rattle.hk_words.specs.Geometry.{tasks, row_length}
+use Rattle.hk_words.specs.Geometry.{row_length}
 use Rattle.hk_words.specs.Row.Slot.{W0}
 use Rattle.hk_words.proofs.RowLaws.{index_below}
 use Rattle.atomic_table.specs.Table.{opening, Splits}
-use Rattle.hk_core.specs.Run.{run_from_opening}
-use Rattle.hk_table.specs.Knows.{KeeperView, keeper, pass}
-use Rattle.hk_table.specs.Seats.{the_keeper, keeper_from, rest_of, made_of}
-use Rattle.hk_table.specs.Rule.{InOneRun, first_view, fresh}
-use Rattle.hk_table.proofs.Opening.{opens_so, opening_stands, row_length_is}
+use Rattle.hk_table.specs.Seats.{keeper_from, rest_of, made_of}
+use Rattle.hk_table.specs.Rule.{InOneRun, first_view}
+use Rattle.hk_table.proofs.Opening.{opens_so, row_length_is}
 use Rattle.hk_table.proofs.Seats.{pass_splits, view}
 use Rattle.hk_keeper.proofs.tests.stepping.open_stepped.Goals as goal
 

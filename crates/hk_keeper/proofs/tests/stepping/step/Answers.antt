@@ -6,7 +6,7 @@ use Rattle.hk_core.specs.Event.{word_of, learnt_from}
 use Rattle.hk_core.specs.Fits.{Fits}
 use Rattle.hk_core.specs.Step.{event_of, took_of}
 use Rattle.std.specs.Prelude.{Option, Some}
-use Rattle.hk_table.specs.Deeds.{Deed, the_pass, is_rest, taken, learnt_by}
+use Rattle.hk_table.specs.Deeds.{Deed, is_rest, taken, learnt_by}
 use Rattle.hk_table.proofs.Resting.{told_goes, does_fit, does_fly, does_within, has_event, rest_fits, settled_stops}
 use Rattle.hk_keeper.proofs.tests.stepping.step.Goals as goal
 

@@ -7,7 +7,7 @@
 //! of its neighbour. So each finds what another pass left, and in a round the calls of two passes change nothing that the
 //! other one sees. Whatever the order in which they came, replaying a round seat by seat therefore gives each call the reply
 //! that it has in the closing history.
-ghost use Rattle.std.specs.Prelude.{◌≡◌, ◌<◌, ◌≤◌};
+ghost use Rattle.std.specs.Prelude.{◌≡◌, ◌<◌};
 ghost use Rattle.hk_table.specs.Passes.{IsPassOf, IsKeeperOf};
 
 use super::gate::comes_to;
@@ -17,7 +17,7 @@ use crate::{Work, collect};
 use hk_core::Line;
 use hk_table::{Heap, HeapError, Keeper, Pass, Steps};
 use hk_words::{Call, Geometry, Reply, Shape};
-use std::alloc::{AllocError, Global};
+use std::alloc::AllocError;
 use std::marker::Brand;
 use std::process::Abort;
 use std::sync::atomic::{AtomicU64, Ordering};
@@ -26,16 +26,14 @@ use std::test::Fail;
 use std::thread;
 use std::thread::Threads;
 
-/// The rounds. Each makes four objects, so there are 1,004 of them, and 1,003 flips at least.
+/// The rounds. Each makes four objects, so there are 1,004 of them.
 const ROUNDS: u64 = 251;
 
+/// The flips at least: each object but the first comes after one of its own.
 const FLIPS: u32 = 1003;
 
 /// The calls that a pass notes in a round.
 const CALLS: usize = 18;
-
-/// The words of an object, and of a space for allocation.
-const WORDS: u64 = 16;
 
 /// So many turns are waited for room, or collected, at most.
 const TURNS: u32 = 100_000_000;

@@ -1,6 +1,5 @@
 //! Calls of a pass as they were answered, and the heap that never collects, on which they are replayed.
 ghost use Rattle.std.specs.Prelude.{◌≡◌, ℕ, ◌<◌, length};
-ghost use Rattle.hk_words.specs.Calls.{RegistersFit};
 ghost use Rattle.hk_words.specs.declared.geometry.TheConstants.{REGISTERS};
 ghost use Rattle.hk_model.specs.Heap.{register_count};
 ghost use Rattle.hk_table.specs.Passes.{IsPassOf};
@@ -8,7 +7,7 @@ ghost use Rattle.hk_table.specs.Passes.{IsPassOf};
 use hk_model::Plain;
 use hk_table::{Heap, HeapError, Pass, Steps};
 use hk_words::{Call, Memory, REGISTERS, Reply, Shape};
-use std::alloc::{AllocError, Global};
+use std::alloc::Global;
 use std::process::Abort;
 use std::sync::ledger::Ledger;
 

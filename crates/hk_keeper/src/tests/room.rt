@@ -3,6 +3,7 @@ ghost use Rattle.std.specs.Prelude.{◌≡◌, ◌<◌, ◌≤◌};
 ghost use Rattle.hk_table.specs.Passes.{IsPassOf};
 
 use super::{open_two, until_flipped};
+use crate::{Work, collect};
 use hk_table::{Heap, HeapError, Pass, Steps};
 use hk_words::{Geometry, Shape};
 use std::marker::Brand;
@@ -16,6 +17,7 @@ fn fill<L: Ledger>(
     heap: &Heap,
     pass: &mut Pass,
     shape: Shape,
+    words: u64,
     steps: &mut Steps<L>,
 )
     requires pass { IsPassOf heap.now pass.old }
@@ -28,8 +30,26 @@ fn fill<L: Ledger>(
     assert!(rt; heap.make(pass, 1, shape, steps).is_ok());
     assert_eq!(rt;
         heap.make(pass, 1, shape, steps),
-        Err(HeapError::Full { words: 8 })
+        Err(HeapError::Full { words })
     );
+}
+
+/// Both passes fill the heap, first the low one up to the reserve. With the flip, which is one event, there is room for the
+/// low pass.
+fn filled_by_both<L: Ledger>(rt: &(impl Abort + AllocGlobal), blank: Blank) -> Result<(), Fail>
+    requires name { blank.name ≡ L.name }
+    requires parts { blank.parts ≡ L.parts }
+    requires some { 0 < L.parts }
+{
+    let g = Geometry::new(8, 16, 8, 1, 1, 1, 0)?;
+    let shape = Shape::new(1, 0).ok_or("no shape")?;
+    let (heap, mut high, mut low, mut keeper) = open_two(rt, g)?;
+    let mut steps = Steps::<L>::new(blank);
+    fill(rt, &heap, &mut low, shape, 8, &mut steps);
+    fill(rt, &heap, &mut high, shape, 16, &mut steps);
+    assert_eq!(rt; collect(&heap, &mut keeper, 1, &mut steps), Work::Flipped);
+    assert_eq!(rt; heap.make(&mut low, 1, shape, &mut steps), Ok(()));
+    Ok(())
 }
 
 /// The low pass fills its part of the heap. Two flips later all but its last object are gone, and there is as much room as
@@ -46,15 +66,21 @@ fn filled_again<L: Ledger>(
 {
     let g = Geometry::new(8, 16, 8, 1, 1, 1, 0)?;
     let shape = Shape::new(1, 0).ok_or("no shape")?;
-    let (heap, _high, mut low, mut keeper) = open_two(rt.alloc(), g)?;
+    let (heap, _high, mut low, mut keeper) = open_two(rt, g)?;
     let mut steps = Steps::<L>::new(blank);
-    fill(rt, &heap, &mut low, shape, &mut steps);
+    fill(rt, &heap, &mut low, shape, 8, &mut steps);
     until_flipped(rt, &heap, &mut keeper, budget, &mut steps);
     until_flipped(rt, &heap, &mut keeper, budget, &mut steps);
-    fill(rt, &heap, &mut low, shape, &mut steps);
+    fill(rt, &heap, &mut low, shape, 8, &mut steps);
     assert!(rt; heap.load(&mut low, 2, 1, 0, &mut steps).is_ok());
     assert!(rt; heap.is_null(&low, 2));
     Ok(())
+}
+
+/// After one event.
+#[test]
+fn room_after_the_flip(rt: HostRuntime) -> Result<(), Fail> {
+    filled_by_both::<Brand>(&rt, Blank::new(1))
 }
 
 /// Event by event.

@@ -1,0 +1,4 @@
+use Rattle.hk_keeper.proofs.tests.long.a_thousand_cycles.Given as goal
+
+abbrev pub ghosts-run : goal.ghosts-run
+ghosts-run g a = record { name = a.blank.name; parts = a.blank.parts }

@@ -5,7 +5,7 @@ use hk_sheet::Sheet;
 use std::process::Abort;
 
 /// What is counted of a session while it runs, beside what it counts itself.
-#[derive(Clone, Copy, Debug)]
+#[derive(Clone, Copy)]
 pub(crate) struct Counts {
     /// The useful events of the cycle, and the events of the lost attempts so far.
     pub useful: u64,

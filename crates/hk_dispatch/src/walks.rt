@@ -10,7 +10,7 @@ use std::process::Abort;
 use std::test::Fail;
 
 /// The ticks of each sheet.
-const TICKS: u64 = 20_000;
+const TICKS: u64 = 24_000;
 
 /// A bound on the events of an attempt: a frame has 34, an object of eight fields 42.
 const ATTEMPT: u64 = 42;
@@ -82,7 +82,9 @@ impl Drawn {
     /// Makes an object that refers to another, and keeps the two in a field of the board.
     fn make_two(&mut self, alloc: Global, draws: &mut Draws) -> Result<(), AllocError> {
         let (nums, field) = (draws.from(1, 3), draws.below(3));
-        let lines = format!(in alloc; "new r2 0 {nums}\nnew r1 1 1\nstore r1 0 r2\nstore r0 {field} r1");
+        let lines = format!(in alloc;
+            "new r2 0 {nums}\nnew r1 1 1\nstore r1 0 r2\nstore r0 {field} r1"
+        );
         self.add(lines, 28, nums.saturating_add(4))
     }
 
@@ -91,11 +93,7 @@ impl Drawn {
         let (turns, nums) = (draws.from(2, 3), draws.from(1, 4));
         let lines = format!(in alloc; "repeat {turns}\nnew r3 0 {nums}\nend");
         let cost = turns.saturating_mul(8).saturating_add(1);
-        self.add(
-            lines,
-            cost,
-            turns.saturating_mul(nums.saturating_add(1)),
-        )
+        self.add(lines, cost, turns.saturating_mul(nums.saturating_add(1)))
     }
 
     /// Reads or writes a number of an object that the board refers to, where there is one.
@@ -106,7 +104,9 @@ impl Drawn {
         } else {
             "put r3 0 v0"
         };
-        let lines = format!(in alloc; "load r3 r0 {field}\nif null r3\nset v0 1\nelse\n{access}\nend");
+        let lines = format!(in alloc;
+            "load r3 r0 {field}\nif null r3\nset v0 1\nelse\n{access}\nend"
+        );
         self.add(lines, 14, 0)
     }
 
@@ -187,31 +187,30 @@ impl Plan {
         let script = drawn.script.as_str();
         add(
             &mut self.tasks,
-            format!(in alloc; "[[high]]\nname = \"h{place}\"\ncost = {cost}\nperiod = {period}\ndeadline = {period}\nwords = {words}\njitter = {jitter}\nlag = {lag}\n{arrivals}\nscript = \"\"\"\n{script}\"\"\""),
+            format!(in alloc;
+                "[[high]]\nname = \"h{place}\"\ncost = {cost}\nperiod = {period}\ndeadline = {period}\nwords = {words}\njitter = {jitter}\nlag = {lag}\n{arrivals}\nscript = \"\"\"\n{script}\"\"\""
+            ),
         )
     }
 
     /// Adds a low task.
-    fn add_low(
-        &mut self,
-        alloc: Global,
-        draws: &mut Draws,
-        place: u64,
-    ) -> Result<(), AllocError> {
+    fn add_low(&mut self, alloc: Global, draws: &mut Draws, place: u64) -> Result<(), AllocError> {
         let drawn = Drawn::draw(alloc, draws)?;
         let gap = draws.from(40, 400);
         let arrivals = arrivals(alloc, draws, gap)?;
         let script = drawn.script.as_str();
         add(
             &mut self.tasks,
-            format!(in alloc; "[[low]]\nname = \"l{place}\"\n{arrivals}\nscript = \"\"\"\n{script}\"\"\""),
+            format!(in alloc;
+                "[[low]]\nname = \"l{place}\"\n{arrivals}\nscript = \"\"\"\n{script}\"\"\""
+            ),
         )
     }
 
     /// One to three high tasks that ask for three to eight tenths of the ticks in all, and up to two low ones.
     fn draw(alloc: Global, draws: &mut Draws) -> Result<Plan, AllocError> {
         let mut plan = Plan {
-            live: draws.from(20, 30).saturating_mul(2),
+            live: draws.from(10, 20).saturating_mul(2),
             rate: draws.from(10, 8),
             tasks: String::new(alloc),
         };
@@ -230,7 +229,9 @@ impl Plan {
     /// The sheet with so many words for new objects and as the reserve.
     fn sheet(&self, alloc: Global, room: u64, reserve: u64) -> Result<String, AllocError> {
         let (live, rate, tasks) = (self.live, self.rate, self.tasks.as_str());
-        format!(in alloc; "version = 1\nticks = {TICKS}\nheap = {{ live = {live}, alloc = {room}, reserve = {reserve}, rate = {rate}, board = [3, 2] }}\n{tasks}")
+        format!(in alloc;
+            "version = 1\nticks = {TICKS}\nheap = {{ live = {live}, alloc = {room}, reserve = {reserve}, rate = {rate}, board = [3, 2] }}\n{tasks}"
+        )
     }
 
     /// The plan on a small heap that is admitted: with each refusal the heap gets what it lacks. None where the tasks can't be
@@ -265,7 +266,7 @@ struct Nearness {
     debt: u64,
     useful: u64,
     used: u64,
-    /// The sheets that flipped five times or more, the lost attempts of all, and the sheets that ended since more was live
+    /// The sheets that flipped three times or more, the lost attempts of all, and the sheets that ended since more was live
     /// than they declare.
     many_cycles: u64,
     losses: u64,
@@ -312,7 +313,7 @@ impl Nearness {
         }
         assert_eq!(rt; session.tick(), Tick::Over);
         self.losses = self.losses.saturating_add(counts.lost);
-        if session.by.flips() >= 5 {
+        if session.by.flips() >= 3 {
             self.many_cycles = self.many_cycles.saturating_add(1);
         }
     }
@@ -339,10 +340,17 @@ fn walk(rt: &impl Abort, alloc: Global, seed: u64, sheets: u64) -> Result<Nearne
     Ok(near)
 }
 
-/// A hundred sheets. Half of them flip five times or more.
+/// Sixty sheets. Three dozen of them and more flip three times or more before the horizon, some end since more was live than
+/// they declare, and attempts are lost. The debt comes within a tenth of its bound, the useful events and the words used come
+/// within four tenths.
 #[test]
 fn drawn_sheets(rt: HostRuntime) -> Result<(), Fail> {
-    let near = walk(&rt, rt.alloc(), 1, 12)?;
-    assert!(rt; near.many_cycles >= 1000, "{near:?}");
+    let near = walk(&rt, rt.alloc(), 1, 60)?;
+    assert!(rt; near.many_cycles >= 36, "{near:?}");
+    assert!(rt; near.over > 0, "{near:?}");
+    assert!(rt; near.losses > 0, "{near:?}");
+    assert!(rt; near.debt >= 900, "{near:?}");
+    assert!(rt; near.useful >= 600, "{near:?}");
+    assert!(rt; near.used >= 600, "{near:?}");
     Ok(())
 }

@@ -4,7 +4,7 @@ use hk_sheet::{Name, Sheet};
 use std::alloc::{AllocError, Global};
 
 /// The lines that are written while a session runs.
-#[derive(Debug, Drop)]
+#[derive(Drop)]
 pub(crate) struct Written {
     pub report: String,
     pub ticks: String,

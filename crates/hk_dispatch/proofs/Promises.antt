@@ -1,5 +1,5 @@
 -- The promises of sessions that are proved.
-use Rattle.std.proofs.Common.{◌≡◌, ℕ, ◌<◌, Option, refl, sym, ◌∙◌, ap, subst, arith}
+use Rattle.std.proofs.Common.{◌≡◌, ℕ, ◌<◌, List, Option, None, refl, sym, ◌∙◌, ap, subst, arith}
 use Rattle.std.proofs.lemmas.Bool.{eqb-true, eq-eqb}
 use Rattle.std.specs.Prelude.{◌==◌, ◌↔◌, IfSome, IsTrue}
 use Rattle.hk_words.specs.declared.geometry.Geometry.{Geometry}
@@ -11,21 +11,27 @@ use Rattle.hk_words.specs.Geometry.{tasks}
 use Rattle.hk_model.specs.Heap.{opening_of}
 use Rattle.hk_model.specs.History.{History, after}
 use Rattle.hk_model.specs.Replies.{reply_of, said}
+use Rattle.hk_core.specs.declared.spot.Work.{Work}
+use Rattle.hk_core.specs.declared.spot.Work.TheVariants.{Flipped}
 use Rattle.hk_core.specs.State.{State, flight_of}
+use Rattle.hk_core.specs.Collect.{work_by_collector}
 use Rattle.hk_core.specs.View.{flight_at}
 use Rattle.hk_core.specs.Lawful.{Lawful}
+use Rattle.hk_collect.specs.Measure.{useful_after}
 use Rattle.hk_core.proofs.Shown.{is_null_answers, same_answers}
 use Rattle.hk_script.specs.declared.walk.Need.{Need}
 use Rattle.hk_script.specs.declared.walk.Need.TheVariants as need
 use Rattle.hk_script.specs.Limits.{limits_of}
 use Rattle.hk_script.specs.Needs.{NeedFits}
 use Rattle.hk_script.proofs.Needs.{need_fits}
+use Rattle.hk_plan.specs.declared.Ready.{Ready}
+use Rattle.hk_sheet.specs.declared.sheet.Sheet.{Sheet}
 use Rattle.hk_dispatch.specs.Tasks.{task_at}
-use Rattle.hk_dispatch.specs.Moment.{core_of, history_of, course_at, need_at}
-use Rattle.hk_dispatch.specs.Turns.{turn}
-use Rattle.hk_dispatch.specs.Ticks.{asked}
-use Rattle.hk_dispatch.specs.Session.{state}
-use Rattle.hk_dispatch.specs.Laws.{RunIsInterleaving, HistoryIsLegal, QuestionsAreAnswered, IdleExactly, DebtIsAccounted, UsefulWithin, CollectorNeverWaits, LiveOverHasCause, NoTaskIsSpent, UsedIsPaid, JobsAreKept, OneLowOperation}
+use Rattle.hk_dispatch.specs.Moment.{Moment, core_of, history_of, course_at, need_at}
+use Rattle.hk_dispatch.specs.Turns.{Turn, to_collector, turn}
+use Rattle.hk_dispatch.specs.Ticks.{asked, after_event, after_turn}
+use Rattle.hk_dispatch.specs.Session.{state, after_tick}
+use Rattle.hk_dispatch.specs.Laws.{RunIsInterleaving, HistoryIsLegal, QuestionsAreAnswered, IdleExactly, DebtIsAccounted, UsefulWithin, FlipIsUseful, CollectorNeverWaits, LiveOverHasCause, NoTaskIsSpent, UsedIsPaid, JobsAreKept, OneLowOperation}
 use Rattle.hk_dispatch.proofs.TurnFacts.{turn_is}
 use Rattle.hk_dispatch.proofs.Sheets.{scripts, seats}
 use Rattle.hk_dispatch.proofs.SeatsInStep.{none_flying}
@@ -60,6 +66,19 @@ pub useful_is_within : UsefulWithin
 useful_is_within g choice sheet work attempt busy debt s t moment =
     let few = useful_within g choice s.choice_is sheet s.checked.readable s.checked.declared s.sizes t in
     omega (arith, few, s.checked.work_is)
+
+flip_after : (choice : List Ready → ℕ) (sheet : Sheet) (m : Moment) (t : ℕ) (over : Option ℕ) → over ≡ None → turn choice sheet m t ≡ to_collector
+    → work_by_collector (core_of m) ≡ Flipped → (after_tick choice sheet m t over).useful ≡ 1
+unfolding after_event
+flip_after choice sheet m t over none goes flips =
+    ap (λ (o : Option ℕ). (after_tick choice sheet m t o).useful) none
+    ∙ ap (λ (o : Turn). (after_turn sheet m t o).useful) goes
+    ∙ ap (λ (w : Work). useful_after w m.useful) flips
+
+pub flip_is_useful : FlipIsUseful
+unfolding state
+flip_is_useful g choice sheet work attempt busy debt s t tick goes flips =
+    flip_after choice sheet (state g choice sheet t) t (state g choice sheet t).over tick.before_over goes flips
 
 pub never_waits : CollectorNeverWaits
 never_waits g choice sheet work attempt busy debt s t tick e = collector_never_waits g choice s.choice_is sheet s.checked.readable s.checked.declared s.sizes t tick.within e

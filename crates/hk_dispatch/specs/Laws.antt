@@ -1,6 +1,6 @@
 -- The promises of sessions. Each is said of every sheet whose heap was checked, of every choice among the ready high jobs, and
 -- of every moment of the run: up to the horizon, and before the collector found too many words reserved.
-use Rattle.std.specs.Prelude.{◌≡◌, ◌≢◌, ◌⊎◌, ℕ, ◌+◌, ◌-◌, ◌*◌, ◌<◌, ◌≤◌, ◌↔◌, true, false, List, length, slice_index_or, Some}
+use Rattle.std.specs.Prelude.{◌≡◌, ◌≢◌, ◌⊎◌, ℕ, suc, ◌+◌, ◌-◌, ◌*◌, ◌<◌, ◌≤◌, ◌↔◌, true, false, List, length, slice_index_or, Some}
 use Rattle.hk_words.specs.declared.geometry.Geometry.{Geometry}
 use Rattle.hk_words.specs.declared.call.Call.{Call}
 use Rattle.hk_words.specs.declared.call.Call.TheVariants.{New}
@@ -11,7 +11,7 @@ use Rattle.hk_model.specs.Heap.{opening_of}
 use Rattle.hk_model.specs.History.{Legal}
 use Rattle.hk_model.specs.Replies.{reply_of, said}
 use Rattle.hk_core.specs.declared.outcome.Fault.TheVariants.{Spent}
-use Rattle.hk_core.specs.declared.spot.Work.TheVariants.{Worn}
+use Rattle.hk_core.specs.declared.spot.Work.TheVariants.{Flipped, Worn}
 use Rattle.hk_core.specs.Begin.{refusal}
 use Rattle.hk_core.specs.Collect.{work_by_collector}
 use Rattle.hk_core.specs.Run.{Action}
@@ -113,6 +113,11 @@ LossesAreFew = OfMoments (λ g choice sheet work attempt busy debt t m. m.lost �
 -- the rate for each word used since the last flip is at most the useful events of the cycle and what is owed
 abbrev pub UsedIsPaid : Type 0
 UsedIsPaid = OfMoments (λ g choice sheet work attempt busy debt t m. sheet.heap.rate * used_at m ≤ m.useful + m.debt)
+
+-- a cycle's useful events are counted from its flip on, which is the first of them
+abbrev pub FlipIsUseful : Type 0
+FlipIsUseful = OfTicks (λ g choice sheet work attempt busy debt t m.
+    turn choice sheet m t ≡ to_collector → work_by_collector (core_of m) ≡ Flipped → (state g choice sheet (suc t)).useful ≡ 1)
 
 -- the useful events of a cycle, and the debt, are at most the numbers of the analysis
 abbrev pub UsefulWithin : Type 0

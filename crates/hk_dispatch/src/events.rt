@@ -1,12 +1,21 @@
-//! What an event of the collector is to a session.
+//! The collector's events, and what each is to a session.
 ghost use Rattle.std.specs.Prelude.{◌≡◌, if◌then◌else◌};
+ghost use Rattle.hk_core.specs.Collect.{next_collected, work_by_collector};
 ghost use Rattle.hk_collect.specs.Pays.{lost_in};
 ghost use Rattle.hk_collect.specs.Used.{is_flip};
 ghost use Rattle.hk_dispatch.specs.Ticks.{over_in};
 ghost use Rattle.hk_dispatch.specs.Told.{told_event};
 
 use crate::tick::{Chore, Tick, Who};
-use hk_collect::Work;
+use hk_collect::{OwnedHeap, Work};
+
+/// Does the next event of the collector, and answers what it did.
+pub(crate) fn next_event(heap: &mut OwnedHeap) -> Work
+    ensures next { heap.new ≡ next_collected heap.old }
+    ensures work { result ≡ work_by_collector heap.old }
+{
+    heap.collect()
+}
 
 /// The events of the attempt that an event of the collector loses.
 pub(crate) fn lost_in(work: Work) -> u32

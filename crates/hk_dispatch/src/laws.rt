@@ -1,6 +1,6 @@
 //! Laws of sessions, over definitions alone. These functions take no time; their clauses are the laws.
 ghost use Rattle.hk_dispatch.specs.Rules.{RulesApply, HighFirst, RowsRise, ReadyMomentsRise};
-ghost use Rattle.hk_dispatch.specs.Laws.{RunIsInterleaving, HistoryIsLegal, QuestionsAreAnswered, JobsAreKept, OneLowOperation, IdleExactly, DebtIsAccounted, UsefulWithin, CollectorNeverWaits, LiveOverHasCause, NoTaskIsSpent, UsedIsPaid, LossesAreFew, DebtWithin, QuietAgain, UsedWithin, HighNewsFindRoom, LowNewsBeginQuiet, LowNewsFindRoom, NoNewIsRefused, SessionIsReplay};
+ghost use Rattle.hk_dispatch.specs.Laws.{RunIsInterleaving, HistoryIsLegal, QuestionsAreAnswered, JobsAreKept, OneLowOperation, IdleExactly, DebtIsAccounted, UsefulWithin, FlipIsUseful, CollectorNeverWaits, LiveOverHasCause, NoTaskIsSpent, UsedIsPaid, LossesAreFew, DebtWithin, QuietAgain, UsedWithin, HighNewsFindRoom, LowNewsBeginQuiet, LowNewsFindRoom, NoNewIsRefused, SessionIsReplay};
 
 /// Each tick goes by one of the five rules, where it applies and none before it does: to a high task exactly where one has a
 /// ready job, and then to that of the row which the choice names. The rows that the choice is told rise, and the jobs of a
@@ -39,10 +39,11 @@ pub fn debt_is_accounted()
     ensures paid { UsedIsPaid }
 {}
 
-/// At its ticks the collector waits for no call and never runs out of cycles, and the useful events of a cycle are at most the
-/// number of the analysis.
+/// At its ticks the collector waits for no call and never runs out of cycles, and the useful events of a cycle, of which the flip is
+/// the first, are at most the number of the analysis.
 pub fn collector_never_waits()
     ensures waits { CollectorNeverWaits }
+    ensures flip { FlipIsUseful }
     ensures useful { UsefulWithin }
 {}
 

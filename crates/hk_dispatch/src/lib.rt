@@ -6,6 +6,8 @@
 mod attempts;
 #[cfg(test)]
 mod choices;
+#[cfg(test)]
+mod counts;
 mod events;
 mod laws;
 mod needs;
@@ -22,6 +24,8 @@ mod stand;
 #[cfg(test)]
 mod tests;
 mod tick;
+#[cfg(test)]
+mod walks;
 #[cfg(test)]
 mod watch;
 #[cfg(test)]

@@ -10,7 +10,7 @@ ghost use Rattle.hk_dispatch.specs.Moment.{Moment, opening};
 ghost use Rattle.hk_dispatch.specs.Turns.{to_task, to_collector, to_nobody, ready_rows, turn};
 ghost use Rattle.hk_dispatch.specs.Opened.{Shows, Fit, Before, AtTurn, OnlyLow, Gave, roster_after, Went};
 
-use crate::events::{flips_in, lost_in, over_in, told_event};
+use crate::events::{flips_in, lost_in, next_event, over_in, told_event};
 use crate::pick::Pick;
 use crate::roster::Roster;
 use crate::run::{Done, TaskRun};
@@ -139,7 +139,7 @@ impl Stand {
         requires owed { 0 < self.old.debt }
         ensures { (sheet : Sheet) (m : Moment) (tick : ℕ) → AtTurn sheet m tick self.old → Went sheet m tick to_collector self.new result }
     {
-        let work = self.heap.collect();
+        let work = next_event(&mut self.heap);
         self.debt = self.debt - 1 + u64::from(lost_in(work));
         self.flips += u64::from(flips_in(work));
         self.events += 1;

@@ -1,10 +1,10 @@
 //! Runs of sessions in tests: what is written of each, who got each tick, and at every tick the debt, the useful events of
 //! the cycle and the words used, looked at against their bounds.
+use crate::counts::{Counts, most_used};
 use crate::written::{Written, add, name, name_of};
 use crate::{Pick, Session, SessionBy, Tick, Who};
 use hk_admit::{admit, check_heap};
-use hk_script::largest;
-use hk_sheet::{Sheet, read};
+use hk_sheet::read;
 use std::alloc::{AllocError, Global};
 use std::process::Abort;
 use std::test::Fail;
@@ -77,41 +77,6 @@ fn closing<P: Pick>(
     add(text, format!(in alloc; "end {ticks}"))
 }
 
-/// The size of the largest object that a low task makes.
-fn largest_low(sheet: &Sheet) -> u32 {
-    sheet
-        .low
-        .items
-        .iter()
-        .map(|task| largest(&task.script))
-        .fold(0, |most, size| most.max(size))
-}
-
-/// Looks at the numbers of a session after a tick: the account of the debt, and each number against its bound.
-fn look<P: Pick>(rt: &impl Abort, by: &SessionBy<P>, written: &mut Written, tick: u64) {
-    let heap = by.checked().sheet.heap;
-    let used = by.used();
-    let taken = u64::from(used.saturating_sub(written.used));
-    written.taken = written.taken.saturating_add(taken);
-    written.used = used;
-    let (debt, most) = (by.debt(), by.checked().debt);
-    let paid = by.events().saturating_add(debt);
-    let owed = heap
-        .rate
-        .saturating_mul(written.taken)
-        .saturating_add(written.lost);
-    assert_eq!(rt; paid, owed, "tick {tick}: events and debt");
-    assert!(rt; debt <= most, "tick {tick}: debt {debt} above {most}");
-    let useful = written.useful;
-    assert!(rt; useful <= by.checked().work, "tick {tick}: useful {useful}");
-    assert!(rt;
-        heap.rate.saturating_mul(u64::from(used)) <= useful.saturating_add(debt),
-        "tick {tick}: used {used} useful {useful} debt {debt}"
-    );
-    let room = heap.alloc.saturating_sub(largest_low(&by.checked().sheet));
-    assert!(rt; used <= room, "tick {tick}: used {used} above {room}");
-}
-
 /// Runs a session to its end, and one call further. What was written before stands in front.
 fn run<P: Pick>(
     rt: &impl Abort,
@@ -120,13 +85,18 @@ fn run<P: Pick>(
     before: String,
 ) -> Result<Written, Fail> {
     let mut written = Written::new(alloc, before);
+    let mut counts = Counts::new();
     let horizon = session.checked().sheet.ticks;
+    let room = most_used(&session.checked().sheet);
     for tick in 0..horizon + 1 {
         let answer = session.tick();
         let sheet = &session.checked().sheet;
         match answer {
             Tick::Ran { who, out, end } => {
                 assert!(rt; tick < horizon);
+                if let Who::Gc(chore) = who {
+                    counts.event(chore);
+                }
                 written.ran(alloc, sheet, tick, who, out, end)?;
             }
             Tick::LiveOver(words) => {
@@ -144,7 +114,7 @@ fn run<P: Pick>(
                 written.end_stretch(alloc, sheet, None, tick)?;
             }
         }
-        look(rt, session, &mut written, tick);
+        counts.look(rt, session, room, tick);
     }
     closing(alloc, session, &mut written.report)?;
     assert_eq!(rt; session.tick(), Tick::Over);

@@ -4,18 +4,12 @@ use hk_sheet::{Name, Sheet};
 use std::alloc::{AllocError, Global};
 
 /// The lines that are written while a session runs.
-#[derive(Debug, Drop)]
+#[derive(Drop)]
 pub(crate) struct Written {
     pub report: String,
     pub ticks: String,
     /// Who has the present stretch of ticks, and since when.
     stretch: Option<(Who, u64)>,
-    /// The useful events of the cycle, and the events of the lost attempts so far.
-    pub useful: u64,
-    pub lost: u64,
-    /// The words used, and all words taken so far.
-    pub used: u32,
-    pub taken: u64,
 }
 
 /// Adds a line to a text.
@@ -60,10 +54,6 @@ impl Written {
             report,
             ticks: String::new(alloc),
             stretch: None,
-            useful: 0,
-            lost: 0,
-            used: 0,
-            taken: 0,
         }
     }
 
@@ -90,18 +80,12 @@ impl Written {
         Ok(())
     }
 
-    /// Writes what an event of the collector was, and counts the useful ones of the cycle.
+    /// Writes what an event of the collector was.
     fn chore(&mut self, alloc: Global, chore: Chore, tick: u64) -> Result<(), AllocError> {
-        self.useful = self.useful.saturating_add(1);
         match chore {
             Chore::Step => Ok(()),
-            Chore::Flip => {
-                self.useful = 1;
-                add(&mut self.ticks, format!(in alloc; "flip {tick}"))
-            }
+            Chore::Flip => add(&mut self.ticks, format!(in alloc; "flip {tick}")),
             Chore::Lost(events) => {
-                self.useful = self.useful.saturating_sub(u64::from(events));
-                self.lost = self.lost.saturating_add(u64::from(events));
                 add(&mut self.ticks, format!(in alloc; "lost {tick} {events}"))
             }
         }

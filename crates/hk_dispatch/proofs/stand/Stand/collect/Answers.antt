@@ -6,12 +6,12 @@ use Rattle.hk_dispatch.proofs.stand.Stand.collect.Goals as goal
 pub returns : goal.returns
 returns c = λ sheet m tick h.
     let s = c.args.self.now in
-    let work = c.collect-work.result in
+    let work = c.next_event-work.result in
     let lost = c.from.ensures ∙ c.lost_in.ensures in
     let few = c.lost_in.type_inv in
-    collect_went sheet m tick s h c.requires.owed work c.collect-work.ensures.work (let e = c.lost_in.ensures in omega (arith, few, e)) _
+    collect_went sheet m tick s h c.requires.owed work c.next_event-work.ensures.work (let e = c.lost_in.ensures in omega (arith, few, e)) _
     (record {
-      heap = c.collect-work.ensures.next;
+      heap = c.next_event-work.ensures.next;
       tasks = refl;
       roster = refl;
       in_mid = refl;

@@ -139,7 +139,11 @@ impl Worker {
             }
             70..80 => {
                 let field = self.draws.below(8) as u8;
-                let from = if self.draws.below(2) == 0 { FIRST } else { SECOND };
+                let from = if self.draws.below(2) == 0 {
+                    FIRST
+                } else {
+                    SECOND
+                };
                 self.store(heap, field, from, steps);
             }
             80..90 => self.copy(heap, steps),

@@ -197,12 +197,7 @@ impl Search {
     }
 
     /// Adds the states after each call that may be done in this one.
-    fn do_any(
-        &mut self,
-        records: &[Record],
-        state: Possible,
-        time: u64,
-    ) -> Result<(), AllocError> {
+    fn do_any(&mut self, records: &[Record], state: Possible, time: u64) -> Result<(), AllocError> {
         for place in 0..self.under_way.len() {
             let Some(number) = self.under_way.get(place).copied() else {
                 return Ok(());
@@ -228,10 +223,8 @@ impl Search {
         time: u64,
         previous: Option<usize>,
     ) -> Result<(), AllocError> {
-        let known = self
-            .possible
-            .iter()
-            .any(|other| other.value == state.value && other.done == state.done);
+        let known = self.possible.iter().any(|other| other.value == state.value
+            && other.done == state.done);
         if known {
             return Ok(());
         }

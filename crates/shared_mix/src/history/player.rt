@@ -142,7 +142,11 @@ impl Player {
     fn any_call(&mut self) -> Call
         ensures { self.new.pass ≡ self.old.pass }
     {
-        let reg = if self.draws.below(2) == 0 { 0 } else { self.register() };
+        let reg = if self.draws.below(2) == 0 {
+            0
+        } else {
+            self.register()
+        };
         let other = self.register();
         let dest = 1 + self.draws.below(7) as u8;
         let name = self.name(reg);
@@ -199,7 +203,10 @@ impl Player {
     fn shape(&mut self) -> Shape
         ensures { self.new.pass ≡ self.old.pass }
     {
-        let refs = [0, 0, 0, 1, 2].get(self.draws.below(5) as usize).copied().unwrap_or(0);
+        let refs = [0, 0, 0, 1, 2]
+            .get(self.draws.below(5) as usize)
+            .copied()
+            .unwrap_or(0);
         let nums = 1 + self.draws.below(3) as u8;
         Shape { refs, nums }
     }

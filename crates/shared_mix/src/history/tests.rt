@@ -69,29 +69,59 @@ fn orders_of_reads_and_writes(rt: HostRuntime) -> Result<(), Fail> {
     let long_write = on_field(0, true, 1, 0, 9);
     let other_write = on_field(1, true, 2, 2, 8);
     let histories: [(&str, &[Record], bool); 7] = [
-        ("read after the write", &[write, on_field(1, false, 1, 2, 3)], true),
+        (
+            "read after the write",
+            &[write, on_field(1, false, 1, 2, 3)],
+            true,
+        ),
         ("stale read", &[write, on_field(1, false, 0, 2, 3)], false),
-        ("read of what nobody wrote", &[write, on_field(1, false, 7, 2, 3)], false),
-        ("read beside the write", &[long_write, on_field(1, false, 0, 2, 3)], true),
+        (
+            "read of what nobody wrote",
+            &[write, on_field(1, false, 7, 2, 3)],
+            false,
+        ),
+        (
+            "read beside the write",
+            &[long_write, on_field(1, false, 0, 2, 3)],
+            true,
+        ),
         (
             "new, then old",
-            &[long_write, on_field(1, false, 1, 2, 3), on_field(2, false, 0, 4, 5)],
+            &[
+                long_write,
+                on_field(1, false, 1, 2, 3),
+                on_field(2, false, 0, 4, 5),
+            ],
             false,
         ),
         (
             "two writes in the other order",
-            &[long_write, other_write, on_field(2, false, 2, 4, 5), on_field(2, false, 1, 10, 11)],
+            &[
+                long_write,
+                other_write,
+                on_field(2, false, 2, 4, 5),
+                on_field(2, false, 1, 10, 11),
+            ],
             true,
         ),
         (
             "first one write last, then the other",
-            &[long_write, other_write, on_field(2, false, 1, 10, 11), on_field(3, false, 2, 12, 13)],
+            &[
+                long_write,
+                other_write,
+                on_field(2, false, 1, 10, 11),
+                on_field(3, false, 2, 12, 13),
+            ],
             false,
         ),
     ];
     for (name, records, has) in histories {
         let places = order(rt.alloc(), records)?;
-        assert_eq!(&rt; places.map(|places| places.len()), has.then_some(records.len()), "{name}");
+        assert_eq!(&rt;
+            places.map(|places| places.len()),
+            has.then_some(records.len()),
+            "{name}"
+        );
     }
     Ok(())
 }

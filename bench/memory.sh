@@ -11,12 +11,16 @@ trap 'rm -rf "$work"' EXIT
 cat > "$work/refuse.c" <<'C'
 #define _GNU_SOURCE
 #include <dlfcn.h>
+#include <errno.h>
 #include <stdlib.h>
-#include <stdio.h>
 #include <stdatomic.h>
 #include <stddef.h>
+#include <fcntl.h>
+#include <unistd.h>
+#include <sys/mman.h>
 
-static atomic_long asked, held;
+// The counts stand in a file, since the program may end without a last word.
+static struct counts { atomic_long asked, held; } none, *counts = &none;
 static long refused;
 static void *(*real_malloc)(size_t), *(*real_calloc)(size_t, size_t), *(*real_realloc)(void *, size_t);
 static void *(*real_aligned)(size_t, size_t);
@@ -32,15 +36,18 @@ __attribute__((constructor)) static void begin(void) {
     real_free = dlsym(RTLD_NEXT, "free");
     const char *at = getenv("REFUSE");
     refused = at ? atol(at) : 0;
-    asked = held = 0;
+    int file = open(getenv("COUNTS"), O_RDWR | O_CREAT | O_TRUNC, 0600);
+    if (ftruncate(file, sizeof *counts) == 0)
+        counts = mmap(NULL, sizeof *counts, PROT_READ | PROT_WRITE, MAP_SHARED, file, 0);
+    close(file);
 }
 
-__attribute__((destructor)) static void end(void) {
-    fprintf(stderr, "asked %ld held %ld\n", atomic_load(&asked), atomic_load(&held));
+static int refuses(void) {
+    if (atomic_fetch_add(&counts->asked, 1) + 1 != refused) return 0;
+    errno = ENOMEM;
+    return 1;
 }
-
-static int refuses(void) { return atomic_fetch_add(&asked, 1) + 1 == refused; }
-static void *given(void *p) { if (p) atomic_fetch_add(&held, 1); return p; }
+static void *given(void *p) { if (p) atomic_fetch_add(&counts->held, 1); return p; }
 
 void *malloc(size_t n) { return refuses() ? NULL : given(real_malloc(n)); }
 void *aligned_alloc(size_t a, size_t n) { return refuses() ? NULL : given(real_aligned(a, n)); }
@@ -60,14 +67,14 @@ void *realloc(void *p, size_t n) {
     if (!p) given(q);
     return q;
 }
-void free(void *p) { if (p) atomic_fetch_sub(&held, 1); real_free(p); }
+void free(void *p) { if (p) atomic_fetch_sub(&counts->held, 1); real_free(p); }
 C
 cc -O1 -shared -fPIC -o "$work/refuse.so" "$work/refuse.c" -ldl
 turn() {
   local status=0
-  REFUSE=$1 LD_PRELOAD="$work/refuse.so" "$program" own 8 0 > "$work/out" 2> "$work/errors" || status=$?
-  echo "refused $1: status $status, $(tr '\n' ' ' < "$work/errors")"
+  REFUSE=$1 COUNTS=$work/counts LD_PRELOAD="$work/refuse.so" "$program" own 8 0 > "$work/out" 2> "$work/errors" || status=$?
+  read -r asked held <<< "$(od -An -t d8 "$work/counts")"
+  echo "refused $1: status $status, asked $asked, held $held, $(tr '\n' ' ' < "$work/errors")"
 }
 turn 0
-asked=$(sed -n 's/^asked \([0-9]*\) .*/\1/p' "$work/errors")
 for number in $(seq 1 "$asked"); do turn "$number"; done

@@ -1,4 +1,4 @@
-use Rattle.std.proofs.Common.{arith, ◌≡◌, ◌<◌, ◌≤◌}
+use Rattle.std.proofs.Common.{arith}
 use Rattle.shared_mix.proofs.history.have_all_seats.Goals as goal
 
 pub returns : goal.returns

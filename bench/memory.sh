@@ -5,7 +5,7 @@
 set -eu
 cd "$(dirname "$0")/.."
 program=$PWD/crates/shared_mix/out/shared_mix
-[ -x "$program" ] || { echo "first prove and build the program: (cd crates/shared_mix && rt run)"; exit 2; }
+[ -x "$program" ] || { echo "first prove and build the program: (cd crates/shared_mix && rt run -- own 2 2000)"; exit 2; }
 work=$(mktemp -d)
 trap 'rm -rf "$work"' EXIT
 cat > "$work/refuse.c" <<'C'

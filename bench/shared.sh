@@ -13,7 +13,7 @@ events=${3:-20000000}
 work=$(mktemp -d)
 trap 'rm -rf "$work"' EXIT
 rustc -O --edition 2024 -o "$work/plain" bench/shared.rs
-(cd crates/shared_mix && rt run) > "$work/log" 2>&1 || { tail -n 40 "$work/log"; exit 1; }
+(cd crates/shared_mix && rt run -- own 2 2000) > "$work/log" 2>&1 || { tail -n 40 "$work/log"; exit 1; }
 python3 - crates/shared_mix/out/shared_mix "$work/plain" "$rounds" "$turns" "$events" <<'PY'
 import os, re, subprocess, sys, time
 

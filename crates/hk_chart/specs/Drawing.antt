@@ -100,7 +100,7 @@ whole_mark p tasks one = stroke_text p one ++ title_text tasks one
 
 -- how large it is
 unfoldable pub size_text : (tasks : ℕ) → List ℕ
-size_text tasks = line (codes "viewBox=\"0 0 1180" ∷ decimal (height_of tasks + 230) ∷ codes "\">" ∷ [])
+size_text tasks = line (codes "viewBox=\"0 0 1200" ∷ decimal (height_of tasks + 230) ∷ codes "\">" ∷ [])
 
 unfoldable pub name_text : Span → (ticks : ℕ) → List ℕ
 name_text s ticks =
@@ -179,7 +179,7 @@ head_text = codes "<svg xmlns=\"http://www.w3.org/2000/svg\" role=\"img\" aria-l
 
 -- what it shows in words, its colours, and where the names of the lanes begin
 abbrev pub style_text : List ℕ
-style_text = codes "<desc id=\"desc\">One lane for each task, one for the collector and one for nobody, along an axis of ticks. A rectangle is a run of ticks of one lane. Upright strokes are arrivals, ends and deadlines of jobs, outputs and faults, and lost attempts of the collector. Below: how many ticks the collector had so far, and how many nobody had.</desc>\n<style>\npath{fill:none}\n.high{stroke:#0072b2}.low{stroke:#56b4e9}.collector{stroke:#009e73}.lost{stroke:#d55e00}.nobody{stroke:#cccccc}\n.high,.low,.collector,.lost,.nobody{stroke-width:14}\n.arrival,.end,.deadline,.out,.fault,.mark,.grid,.collected,.idle{vector-effect:non-scaling-stroke}\n.arrival{stroke:#000000;stroke-width:1.5;stroke-dasharray:2 2}.end{stroke:#000000;stroke-width:2}\n.deadline{stroke:#d55e00;stroke-width:2;stroke-dasharray:6 3}\n.out{stroke:#e69f00;stroke-width:3}.fault{stroke:#cc79a7;stroke-width:5}.mark{stroke:#000000;stroke-width:1}\n.grid{stroke:#dddddd;stroke-width:1}.axis{text-anchor:middle;font-size:11px}\n.collected{stroke:#009e73;stroke-width:2}.idle{stroke:#777777;stroke-width:2;stroke-dasharray:5 3}\n</style>\n<rect width=\"100%\" height=\"100%\" fill=\"#ffffff\"/>\n<text x=\"8\" y=\"30\">\n"
+style_text = codes "<desc id=\"desc\">One lane for each task, one for the collector and one for nobody, along an axis of ticks. A rectangle is a run of ticks of one lane. Upright strokes are arrivals, ends and deadlines of jobs, outputs and faults, and lost attempts of the collector. Below: how many ticks the collector had so far, and how many nobody had.</desc>\n<style>\npath{fill:none}\n.high{stroke:#0072b2}.low{stroke:#56b4e9}.collector{stroke:#009e73}.lost{stroke:#d55e00}.nobody{stroke:#cccccc}\n.high,.low,.collector,.lost,.nobody{stroke-width:14}\n.arrival,.end,.deadline,.out,.fault,.mark,.grid,.collected,.idle{vector-effect:non-scaling-stroke}\n.arrival{stroke:#000000;stroke-width:1.5;stroke-dasharray:2 2}.end{stroke:#000000;stroke-width:2}\n.deadline{stroke:#d55e00;stroke-width:2;stroke-dasharray:6 3}\n.out{stroke:#e69f00;stroke-width:3}.fault{stroke:#cc79a7;stroke-width:5}.mark{stroke:#d55e00;stroke-width:2}\n.grid{stroke:#dddddd;stroke-width:1}.axis{text-anchor:middle;font-size:11px}\n.collected{stroke:#009e73;stroke-width:2}.idle{stroke:#777777;stroke-width:2;stroke-dasharray:5 3}\n</style>\n<rect width=\"100%\" height=\"100%\" fill=\"#ffffff\"/>\n<text x=\"8\" y=\"30\">\n"
 
 -- the names of the curves, and a frame round them
 abbrev pub caption_text : List ℕ

@@ -299,7 +299,7 @@ pub fn size_line(tasks: u8) -> Line
     ensures { result ≡ size_text tasks }
 {
     let mut line = Line::new();
-    add_word(&mut line, b"viewBox=\"0 0 1180");
+    add_word(&mut line, b"viewBox=\"0 0 1200");
     add_number(&mut line, height_of(tasks) + 230);
     add_word(&mut line, b"\">");
     end(&mut line);

@@ -96,6 +96,16 @@ fn expect(
     Ok(())
 }
 
+/// Whether a line begins with one of some words.
+fn begins(line: &str, kinds: &[&str]) -> bool {
+    for kind in kinds {
+        if line.starts_with(*kind) {
+            return true;
+        }
+    }
+    false
+}
+
 /// Compares the lines of a picture that begin with one of some words, in their order.
 fn expect_lines(
     rt: &impl Abort,
@@ -108,13 +118,19 @@ fn expect_lines(
     let ended = run(alloc, words, input, (&[], &[]), 100_000)?;
     assert_eq!(rt; ended.charted, Charted::Done, "{input}");
     let text = str::from_utf8(ended.sink.bytes())?;
-    let mut found: Vec<&str> = Vec::new(alloc);
+    let mut found = String::new(alloc);
     for line in text.lines() {
-        if kinds.iter().any(|kind| line.starts_with(kind)) {
-            found.push(line)?;
+        if begins(line, kinds) {
+            found.push_str(line)?;
+            found.push('\n')?;
         }
     }
-    assert_eq!(rt; found.as_slice(), lines, "{text}");
+    let mut wanted = String::new(alloc);
+    for line in lines {
+        wanted.push_str(line)?;
+        wanted.push('\n')?;
+    }
+    assert_eq!(rt; found, wanted, "{text}");
     Ok(())
 }
 

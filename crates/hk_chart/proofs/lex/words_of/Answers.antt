@@ -1,0 +1,11 @@
+-- The chain gives the words.
+use Rattle.std.proofs.Common.{rules, tests}
+use Rattle.std.specs.Prelude.{◌==◌}
+use Rattle.std.proofs.lemmas.Iterator.Consumers.{map_from_collect}
+use Rattle.std.proofs.lemmas.Iterator.Splits.{YieldsList-from_slice_split}
+use Rattle.hk_chart.proofs.lex.words_of.Goals as goal
+
+pub returns : goal.returns
+returns c =
+    map_from_collect _ c.collect.ensures.ran
+    (YieldsList-from_slice_split _ (λ byte. byte == 32) c.args.line.now (cc) c.split.ensures.done c.split.ensures.closure (λ x b q k. search (rules, tests)))

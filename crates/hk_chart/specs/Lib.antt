@@ -1,0 +1,9 @@
+pub mod Words
+pub mod Trace
+pub mod Progress
+pub mod Shapes
+pub mod Chart
+pub mod Reading
+pub mod Drawing
+pub mod Framed
+pub mod Tool

@@ -1,7 +1,7 @@
 -- The eight parts of a picture, one behind another.
 use Rattle.std.proofs.Common.{◌≡◌, ℕ, List, [], ◌++◌, Option, subst}
 use Rattle.hk_io.specs.Bytes.{AppendsPrefix, AppendsFront}
-use Rattle.hk_io.proofs.BytesLemmas.{AppendsPrefix-append, AppendsFront-trans, AppendsPrefix-behind}
+use Rattle.hk_io.proofs.BytesLemmas.{AppendsPrefix-append}
 
 -- nothing waited before
 pub begun : (a b : Option (List ℕ)) (waiting text rest : List ℕ) → waiting ≡ [] → AppendsFront a b (waiting ++ text) rest → AppendsFront a b ([] ++ text) rest

@@ -1,5 +1,5 @@
 -- From how a text was written to what the top call promises.
-use Rattle.std.proofs.Common.{◌≡◌, ℕ, ◌⊎◌, inl, inr, List, [], ◌++◌, map, Option, Some, None, Result, Ok, Err, refl, sym, ap, ◌∙◌, subst, String, Global}
+use Rattle.std.proofs.Common.{◌≡◌, ℕ, ◌⊎◌, inl, inr, List, [], ◌++◌, map, Option, Some, None, Ok, Err, refl, sym, ap, ◌∙◌, subst, String, Global}
 use Rattle.std.specs.Prelude.{IfSome, string_bytes}
 use Rattle.hk_chart.specs.declared.chart.Chart.{Chart}
 use Rattle.hk_chart.specs.declared.charted.Charted.{Charted}
@@ -11,7 +11,7 @@ use Rattle.hk_chart.specs.declared.span.Span.{Span}
 use Rattle.hk_chart.specs.declared.window.Window.{Window}
 use Rattle.hk_chart.specs.Drawing.{span_of, picture, texts_of, top_text, middle_text, between_text}
 use Rattle.hk_chart.specs.Framed.{IsFrame, framed}
-use Rattle.hk_chart.specs.Reading.{opening_reader, read_on, HasRead}
+use Rattle.hk_chart.specs.Reading.{HasRead}
 use Rattle.hk_chart.specs.Tool.{window_of, usage_line, stop_line, end_of, text_of, WindowCallsFor, CallsFor, HasText, Calls, Writes, WritesPrefix, Ends}
 
 -- the texts around the shapes make the picture

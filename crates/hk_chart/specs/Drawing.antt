@@ -1,5 +1,5 @@
 -- THE PICTURE: the text of an SVG. All numbers in it are whole; in the plots a unit across is a tick, and the browser scales.
-use Rattle.std.specs.Prelude.{ℕ, zero, suc, ◌+◌, ◌-◌, ◌*◌, ◌/◌, min, max, Bool, true, false, nat_lt, if◌then◌else◌, List, [], ◌∷◌, ◌++◌, length, take, codes, decimal, Option, Some, None}
+use Rattle.std.specs.Prelude.{ℕ, zero, suc, ◌+◌, ◌-◌, ◌*◌, ◌/◌, min, max, Bool, true, false, nat_lt, if◌then◌else◌, List, [], ◌∷◌, ◌++◌, take, codes, decimal}
 use Rattle.std.specs.List.{flat_map}
 use Rattle.hk_chart.specs.declared.chart.Chart.{Chart}
 use Rattle.hk_chart.specs.declared.picture.Part.{Part}

@@ -1,5 +1,5 @@
 -- HOW A TRACE IS READ: byte by byte, each line at its newline.
-use Rattle.std.specs.Prelude.{◌≡◌, ℕ, ◌+◌, ◌<◌, ◌≤◌, Bool, true, false, ◌&&◌, nat_lt, nat_le, ◌==◌, if◌then◌else◌, List, [], ◌∷◌, ◌++◌, length, Option, Some, None, Result, Ok, Err, IfSome}
+use Rattle.std.specs.Prelude.{◌≡◌, ℕ, ◌+◌, ◌≤◌, ◌&&◌, nat_lt, nat_le, ◌==◌, if◌then◌else◌, List, [], ◌∷◌, ◌++◌, length, Option, Some, None, Result, Ok, Err, IfSome}
 use Rattle.hk_io.specs.declared.line.TheConstants.{LINE_ROOM}
 use Rattle.hk_chart.specs.declared.chart.Chart.{Chart}
 use Rattle.hk_chart.specs.declared.reader.Reader.{Reader}

@@ -1,5 +1,5 @@
 -- WHAT IS DRAWN of each line of a trace.
-use Rattle.std.specs.Prelude.{ℕ, ◌+◌, ◌-◌, Bool, true, false, ◌&&◌, ◌||◌, nat_lt, nat_le, ◌==◌, if◌then◌else◌, List, [], ◌∷◌, ◌++◌, slice_index_or, Option, Some, None}
+use Rattle.std.specs.Prelude.{ℕ, ◌+◌, ◌-◌, Bool, true, false, ◌&&◌, nat_le, ◌==◌, if◌then◌else◌, List, [], ◌∷◌, ◌++◌, slice_index_or, Option, Some, None}
 use Rattle.hk_chart.specs.declared.shape.Lane.{Lane}
 use Rattle.hk_chart.specs.declared.shape.Lane.TheVariants as lane
 use Rattle.hk_chart.specs.declared.shape.Bar.{Bar}

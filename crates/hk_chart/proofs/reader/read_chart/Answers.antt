@@ -1,7 +1,6 @@
 -- What was read so far, and what it came to.
-use Rattle.std.proofs.Common.{◌≡◌, ℕ, take, Option, Result, Ok, Err, ap, ◌∙◌, subst, rules}
+use Rattle.std.proofs.Common.{◌≡◌, ℕ, take, Option, Err, ap, ◌∙◌, subst, rules}
 use Rattle.std.specs.Io.KnownBytes.{IsAtEnd}
-use Rattle.hk_chart.specs.declared.chart.Chart.{Chart}
 use Rattle.hk_chart.specs.declared.reader.Stop.{Stop}
 use Rattle.hk_chart.specs.Reading.{HasTaken, HasRead}
 use Rattle.hk_chart.proofs.Taking.{same_stop, comes_more, comes_end, comes_stop, drawn_if}

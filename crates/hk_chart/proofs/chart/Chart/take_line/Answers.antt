@@ -1,8 +1,7 @@
 -- A line that isn't one of a trace, one that may not follow, and one that does.
-use Rattle.std.proofs.Common.{◌≡◌, List, Some, sym, ap, ◌∙◌}
+use Rattle.std.proofs.Common.{List, sym, ap, ◌∙◌}
 use Rattle.hk_chart.specs.declared.task.Task.{Task}
 use Rattle.hk_chart.specs.Shapes.{deadline_of}
-use Rattle.hk_chart.specs.Trace.{line_of}
 use Rattle.hk_chart.specs.Words.{words_of}
 use Rattle.hk_chart.proofs.Followed.{said_is, second_is, not_said, not_there, follows}
 use Rattle.hk_chart.proofs.chart.Chart.take_line.Goals as goal

@@ -1,0 +1,4 @@
+pub mod Turning
+pub mod Going
+pub mod Through
+pub mod Joining

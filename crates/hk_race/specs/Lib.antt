@@ -1,0 +1,4 @@
+pub mod Turns
+pub mod Course
+pub mod Says
+pub mod Goes

@@ -1,0 +1,14 @@
+//! The scripts of a task sheet, each on a thread of its own, over one shared heap.
+#![tactic(auto)]
+
+mod desk;
+mod gate;
+mod note;
+mod progress;
+mod shared;
+mod worker;
+
+pub use desk::{Desk, MOST_CALLS, Said};
+pub use gate::{Gate, Open};
+pub use note::Note;
+pub use progress::Progress;

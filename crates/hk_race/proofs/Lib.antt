@@ -5,3 +5,5 @@ pub mod Joining
 pub mod Rows
 pub mod Living
 pub mod Sheets
+pub mod Lists
+pub mod Coming

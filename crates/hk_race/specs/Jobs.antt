@@ -38,6 +38,12 @@ pub record ComesBack (h : Table) (job : Job) (ended : Ended) : Type 0 where
   pub seat : (known ended.pass).seat ≡ (known job.pass).seat
   pub told : IfSome ended.told (TellsTask h.geometry (shown job.task) (known job.pass).seat (known ended.pass).seen)
 
+-- the pass of a seat, and what its worker tells
+pub record IsBack (h : Table) (sheet : Sheet) (seat : ℕ) (pass : Pass) (own : Progress) : Type 0 where
+  pub is : IsPassOf h pass
+  pub seat_is : (known pass).seat ≡ seat
+  pub told : TellsTask h.geometry (task_at sheet seat) seat (known pass).seen own
+
 -- what came back, by seats: the passes, and what was told of their tasks
 pub record Parts (ended : List Ended) (passes : List Pass) (told : List Progress) : Type 0 where
   pub passes_are : length passes ≡ length ended

@@ -53,6 +53,13 @@ pub(crate) struct Swept {
     pub live: Option<u64>,
 }
 
+/// The passes that came back, and what was told of their tasks, by seats.
+#[derive(Drop)]
+pub(crate) struct Parted {
+    pub passes: Vec<Pass>,
+    pub told: Vec<Progress>,
+}
+
 /// What a race came to.
 #[derive(Drop)]
 pub struct Raced {
@@ -199,24 +206,28 @@ fn jobs_of<'a>(
     Ok(jobs)
 }
 
-/// The passes that came back, and what was told of their tasks, by seats; None where a worker found no memory.
-fn parted(
-    alloc: Global,
-    ended: Vec<Ended>,
-) -> Result<Option<(Vec<Pass>, Vec<Progress>)>, AllocError>
-    ensures { IfOk result (λ found. IfSome found (λ parts. Parts ended.items parts.0.items parts.1.items)) }
+/// The passes that came back, and what was told of their tasks, by seats. Where a worker found no memory there is none here.
+fn taken_apart(alloc: Global, ended: Vec<Ended>) -> Result<Parted, Memory>
+    ensures { IfOk result (λ parts. Parts ended.items parts.passes.items parts.told.items) }
 {
     let mut passes = Vec::new(alloc);
     let mut all = Vec::new(alloc);
     for one in ended {
         let Ended { pass, told } = one;
         let Some(own) = told else {
-            return Ok(None);
+            return Err(Memory);
         };
         passes.push(pass)?;
         all.push(own)?;
     }
-    Ok(Some((passes, all)))
+    Ok(Parted { passes, told: all })
+}
+
+/// The words that a sheet declares live.
+fn declared(sheet: &Sheet) -> u64
+    ensures { result ≡ sheet.now.heap.live }
+{
+    u64::from(sheet.heap.live)
 }
 
 /// The text of a sheet, by what was told of its tasks.
@@ -236,7 +247,7 @@ fn text_of(
         let task = task_at(sheet, seat);
         tell(&mut text, task.name, &told[seat])?;
     }
-    tell_end(&mut text, u64::from(sheet.heap.live), live)?;
+    tell_end(&mut text, declared(sheet), live)?;
     Ok(text)
 }
 
@@ -255,15 +266,14 @@ pub fn compete<R: Threads + Wait + Sync, G: Gate>(
     requires short { HasNoLong sheet.now }
     requires sizes { HasSizes heap.geometry (sizes_of sheet.now) }
     requires open { Opens heap.geometry heap passes.items keeper }
-    ensures { IfOk result (λ raced. IsRace heap.entry sheet.now raced) }
+    ensures { IfOk result (λ raced. IsRace heap sheet.now raced) }
 {
     let jobs = jobs_of(alloc, &heap, sheet, passes)?;
     let (ended, swept) = run_all(rt, alloc, &heap, gate, jobs, keeper);
-    let Some((passes, told)) = parted(alloc, ended?)? else {
-        return Err(Memory);
-    };
-    let text = text_of(alloc, sheet, told.as_slice(), swept.live)?;
-    let closed = close(heap, passes, swept.keeper);
+    let ended = ended?;
+    let parts = taken_apart(alloc, ended)?;
+    let text = text_of(alloc, sheet, parts.told.as_slice(), swept.live)?;
+    let closed = close(heap, parts.passes, swept.keeper);
     Ok(Raced {
         closed,
         live: swept.live,

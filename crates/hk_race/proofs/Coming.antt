@@ -2,9 +2,13 @@
 use Rattle.std.proofs.Common.{◌≡◌, ℕ, ◌<◌, ◌≤◌, ◌+◌, List, [], ◌∷◌, ◌++◌, length, refl, sym, ◌∙◌, ap, subst, arith, inl, inr, Option, Some, None, zero, suc, append-nil, append_assoc}
 use Rattle.std.proofs.lemmas.Bool.{cases_lt}
 use Rattle.std.proofs.lemmas.List.Elements.{filter-append}
-use Rattle.std.specs.Prelude.{slice_index_or, IfSome, All, nat_eq, codes}
+use Rattle.std.specs.Prelude.{slice_index_or, IfSome, All, nat_eq, codes, nat_lt, min, not, ◌||◌, ◌==◌, ◌%◌, if◌then◌else◌, Bool, true, false}
 use Rattle.hk_words.specs.declared.geometry.Geometry.{Geometry}
-use Rattle.hk_words.specs.Geometry.{tasks, HasSizes}
+use Rattle.std.proofs.lemmas.Bool.Decides.{nat_tests}
+use Rattle.hk_words.specs.Geometry.{tasks, HasSizes, Sizes, first_error}
+use Rattle.hk_words.specs.declared.geometry.GeoError.{GeoError}
+use Rattle.hk_words.specs.declared.geometry.GeoError.TheVariants as geometry
+use Rattle.hk_sheet.specs.Valid.{IsSheet}
 use Rattle.hk_sheet.specs.Faults.{sizes_of}
 use Rattle.hk_race.proofs.Sheets.{tasks_count}
 use Rattle.hk_model.specs.Heap.{Heap, opening_of}
@@ -210,6 +214,29 @@ unfolding race_text
 text_whole sheet g history live declared seat before now last is was adds =
     adds ∙ (λ i. (was ∙ ap (tasks_text sheet g history) last) i ++ (live_text (is i) live ++ line (codes "end" ∷ [])))
 
--- as many seats as tasks
-pub seats_count : (g : Geometry) (sheet : Sheet) → HasSizes g (sizes_of sheet) → tasks g ≡ length (tasks_of sheet)
-seats_count g sheet sizes = let count = tasks_count sheet in omega (arith, count, sizes.high, sizes.low)
+-- as many seats as tasks: a sheet that can be read has few
+few_in : (fields : ℕ) (s : Sizes) → first_error fields s ≡ None → s.high + s.low ≤ 31
+few_in fields s is =
+    by_tests (not (s.live % 2 == 0) || not (s.alloc % 2 == 0)) (nat_lt s.live (1 + s.refs + s.nums) || nat_lt s.alloc 16) (nat_lt 65536 s.live || nat_lt 65536 s.alloc) (nat_lt s.alloc s.reserve)
+        (s.high + s.low == 0) (nat_lt 31 (s.high + s.low)) refl _ is
+  where
+    by_tests : (a b d e f x : Bool) → nat_lt 31 (s.high + s.low) ≡ x → (rest : Option GeoError)
+        → (if a then Some geometry.Odd else if b then Some geometry.Small else if d then Some geometry.Large else if e then Some geometry.Reserve else if f || x then Some geometry.Tasks else rest) ≡ None → s.high + s.low ≤ 31
+    by_tests true b d e f x test rest is = absurd (cc)
+    by_tests false true d e f x test rest is = absurd (cc)
+    by_tests false false true e f x test rest is = absurd (cc)
+    by_tests false false false true f x test rest is = absurd (cc)
+    by_tests false false false false true x test rest is = absurd (cc)
+    by_tests false false false false false true test rest is = absurd (cc)
+    by_tests false false false false false false test rest is = grind (arith, nat_tests)
+
+pub seats_count : (g : Geometry) (sheet : Sheet) → IsSheet sheet → HasSizes g (sizes_of sheet) → tasks g ≡ length (tasks_of sheet)
+seats_count g sheet valid sizes =
+    let count = tasks_count sheet in
+    let few = few_in sheet.heap.fields (sizes_of sheet) valid.geometry in
+    let high = uncapped (length sheet.high) (omega (arith, few)) in
+    let low = uncapped (length sheet.low) (omega (arith, few)) in
+    omega (arith, count, sizes.high, sizes.low, high, low)
+  where
+    uncapped : (n : ℕ) → min n 255 ≤ 31 → min n 255 ≡ n
+    uncapped n few = grind arith

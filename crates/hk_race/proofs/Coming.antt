@@ -27,8 +27,8 @@ use Rattle.hk_table.specs.Ends.{ClosedBy, HasAllSeats, log_of, run_of}
 use Rattle.hk_table.specs.Passes.{IsPassOf, IsKeeperOf, known, kept}
 use Rattle.hk_table.specs.Rule.{fresh, StandsIn}
 use Rattle.hk_table.proofs.Keeps.{run_more, acts_alone}
-use Rattle.hk_race.specs.declared.compete.Job.{Job}
-use Rattle.hk_race.specs.declared.compete.Ended.{Ended}
+use Rattle.hk_race.specs.declared.competing.Job.{Job}
+use Rattle.hk_race.specs.declared.competing.Ended.{Ended}
 use Rattle.hk_race.specs.declared.progress.Progress.{Progress}
 use Rattle.hk_race.specs.declared.tasks.Held.{Held}
 use Rattle.hk_race.specs.Course.{course}
@@ -97,7 +97,6 @@ module _ (h : Table) (sheet : Sheet) (jobs : List Job) (ended : List Ended) (pas
     (count : length ended ≡ length jobs)
     (back : (i : ℕ) (d : Ended) (j : Job) → i < length jobs → ComesBack h (slice_index_or jobs i j) (slice_index_or ended i d))
     (parts : Parts ended passes all) where
-
   pub back_at : (seat : ℕ) (p : Pass) (own : Progress) → seat < length jobs → IsBack h sheet seat (slice_index_or passes seat p) (slice_index_or all seat own)
   back_at seat p own below =
       let j = item jobs seat below in
@@ -111,7 +110,7 @@ module _ (h : Table) (sheet : Sheet) (jobs : List Job) (ended : List Ended) (pas
       let came_pass : IsPassOf h pass' = subst (IsPassOf h) part.0 came.pass in
       let seat_of : (known pass').seat ≡ seat = ap (λ (x : Pass). (known x).seat) (sym part.0) ∙ came.seat ∙ is.seat_is in
       let tells : TellsTask h.geometry (shown job.task) (known job.pass).seat (known (slice_index_or ended seat d).pass).seen own' =
-          subst (λ (o : Option Progress). IfSome o (TellsTask h.geometry (shown job.task) (known job.pass).seat (known (slice_index_or ended seat d).pass).seen)) part.1 came.told in
+      subst (λ (o : Option Progress). IfSome o (TellsTask h.geometry (shown job.task) (known job.pass).seat (known (slice_index_or ended seat d).pass).seen)) part.1 came.told in
       record {
         is = came_pass;
         seat_is = seat_of;
@@ -147,12 +146,11 @@ module _ (h : Table) (sheet : Sheet) (jobs : List Job) (ended : List Ended) (pas
       let stands : StandsIn (log_of c) (run_of c) (known pass').seat (known pass').log (known pass').seen (known pass').mine = closed.each seat p there in
       let later = stands.saw.0 in
       let same : of_seat ((known pass').seen ++ later) seat ≡ of_seat (known pass').seen seat =
-          ap (λ (x : History). of_seat x seat) (sym stands.saw.1) ∙ ap (of_seat (run_of c).history) (sym one.seat_is) ∙ stands.all_mine ∙ sym stands.seen_mine ∙ ap (of_seat (known pass').seen) one.seat_is in
-      let none : of_seat later seat ≡ [] = none_later (known pass').seen later seat same in
-      (
+      ap (λ (x : History). of_seat x seat) (sym stands.saw.1) ∙ ap (of_seat (run_of c).history) (sym one.seat_is) ∙ stands.all_mine ∙ sym stands.seen_mine ∙ ap (of_seat (known pass').seen) one.seat_is in
+      let none : of_seat later seat ≡ [] = none_later (known pass').seen later seat same in (
         after (opening_of h.geometry) (known pass').seen,
         ap (λ (x : Geometry). course (task_at sheet seat).script (task_at sheet seat).jobs (opening_of x) seat (run_of c).history) is
-        ∙ ap (course (task_at sheet seat).script (task_at sheet seat).jobs (opening_of h.geometry) seat) stands.saw.1 ∙ one.told later none,
+            ∙ ap (course (task_at sheet seat).script (task_at sheet seat).jobs (opening_of h.geometry) seat) stands.saw.1 ∙ one.told later none,
       )
 
 -- THE TEXT
@@ -218,7 +216,7 @@ text_whole sheet g history live declared seat before now last is was adds =
 few_in : (fields : ℕ) (s : Sizes) → first_error fields s ≡ None → s.high + s.low ≤ 31
 few_in fields s is =
     by_tests (not (s.live % 2 == 0) || not (s.alloc % 2 == 0)) (nat_lt s.live (1 + s.refs + s.nums) || nat_lt s.alloc 16) (nat_lt 65536 s.live || nat_lt 65536 s.alloc) (nat_lt s.alloc s.reserve)
-        (s.high + s.low == 0) (nat_lt 31 (s.high + s.low)) refl _ is
+    (s.high + s.low == 0) (nat_lt 31 (s.high + s.low)) refl _ is
   where
     by_tests : (a b d e f x : Bool) → nat_lt 31 (s.high + s.low) ≡ x → (rest : Option GeoError)
         → (if a then Some geometry.Odd else if b then Some geometry.Small else if d then Some geometry.Large else if e then Some geometry.Reserve else if f || x then Some geometry.Tasks else rest) ≡ None → s.high + s.low ≤ 31

@@ -109,14 +109,14 @@ pub goes_done : (start : Heap) (seat : ℕ) (script : List Statement) (seen now 
     → Goes start seat (stepped script seat) seen now own (record own { walk = w })
 goes_done start seat script seen now own c r w going is replied after_is =
     goes_called start seat script seen own (record own { walk = w }) going c now replied.saw is (λ later.
-        rw (replied.reply_is, fits_full c r replied.fits, after_is) refl)
+    rw (replied.reply_is, fits_full c r replied.fits, after_is) refl)
 
 pub goes_full : (start : Heap) (seat : ℕ) (script : List Statement) (seen now : History) (own : Progress) (c : Call) (words : ℕ) → own.full ≡ None
     → need_of script own.walk ≡ Some (need.Heap c) → FoundFull start seat c seen now words
     → Goes start seat (stepped script seat) seen now own (record own { full = Some words })
 goes_full start seat script seen now own c words going is refused =
     goes_called start seat script seen own (record own { full = Some words }) going c now refused.saw is (λ later.
-        rw (refused.full, refused.words_are) refl)
+    rw (refused.full, refused.words_are) refl)
 
 -- a call that is refused ends the job
 pub goes_nil : (start : Heap) (seat : ℕ) (script : List Statement) (seen now : History) (own own_now : Progress) (c : Call) (statement : ℕ) → own.full ≡ None
@@ -125,7 +125,7 @@ pub goes_nil : (start : Heap) (seat : ℕ) (script : List Statement) (seen now :
     → Goes start seat (stepped script seat) seen now own own_now
 goes_nil start seat script seen now own own_now c statement going is refused at ends =
     subst (λ (h : History). Goes start seat (stepped script seat) seen h own own_now) (sym refused.0)
-        (goes_refused start seat script seen own own_now going c reply.Nil is refused.1 (λ later. rw (ends.walk, ends.notes, ends.jobs, ends.full, at) refl))
+    (goes_refused start seat script seen own own_now going c reply.Nil is refused.1 (λ later. rw (ends.walk, ends.notes, ends.jobs, ends.full, at) refl))
 
 pub goes_field : (start : Heap) (seat : ℕ) (script : List Statement) (seen now : History) (own own_now : Progress) (c : Call) (statement : ℕ) → own.full ≡ None
     → need_of script own.walk ≡ Some (need.Heap c) → (now ≡ seen) × (reply_of (after start seen) seat c ≡ reply.Field) → statement ≡ own.walk.place + 1
@@ -133,7 +133,7 @@ pub goes_field : (start : Heap) (seat : ℕ) (script : List Statement) (seen now
     → Goes start seat (stepped script seat) seen now own own_now
 goes_field start seat script seen now own own_now c statement going is refused at ends =
     subst (λ (h : History). Goes start seat (stepped script seat) seen h own own_now) (sym refused.0)
-        (goes_refused start seat script seen own own_now going c reply.Field is refused.1 (λ later. rw (ends.walk, ends.notes, ends.jobs, ends.full, at) refl))
+    (goes_refused start seat script seen own own_now going c reply.Field is refused.1 (λ later. rw (ends.walk, ends.notes, ends.jobs, ends.full, at) refl))
 
 -- STATEMENTS THAT TAKE NO TURN
 pub goes_end : (start : Heap) (seat : ℕ) (script : List Statement) (seen : History) (own : Progress) → own.full ≡ None → need_of script own.walk ≡ None
@@ -252,8 +252,8 @@ pub goes_job : (start : Heap) (seat : ℕ) (script : List Statement) (cost : ℕ
 unfolding job_done
 goes_job start seat script cost s0 s1 o0 o1 o2 w going is cost_is p q =
     subst (λ (n : ℕ). Goes start seat (λ c. ended script (times n (stepped script seat) (begun c))) s0 s1 o0 o2) cost_is
-        (goes_then start seat (λ c. times cost (stepped script seat) (begun c)) (ended script) s0 s1 s1 o0 o1 o2
-            (goes_then start seat begun (times cost (stepped script seat)) s0 s0 s1 o0 (record o0 { walk = w }) o1 (goes_begun start seat s0 o0 w going is) p) q)
+    (goes_then start seat (λ c. times cost (stepped script seat) (begun c)) (ended script) s0 s1 s1 o0 o1 o2
+    (goes_then start seat begun (times cost (stepped script seat)) s0 s0 s1 o0 (record o0 { walk = w }) o1 (goes_begun start seat s0 o0 w going is) p) q)
 
 -- a task that has stopped stays so over further jobs
 pub job_still : (script : List Statement) (seat : ℕ) (c : Course) → is_some c.full ≡ true → job_done script seat c ≡ c

@@ -65,9 +65,9 @@ called_saw g p q c outcome stands idle question fit called =
     let last : of_seat (called.before ++ e ∷ []) p.seat ≡ of_seat called.before p.seat ++ e ∷ [] = filter-append (λ x. nat_eq x.seat p.seat) called.before (e ∷ []) ∙ rw at refl in
     let before : of_seat called.before p.seat ≡ p.mine = ends (of_seat called.before p.seat) p.mine e (sym last ∙ ap (λ (h : History). of_seat h p.seat) (sym called.seen) ∙ own) in
     let none : of_seat others p.seat ≡ [] = nothing_more (of_seat p.seen p.seat) (of_seat others p.seat)
-        (stands.stands.seen_mine ∙ sym before ∙ ap (λ (h : History). of_seat h p.seat) called.saw.1 ∙ filter-append (λ x. nat_eq x.seat p.seat) p.seen others) in
+    (stands.stands.seen_mine ∙ sym before ∙ ap (λ (h : History). of_seat h p.seat) called.saw.1 ∙ filter-append (λ x. nat_eq x.seat p.seat) p.seen others) in
     let finds : FindsField (reply_of (after (opening_of g) p.seen) p.seat c) =
-        subst (λ (o : Option Fault). TellsPlain o (reply_of (after (opening_of g) p.seen) p.seat c)) called.accepted (tells_so g p stands idle c question fit) in (
+    subst (λ (o : Option Fault). TellsPlain o (reply_of (after (opening_of g) p.seen) p.seat c)) called.accepted (tells_so g p stands idle c question fit) in (
       record {
         others = others;
         entry = e;

@@ -132,3 +132,10 @@ is_held sheet seat x t fits is cost jobs few = record {
   jobs = jobs;
   few = few;
 }
+
+pub high_is : (sheet : Sheet) (seat ticks : ℕ) (task : High) → seat < length sheet.high → ((d : High) → slice_index_or sheet.high seat d ≡ task) → ticks ≡ sheet.ticks → task_at sheet seat ≡ of_high ticks task
+high_is sheet seat ticks task below at is = high_at sheet seat task below ∙ (λ i. of_high (sym is i) (at task i))
+
+pub low_is : (sheet : Sheet) (seat place ticks : ℕ) (task : Low) → seat ≡ length sheet.high + place → place < length sheet.low → ((d : Low) → slice_index_or sheet.low place d ≡ task) → ticks ≡ sheet.ticks
+    → task_at sheet seat ≡ of_low ticks task
+low_is sheet seat place ticks task where' below at is = low_at sheet seat place task where' below ∙ (λ i. of_low (sym is i) (at task i))

@@ -66,7 +66,7 @@ fits_need fields registers (need.Ask c) h = (a_question c h.1, h.0)
 pub call_fits : (registers : ℕ) (script : List Statement) (w : Walk) (n : Need) → RunsOn registers script → need_of script w ≡ Some n → CallFits registers (Some n)
 call_fits registers script w n runs is =
     let fit : IfSome (Some n) (NeedFits (limits_of runs.fields registers)) = subst (λ (o : Option Need). IfSome o (NeedFits (limits_of runs.fields registers))) is
-        (needs.need_fits (limits_of runs.fields registers) script w runs.is) in
+    (needs.need_fits (limits_of runs.fields registers) script w runs.is) in
     fits_need runs.fields registers n fit
 
 -- A NEED TAKES A TICK AT LEAST

@@ -9,8 +9,6 @@ use Rattle.hk_model.specs.History.{Entry, History, after, after_entry, of_seat}
 use Rattle.hk_race.specs.Turns.{Turn, turn, turns}
 use Rattle.hk_race.specs.Says.{Saw}
 
-
-
 pub turns-append : (h : Heap) (s : ℕ) (first later : History) → turns h s (first ++ later) ≡ turns h s first ++ turns (after h first) s later
 unfolding after
 turns-append h s [] later = refl

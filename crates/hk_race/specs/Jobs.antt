@@ -7,8 +7,8 @@ use Rattle.hk_sheet.specs.declared.sheet.Sheet.{Sheet}
 use Rattle.hk_table.specs.declared.heap.Heap.{Heap as Table}
 use Rattle.hk_table.specs.declared.pass.Pass.{Pass}
 use Rattle.hk_table.specs.Passes.{IsPassOf, known}
-use Rattle.hk_race.specs.declared.compete.Job.{Job}
-use Rattle.hk_race.specs.declared.compete.Ended.{Ended}
+use Rattle.hk_race.specs.declared.competing.Job.{Job}
+use Rattle.hk_race.specs.declared.competing.Ended.{Ended}
 use Rattle.hk_race.specs.declared.progress.Progress.{Progress}
 use Rattle.hk_race.specs.Course.{course}
 use Rattle.hk_race.specs.Goes.{course_of, TellsCourse}

@@ -7,7 +7,7 @@ use Rattle.hk_table.specs.declared.keeper.Keeper.{Keeper}
 use Rattle.hk_table.specs.declared.pass.Pass.{Pass}
 use Rattle.hk_table.specs.Ends.{ClosedBy, HasAllSeats, log_of, run_of}
 use Rattle.hk_table.specs.Passes.{IsPassOf, IsKeeperOf, kept}
-use Rattle.hk_race.specs.declared.compete.Raced.{Raced}
+use Rattle.hk_race.specs.declared.competing.Raced.{Raced}
 use Rattle.hk_race.specs.Lives.{live_of}
 use Rattle.hk_race.specs.Text.{race_text}
 

@@ -29,10 +29,12 @@ pub enum Said {
 pub trait Desk {
     /// The geometry of the heap, and the task's seat.
     ghost geometry: { Self → Geometry };
+
     ghost seat: { Self → ℕ };
 
     /// What was seen, and how many calls were begun.
     ghost seen: { Self → History };
+
     ghost begun: { Self → ℕ };
 
     /// It is a pass of its heap that makes no call.
@@ -62,5 +64,6 @@ pub trait Desk {
         ensures { result ≡ reply_of (after (opening_of (geometry self.now)) (seen self.now)) (seat self.now) question };
 
     ghost same_refl: { (desk : Self) → same desk desk };
+
     ghost same_trans: { (a b c : Self) → same a b → same b c → same a c };
 }

@@ -2,9 +2,10 @@
 #![tactic(auto)]
 
 mod collector;
-mod compete;
+mod competing;
 mod desk;
 mod gate;
+mod long;
 mod note;
 mod progress;
 mod room;
@@ -14,8 +15,9 @@ mod text;
 mod thread;
 mod worker;
 
-pub use compete::Raced;
+pub use competing::{Raced, compete};
 pub use desk::{Desk, MOST_CALLS, Said};
 pub use gate::{Gate, Open};
+pub use long::first_long;
 pub use note::Note;
 pub use progress::Progress;

@@ -84,12 +84,7 @@ fn reply<L: Ledger>(
 }
 
 /// A call on the shared heap of a pass that has calls left.
-fn said_of<L: Ledger>(
-    heap: &Heap,
-    pass: &mut Pass,
-    call: Call,
-    steps: &mut Steps<L>,
-) -> Said
+fn said_of<L: Ledger>(heap: &Heap, pass: &mut Pass, call: Call, steps: &mut Steps<L>) -> Said
     requires pass { IsPassOf heap.now pass.old }
     requires question { is_question call ≡ false }
     requires registers { RegistersFit heap.now.geometry.registers call }
@@ -117,10 +112,15 @@ fn yes_or_no(yes: bool) -> Reply
 
 impl<'a, L: Ledger, R: Wait, G: Gate> Desk for Shared<'a, L, R, G> {
     ghost geometry = { λ d. d.heap.now.geometry };
+
     ghost seat = { λ d. (known d.pass).seat };
+
     ghost seen = { λ d. (known d.pass).seen };
+
     ghost begun = { λ d. (known d.pass).begun };
+
     ghost good = { λ d. IsPassOf d.heap.now d.pass };
+
     ghost same = { λ d e. e.heap.now ≡ d.heap.now };
 
     fn call(&mut self, call: Call) -> Said {
@@ -140,5 +140,6 @@ impl<'a, L: Ledger, R: Wait, G: Gate> Desk for Shared<'a, L, R, G> {
     }
 
     ghost same_refl = { λ d. refl };
+
     ghost same_trans = { λ a b c p q. q ∙ p };
 }

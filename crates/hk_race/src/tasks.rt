@@ -32,7 +32,7 @@ fn count_below(ticks: &[u64], horizon: u64) -> u64
 
 /// How many jobs arrive before the horizon.
 #[tactic(auto, unfolding(crate::specs::Tasks::jobs_before))]
-fn jobs_before(horizon: u64, arrivals: &Arrivals, gap: u64) -> u64
+pub(crate) fn jobs_before(horizon: u64, arrivals: &Arrivals, gap: u64) -> u64
     requires few { horizon ≤ MAX_TICKS }
     requires arrivals { AreArrivals horizon gap arrivals.now }
     ensures jobs { result ≡ jobs_before horizon arrivals.now }
@@ -102,21 +102,28 @@ fn low_task(ticks: u64, task: &Low) -> Held<'_>
 }
 
 /// The ticks of a run.
-fn ticks(sheet: &Sheet) -> u64
+pub(crate) fn ticks(sheet: &Sheet) -> u64
     ensures { result ≡ sheet.now.ticks }
 {
     sheet.ticks
 }
 
 /// How many high tasks there are.
-fn high_count(sheet: &Sheet) -> usize
+pub(crate) fn high_count(sheet: &Sheet) -> usize
     ensures { result ≡ length sheet.now.high }
 {
     sheet.high.items.len()
 }
 
+/// How many low tasks there are.
+pub(crate) fn low_count(sheet: &Sheet) -> usize
+    ensures { result ≡ length sheet.now.low }
+{
+    sheet.low.items.len()
+}
+
 /// A high task.
-fn high_at(sheet: &Sheet, place: usize) -> &High
+pub(crate) fn high_at(sheet: &Sheet, place: usize) -> &High
     requires { place < length sheet.now.high }
     ensures { (d : High) → slice_index_or sheet.now.high place d ≡ result.now }
 {
@@ -124,7 +131,7 @@ fn high_at(sheet: &Sheet, place: usize) -> &High
 }
 
 /// A low task.
-fn low_at(sheet: &Sheet, place: usize) -> &Low
+pub(crate) fn low_at(sheet: &Sheet, place: usize) -> &Low
     requires { place < length sheet.now.low }
     ensures { (d : Low) → slice_index_or sheet.now.low place d ≡ result.now }
 {

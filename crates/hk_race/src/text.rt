@@ -121,7 +121,11 @@ pub(crate) fn tell(text: &mut Vec<u8>, name: &[u8], own: &Progress) -> Result<()
 }
 
 /// Adds the last lines.
-pub(crate) fn tell_end(text: &mut Vec<u8>, declared: u64, live: Option<u64>) -> Result<(), AllocError>
+pub(crate) fn tell_end(
+    text: &mut Vec<u8>,
+    declared: u64,
+    live: Option<u64>,
+) -> Result<(), AllocError>
     ensures { OnOk result (text.new.items ≡ text.old.items ++ (live_text declared live ++ line (codes "end" ∷ []))) }
 {
     match live {

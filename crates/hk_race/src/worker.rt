@@ -68,11 +68,7 @@ fn end_job(script: &Script, own: &mut Progress, note: Note) -> Result<(), AllocE
 }
 
 /// One statement more.
-fn statement<D: Desk>(
-    desk: &mut D,
-    script: &Script,
-    own: &mut Progress,
-) -> Result<(), AllocError>
+fn statement<D: Desk>(desk: &mut D, script: &Script, own: &mut Progress) -> Result<(), AllocError>
     requires good { D.good desk.old }
     requires script { RunsOn (D.geometry desk.old).registers script.now }
     requires walks { Walks script.now own.old.walk }

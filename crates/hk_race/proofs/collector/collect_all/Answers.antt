@@ -25,7 +25,7 @@ returns-then-flips-ge2-clause-live g c =
 pub returns-then-is_last-clause-above : goal.returns-then-is_last-clause-above
 returns-then-is_last-clause-above g c =
     subst (λ (o : Option ℕ). IfSome o (λ words. c.args.heap.now.geometry.live < words)) (sym c.live_in.ensures)
-        (above_by c.args.heap.now.geometry (kept c.loop.keeper) (kept c.collect-answer.new.keeper) 64 c.collect-answer.ensures.collected.0 c.collect-answer.result c.collect-answer.ensures.collected.1)
+    (above_by c.args.heap.now.geometry (kept c.loop.keeper) (kept c.collect-answer.new.keeper) 64 c.collect-answer.ensures.collected.0 c.collect-answer.result c.collect-answer.ensures.collected.1)
 
 pub loop-preserved : goal.loop-preserved
 loop-preserved g c = record {

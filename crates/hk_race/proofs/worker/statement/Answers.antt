@@ -15,7 +15,7 @@ pub done-requires-in-Some-Ask-clause-answered : goal.done-requires-in-Some-Ask-c
 done-requires-in-Some-Ask-clause-answered g c =
     let is = sym c.next.ensures.need ∙ c.in-Some-Ask.is ∙ ap Some c.in-Some-Ask.field-0-is in
     ask_fits (opening_of (g.D.Desk.geometry c.args.desk.now)) (g.D.Desk.seat c.args.desk.now) c.args.script.now c.args.own.now.walk (g.D.Desk.seen c.args.desk.now) c.in-Some-Ask.question c.ask-reply.result
-        (call_fits _ c.args.script.now c.args.own.now.walk (Ask c.in-Some-Ask.question) c.requires.script is).0 is c.ask-reply.ensures
+    (call_fits _ c.args.script.now c.args.own.now.walk (Ask c.in-Some-Ask.question) c.requires.script is).0 is c.ask-reply.ensures
 
 pub returns-in-None-clause-goes : goal.returns-in-None-clause-goes
 returns-in-None-clause-goes g c = goes_end _ _ c.args.script.now _ c.args.own.now c.requires.going (sym c.next.ensures.need ∙ c.in-None.is)

@@ -9,8 +9,8 @@ use Rattle.hk_race.proofs.worker.statements.Goals as goal
 pub returns-then-is_some-clause-goes : goal.returns-then-is_some-clause-goes
 returns-then-is_some-clause-goes g c =
     goes_stays _ _ c.args.script.now c.loop.counter c.args.cost _ _ c.args.own.now c.loop.own (omega (arith, c.loop.auto.counter-end))
-        (λ rest. stopped_still c.args.script.now _ (course_of c.loop.own _ rest) (sym c.is_some.ensures ∙ c.if-is_some.true))
-        c.loop.invariant.goes
+    (λ rest. stopped_still c.args.script.now _ (course_of c.loop.own _ rest) (sym c.is_some.ensures ∙ c.if-is_some.true))
+    c.loop.invariant.goes
 
 pub returns-then-is_some-clause-through : goal.returns-then-is_some-clause-through
 returns-then-is_some-clause-through g c = inr (sym c.is_some.ensures ∙ c.if-is_some.true)
@@ -18,8 +18,8 @@ returns-then-is_some-clause-through g c = inr (sym c.is_some.ensures ∙ c.if-is
 pub returns-then-is_none-clause-goes : goal.returns-then-is_none-clause-goes
 returns-then-is_none-clause-goes g c =
     goes_stays _ _ c.args.script.now c.loop.counter c.args.cost _ _ c.args.own.now c.loop.own (omega (arith, c.loop.auto.counter-end))
-        (λ rest. ended_still c.args.script.now _ (course_of c.loop.own _ rest) (sym c.next.ensures.need ∙ no_some c.next.result c.if-is_none.ensures))
-        c.loop.invariant.goes
+    (λ rest. ended_still c.args.script.now _ (course_of c.loop.own _ rest) (sym c.next.ensures.need ∙ no_some c.next.result c.if-is_none.ensures))
+    c.loop.invariant.goes
 
 pub returns-then-is_none-clause-through : goal.returns-then-is_none-clause-through
 returns-then-is_none-clause-through g c = inl (none_wanted c.args.script.now c.loop.own.walk c.loop.invariant.walks.fits (sym c.next.ensures.need ∙ no_some c.next.result c.if-is_none.ensures))

@@ -1,6 +1,6 @@
 use Rattle.std.proofs.Common.{◌≡◌}
 use Rattle.hk_race.specs.Jobs.{Parts}
-use Rattle.hk_race.proofs.compete.taken_apart.Given as goal
+use Rattle.hk_race.proofs.competing.taken_apart.Given as goal
 
 -- the parts of those that were taken
 abbrev pub invariant-loop-one : goal.invariant-loop-one

@@ -1,13 +1,13 @@
 use Rattle.std.proofs.Common.{◌≡◌, ℕ, ◌<◌, ◌≤◌, ◌+◌, length, sym, ◌∙◌, ap, arith, subst, refl, IfOk, IsNone, slice_index_or}
 use Rattle.hk_table.specs.Ends.{log_of, run_of}
 use Rattle.hk_table.specs.Passes.{kept}
-use Rattle.hk_race.specs.declared.compete.Job.{Job}
-use Rattle.hk_race.specs.declared.compete.Ended.{Ended}
+use Rattle.hk_race.specs.declared.competing.Job.{Job}
+use Rattle.hk_race.specs.declared.competing.Ended.{Ended}
 use Rattle.hk_race.specs.Jobs.{ComesBack, Agree}
 use Rattle.hk_race.specs.Lives.{live_of}
 use Rattle.hk_race.specs.Text.{race_text}
 use Rattle.hk_race.proofs.Coming.{all_of_heap, all_seats, agree, live_last, spot_last, seats_count}
-use Rattle.hk_race.proofs.compete.compete.Goals as goal
+use Rattle.hk_race.proofs.competing.compete.Goals as goal
 
 pub close-closed-requires-clause-passes : goal.close-closed-requires-clause-passes
 close-closed-requires-clause-passes g c =
@@ -20,7 +20,7 @@ close-closed-requires-clause-seats g c =
     let count = subst (λ r. IfOk r (λ v. length v.items ≡ length c.in_ok-jobs.jobs.items)) c.in_ok-ended.was c.run_all-ended.ensures.count in
     let back = subst (λ r. IfOk r (λ v. (i : ℕ) (d : Ended) (j : Job) → i < length c.in_ok-jobs.jobs.items → ComesBack c.args.heap (slice_index_or c.in_ok-jobs.jobs.items i j) (slice_index_or v.items i d))) c.in_ok-ended.was c.run_all-ended.ensures.each in
     all_seats c.args.heap c.args.sheet.now c.in_ok-jobs.jobs.items c.in_ok-ended.ended.items c.in_ok-parts.parts.passes.items c.in_ok-parts.parts.told.items c.in_ok-jobs.ensures.each count back c.in_ok-parts.ensures
-        _ (seats_count c.args.heap.geometry c.args.sheet.now c.requires.sheet c.requires.sizes ∙ sym c.in_ok-jobs.ensures.count)
+    _ (seats_count c.args.heap.geometry c.args.sheet.now c.requires.sheet c.requires.sizes ∙ sym c.in_ok-jobs.ensures.count)
 
 pub returns : goal.returns
 returns g c =

@@ -3,7 +3,7 @@ use Rattle.hk_words.specs.declared.geometry.Geometry.{Geometry}
 use Rattle.hk_model.specs.History.{History}
 use Rattle.hk_race.specs.Jobs.{Agree}
 use Rattle.hk_race.specs.Text.{tasks_text}
-use Rattle.hk_race.proofs.compete.text_of.Given as goal
+use Rattle.hk_race.proofs.competing.text_of.Given as goal
 
 -- what the tasks of the first seats tell
 abbrev pub invariant-loop-seat : goal.invariant-loop-seat

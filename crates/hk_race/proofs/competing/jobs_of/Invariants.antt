@@ -1,7 +1,7 @@
 use Rattle.std.proofs.Common.{◌≡◌, ◌<◌, ℕ, length, slice_index_or}
-use Rattle.hk_race.specs.declared.compete.Job.{Job}
+use Rattle.hk_race.specs.declared.competing.Job.{Job}
 use Rattle.hk_race.specs.Jobs.{IsJobOf}
-use Rattle.hk_race.proofs.compete.jobs_of.Given as goal
+use Rattle.hk_race.proofs.competing.jobs_of.Given as goal
 
 -- the jobs of the first seats
 abbrev pub invariant-loop-pass : goal.invariant-loop-pass

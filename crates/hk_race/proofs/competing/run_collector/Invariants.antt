@@ -1,4 +1,4 @@
-use Rattle.hk_race.proofs.compete.run_collector.Given as goal
+use Rattle.hk_race.proofs.competing.run_collector.Given as goal
 
 -- the ledger of the blank
 abbrev pub ghosts-collect_all : goal.ghosts-collect_all

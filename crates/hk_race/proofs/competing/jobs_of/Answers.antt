@@ -4,13 +4,13 @@ use Rattle.std.proofs.lemmas.Iterator.Adapters.{YieldsList-from_vec}
 use Rattle.hk_table.specs.declared.pass.Pass.{Pass}
 use Rattle.hk_table.specs.Passes.{IsPassOf, known}
 use Rattle.hk_table.specs.Rule.{fresh}
-use Rattle.hk_race.specs.declared.compete.Job.{Job}
+use Rattle.hk_race.specs.declared.competing.Job.{Job}
 use Rattle.hk_race.specs.Jobs.{IsJobOf}
 use Rattle.hk_race.specs.Shown.{shown}
 use Rattle.hk_race.specs.Tasks.{task_at}
 use Rattle.hk_race.proofs.Coming.{job_of, jobs_more}
 use Rattle.hk_race.proofs.Lists.{length_more}
-use Rattle.hk_race.proofs.compete.jobs_of.Goals as goal
+use Rattle.hk_race.proofs.competing.jobs_of.Goals as goal
 
 pub loop-pass-preserved : goal.loop-pass-preserved
 loop-pass-preserved c =
@@ -22,7 +22,7 @@ loop-pass-preserved c =
     let is : shown c.task_at-task.result ≡ task_at c.args.sheet.now seat = subst (λ (n : ℕ). shown c.task_at-task.result ≡ task_at c.args.sheet.now n) (c.len.ensures ∙ c.loop-pass.jobs.ok.0 ∙ at) c.task_at-task.ensures.shown in
     let job : Job = record { pass = c.in-Some.pass; task = c.task_at-task.result } in
     let ours : IsJobOf c.args.heap.now c.args.sheet.now (length c.loop-pass.jobs.items) job = subst (λ (n : ℕ). IsJobOf c.args.heap.now c.args.sheet.now n job) (sym at)
-        (job_of c.args.heap.now c.args.sheet.now seat c.in-Some.pass c.task_at-task.result opened is c.task_at-task.ensures.holds c.requires.registers) in
+    (job_of c.args.heap.now c.args.sheet.now seat c.in-Some.pass c.task_at-task.result opened is c.task_at-task.ensures.holds c.requires.registers) in
     let more = jobs_more c.args.heap.now c.args.sheet.now c.loop-pass.jobs.items job c.loop-pass.invariant.each ours in
     let grown = c.in_ok-push.ensures.items in
     let longer = length_more c.loop-pass.jobs.items job in

@@ -3,7 +3,7 @@ use Rattle.hk_table.specs.declared.pass.Pass.{Pass}
 use Rattle.hk_race.specs.declared.progress.Progress.{Progress}
 use Rattle.hk_race.specs.Jobs.{Parts}
 use Rattle.hk_race.proofs.Coming.{parts_more}
-use Rattle.hk_race.proofs.compete.taken_apart.Goals as goal
+use Rattle.hk_race.proofs.competing.taken_apart.Goals as goal
 
 pub loop-one-preserved : goal.loop-one-preserved
 loop-one-preserved c =

@@ -11,6 +11,8 @@ mod progress;
 mod room;
 mod shared;
 mod tasks;
+#[cfg(test)]
+mod tests;
 mod text;
 mod thread;
 mod worker;

@@ -1,8 +1,8 @@
 -- The workers' jobs, and what comes back of them.
-use Rattle.std.proofs.Common.{◌≡◌, ℕ, ◌<◌, ◌≤◌, ◌+◌, List, [], ◌∷◌, ◌++◌, length, refl, sym, ◌∙◌, ap, subst, arith, inl, inr, Option, Some, None, zero, suc, append-nil, append_assoc}
+use Rattle.std.proofs.Common.{◌≡◌, ℕ, ◌<◌, ◌≤◌, ◌+◌, List, [], ◌∷◌, ◌++◌, length, refl, sym, ◌∙◌, ap, subst, arith, inl, inr, Option, Some, None, suc, append-nil, append_assoc}
 use Rattle.std.proofs.lemmas.Bool.{cases_lt}
 use Rattle.std.proofs.lemmas.List.Elements.{filter-append}
-use Rattle.std.specs.Prelude.{slice_index_or, IfSome, All, nat_eq, codes, nat_lt, min, not, ◌||◌, ◌==◌, ◌%◌, if◌then◌else◌, Bool, true, false}
+use Rattle.std.specs.Prelude.{slice_index_or, IfSome, All, codes, nat_lt, min, not, ◌||◌, ◌==◌, ◌%◌, if◌then◌else◌, Bool, true, false}
 use Rattle.hk_words.specs.declared.geometry.Geometry.{Geometry}
 use Rattle.std.proofs.lemmas.Bool.Decides.{nat_tests}
 use Rattle.hk_words.specs.Geometry.{tasks, HasSizes, Sizes, first_error}
@@ -33,12 +33,12 @@ use Rattle.hk_race.specs.declared.progress.Progress.{Progress}
 use Rattle.hk_race.specs.declared.tasks.Held.{Held}
 use Rattle.hk_race.specs.Course.{course}
 use Rattle.hk_race.specs.Goes.{course_of}
-use Rattle.hk_race.specs.Jobs.{MayWork, IsJobOf, TellsTask, ComesBack, IsBack, Parts, Agree}
+use Rattle.hk_race.specs.Jobs.{IsJobOf, TellsTask, ComesBack, IsBack, Parts, Agree}
 use Rattle.hk_race.specs.Lives.{last_live, live_of}
 use Rattle.hk_race.specs.Shown.{shown, IsHeld}
 use Rattle.hk_race.specs.Tasks.{Task, task_at, tasks_of}
 use Rattle.hk_race.specs.Text.{told, tasks_text, race_text, live_text, line}
-use Rattle.hk_race.proofs.Lists.{at_before, at_last, length_more, item, any_default}
+use Rattle.hk_race.proofs.Lists.{at_before, at_last, length_more, item}
 use Rattle.hk_race.proofs.Turning.{none_later}
 
 -- A JOB

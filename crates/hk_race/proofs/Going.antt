@@ -1,12 +1,12 @@
 -- One statement of a worker is one statement of the course.
-use Rattle.std.proofs.Common.{◌≡◌, ◌≢◌, ◌⊎◌, ℕ, ◌<◌, ◌≤◌, ◌+◌, Bool, true, false, List, [], ◌∷◌, ◌++◌, length, refl, sym, ◌∙◌, ap, subst, arith, inl, inr, Option, Some, None, append-nil, is_some, is_none, zero, suc, IsSomeAnd, append_assoc, ◌-◌, ◌*◌, eq-eqb, filter}
-use Rattle.std.specs.Prelude.{if◌then◌else◌, nat_eq}
+use Rattle.std.proofs.Common.{◌≡◌, ◌⊎◌, ℕ, ◌<◌, ◌≤◌, ◌+◌, Bool, true, false, List, [], ◌∷◌, ◌++◌, length, refl, sym, ◌∙◌, ap, subst, arith, inl, inr, Option, Some, None, append-nil, is_some, is_none, zero, suc, IsSomeAnd, append_assoc, ◌-◌, ◌*◌, eq-eqb, filter}
+use Rattle.std.specs.Prelude.{if◌then◌else◌}
 use Rattle.hk_words.specs.declared.call.Call.{Call}
 use Rattle.hk_words.specs.declared.call.Call.TheVariants as call
 use Rattle.hk_words.specs.declared.call.Reply.{Reply}
 use Rattle.hk_words.specs.declared.call.Reply.TheVariants as reply
 use Rattle.hk_model.specs.Heap.{Heap, register}
-use Rattle.hk_model.specs.History.{Entry, History, after, is_question, is_full, of_seat}
+use Rattle.hk_model.specs.History.{History, after, is_question, is_full, of_seat}
 use Rattle.hk_model.specs.Replies.{reply_of, said, is_same}
 use Rattle.hk_core.specs.Faults.{FindsField}
 use Rattle.hk_script.specs.declared.statement.Statement.{Statement}

@@ -1,5 +1,5 @@
 -- What a call of the shared heap promises is what a worker asks of it.
-use Rattle.std.proofs.Common.{◌≡◌, ◌≢◌, ℕ, ◌<◌, ◌≤◌, ◌+◌, ◌^◌, Bool, true, false, List, [], ◌∷◌, ◌++◌, refl, sym, ◌∙◌, ap, subst, arith, Option, Some, None}
+use Rattle.std.proofs.Common.{◌≡◌, ℕ, ◌<◌, Bool, true, false, [], ◌∷◌, ◌++◌, refl, sym, ◌∙◌, ap, subst, arith, Option, Some, None}
 use Rattle.std.proofs.lemmas.Bool.{eq-eqb}
 use Rattle.std.proofs.lemmas.Bool.Decides.{nat_tests}
 use Rattle.std.proofs.lemmas.List.Elements.{filter-append}
@@ -9,7 +9,7 @@ use Rattle.hk_words.specs.declared.call.Call.{Call}
 use Rattle.hk_words.specs.declared.call.Reply.{Reply}
 use Rattle.hk_words.specs.declared.call.Reply.TheVariants as reply
 use Rattle.hk_words.specs.Calls.{RegistersFit, entered}
-use Rattle.hk_model.specs.Heap.{Heap, opening_of}
+use Rattle.hk_model.specs.Heap.{opening_of}
 use Rattle.hk_model.specs.History.{Entry, History, after, of_seat, is_full, is_question}
 use Rattle.hk_model.specs.Replies.{reply_of}
 use Rattle.hk_core.specs.declared.outcome.Outcome.{Outcome}
@@ -28,8 +28,7 @@ use Rattle.hk_table.specs.declared.error.HeapError.{HeapError}
 use Rattle.hk_table.specs.declared.error.HeapError.TheVariants as error
 use Rattle.hk_table.proofs.Questions.{tells_so}
 use Rattle.hk_table.proofs.Knowing.{nothing_more}
-use Rattle.hk_race.specs.Says.{Saw, Replied, FoundFull, Tells}
-use Rattle.hk_race.specs.declared.desk.Said.{Said}
+use Rattle.hk_race.specs.Says.{Saw, Tells}
 use Rattle.hk_race.specs.declared.desk.Said.TheVariants as said
 
 -- an error of a call that isn't begun is no want of room

@@ -1,17 +1,16 @@
 -- What the last event of the collector answers, as its turns go on.
-use Rattle.std.proofs.Common.{◌≡◌, ◌≢◌, ℕ, suc, zero, ◌+◌, ◌<◌, ◌≤◌, List, [], ◌∷◌, ◌++◌, replicate, refl, sym, ◌∙◌, ap, subst, arith, append-nil, append_assoc, Option, None, Some, true, false, IsNone, IfSome, min}
+use Rattle.std.proofs.Common.{◌≡◌, ℕ, suc, zero, ◌+◌, ◌<◌, ◌≤◌, List, [], ◌∷◌, ◌++◌, replicate, refl, sym, ◌∙◌, ap, subst, arith, append-nil, append_assoc, None, true, false, IsNone, IfSome, min}
 use Rattle.std.proofs.Math.Nat.{min-le_left}
 use Rattle.hk_words.specs.declared.geometry.Geometry.{Geometry}
 use Rattle.hk_core.specs.declared.spot.Work.{Work}
 use Rattle.hk_core.specs.declared.spot.Work.TheVariants as work
-use Rattle.hk_core.specs.Collect.{last_cycle}
 use Rattle.hk_core.specs.Run.{Action, run_from_opening}
 use Rattle.hk_collect.proofs.Running.{geometry_from_opening}
 use Rattle.hk_collect.specs.Works.{HasCauses, IsWorn, FindsLiveOver}
 use Rattle.hk_core.specs.State.{opening_spot}
 use Rattle.hk_table.specs.Knows.{KeeperView}
 use Rattle.hk_table.specs.Seats.{keeper_from}
-use Rattle.hk_keeper.specs.Collected.{answers, Answers, useful, stopped, worn, flips, Collected}
+use Rattle.hk_keeper.specs.Collected.{answers, Answers, useful, stopped, worn, Collected}
 use Rattle.hk_keeper.proofs.Answering.{answers_more}
 use Rattle.hk_race.specs.Lives.{is_last, live_in, last_live, live_of}
 

@@ -1,5 +1,5 @@
 -- Each statement of a walk takes a tick at least, so there are no more than its script costs.
-use Rattle.std.proofs.Common.{◌≡◌, ◌⊎◌, ℕ, ◌<◌, ◌≤◌, ◌+◌, Bool, true, List, length, refl, sym, ◌∙◌, ap, subst, arith, inl, inr, Option, Some, None, is_some, is_none, IsSome, false, zero, suc, [], ◌∷◌, slice_get}
+use Rattle.std.proofs.Common.{◌≡◌, ◌⊎◌, ℕ, ◌≤◌, ◌+◌, true, List, length, refl, sym, ◌∙◌, subst, arith, inl, inr, Option, Some, None, is_some, IsSome, false, zero, suc, [], ◌∷◌, slice_get}
 use Rattle.std.proofs.lemmas.Bool.{cases_lt}
 use Rattle.std.specs.Prelude.{IfSome}
 use Rattle.std.specs.List.{AllByRecursion}
@@ -24,7 +24,7 @@ use Rattle.hk_script.specs.Spelling.{IsStatement}
 use Rattle.hk_script.specs.Walks.{Fits, started, need_in, need_at, need_of, walk_after}
 use Rattle.hk_script.proofs.Needs as needs
 use Rattle.hk_script.proofs.Potential.{ticks_fall, ticks_started, goes_on_fitting}
-use Rattle.hk_script.proofs.Stops.{started_fits, wants_until_end, end_stops, nothing_at_end}
+use Rattle.hk_script.proofs.Stops.{started_fits, wants_until_end, nothing_at_end}
 use Rattle.hk_race.specs.declared.progress.Progress.{Progress}
 use Rattle.hk_race.specs.Goes.{RunsOn, Walks, IsThrough}
 

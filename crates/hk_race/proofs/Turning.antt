@@ -2,7 +2,7 @@
 use Rattle.std.proofs.Common.{◌≡◌, eq-eqb, append-nil, ℕ, Bool, true, false, List, [], ◌∷◌, ◌++◌, refl, sym, ◌∙◌, ap}
 use Rattle.std.proofs.lemmas.List.Elements.{filter-append}
 use Rattle.std.proofs.lemmas.List.Sums.{fold-append}
-use Rattle.std.specs.Prelude.{nat_eq, if◌then◌else◌, fold}
+use Rattle.std.specs.Prelude.{nat_eq, if◌then◌else◌}
 use Rattle.hk_words.specs.declared.call.Call.{Call}
 use Rattle.hk_model.specs.Heap.{Heap}
 use Rattle.hk_model.specs.History.{Entry, History, after, after_entry, of_seat}

@@ -1,5 +1,5 @@
 -- What a race comes to.
-use Rattle.std.specs.Prelude.{◌≡◌, ℕ, ◌<◌, ◌≤◌, List, All, IsNone, IfSome}
+use Rattle.std.specs.Prelude.{◌≡◌, ◌<◌, ◌≤◌, List, All, IsNone, IfSome}
 use Rattle.hk_words.specs.Geometry.{tasks}
 use Rattle.hk_sheet.specs.declared.sheet.Sheet.{Sheet}
 use Rattle.hk_table.specs.declared.heap.Heap.{Heap}

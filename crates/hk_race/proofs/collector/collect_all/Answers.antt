@@ -1,9 +1,9 @@
-use Rattle.std.proofs.Common.{◌≡◌, ℕ, ◌+◌, ◌<◌, ◌≤◌, arith, sym, ◌∙◌, ap, subst, None, Some, Option, IfSome}
+use Rattle.std.proofs.Common.{ℕ, ◌<◌, arith, sym, ◌∙◌, ap, subst, Option, IfSome}
 use Rattle.hk_words.specs.Geometry.{tasks}
 use Rattle.hk_table.specs.Passes.{kept}
 use Rattle.hk_table.specs.Knows.{KeeperView}
 use Rattle.hk_race.specs.Lives.{live_of}
-use Rattle.hk_race.proofs.Living.{live_first, live_after, goes_on_unlive, last_late, first_cycle, above_by}
+use Rattle.hk_race.proofs.Living.{live_first, live_after, goes_on_unlive, first_cycle, above_by}
 use Rattle.hk_race.proofs.collector.collect_all.Goals as goal
 
 pub loop-init : goal.loop-init

@@ -1,11 +1,9 @@
-use Rattle.std.proofs.Common.{◌≡◌, ℕ, ◌<◌, ◌≤◌, ◌+◌, length, sym, ◌∙◌, ap, arith, subst, refl, IfOk, IsNone, slice_index_or}
+use Rattle.std.proofs.Common.{◌≡◌, ℕ, ◌<◌, ◌≤◌, length, sym, ◌∙◌, subst, refl, IfOk, slice_index_or}
 use Rattle.hk_table.specs.Ends.{log_of, run_of}
 use Rattle.hk_table.specs.Passes.{kept}
 use Rattle.hk_race.specs.declared.competing.Job.{Job}
 use Rattle.hk_race.specs.declared.competing.Ended.{Ended}
 use Rattle.hk_race.specs.Jobs.{ComesBack, Agree}
-use Rattle.hk_race.specs.Lives.{live_of}
-use Rattle.hk_race.specs.Text.{race_text}
 use Rattle.hk_race.proofs.Coming.{all_of_heap, all_seats, agree, live_last, spot_last, seats_count}
 use Rattle.hk_race.proofs.competing.compete.Goals as goal
 

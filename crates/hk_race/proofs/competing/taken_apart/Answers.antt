@@ -1,4 +1,4 @@
-use Rattle.std.proofs.Common.{◌≡◌, sym, subst, ◌++◌, ◌∷◌, [], List}
+use Rattle.std.proofs.Common.{sym, subst, ◌++◌, ◌∷◌, [], List}
 use Rattle.hk_table.specs.declared.pass.Pass.{Pass}
 use Rattle.hk_race.specs.declared.progress.Progress.{Progress}
 use Rattle.hk_race.specs.Jobs.{Parts}

@@ -1,4 +1,3 @@
-use Rattle.std.proofs.Common.{◌≡◌}
 use Rattle.hk_race.specs.Jobs.{Parts}
 use Rattle.hk_race.proofs.competing.taken_apart.Given as goal
 

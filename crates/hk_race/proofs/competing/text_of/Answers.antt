@@ -1,6 +1,4 @@
-use Rattle.std.proofs.Common.{◌≡◌, ℕ, ◌+◌, ◌≤◌, ◌++◌, sym, ◌∙◌, ap, arith, length}
-use Rattle.hk_race.specs.Tasks.{tasks_of}
-use Rattle.hk_race.specs.Text.{tasks_text, race_text, live_text}
+use Rattle.std.proofs.Common.{ap, arith}
 use Rattle.hk_race.proofs.Coming.{text_more, text_whole}
 use Rattle.hk_race.proofs.competing.text_of.Goals as goal
 

@@ -1,5 +1,5 @@
-use Rattle.std.proofs.Common.{◌≡◌, ◌<◌, ◌+◌, ◌-◌, length, sym, ◌∙◌, ap, arith}
-use Rattle.hk_race.specs.Tasks.{is_long, of_high, of_low}
+use Rattle.std.proofs.Common.{◌-◌, sym, ◌∙◌, ap, arith}
+use Rattle.hk_race.specs.Tasks.{is_long}
 use Rattle.hk_race.proofs.Sheets.{high_is, low_is, high_arrivals, low_arrivals, tasks_count}
 use Rattle.hk_race.proofs.long.is_long_at.Goals as goal
 

@@ -1,10 +1,10 @@
-use Rattle.std.proofs.Common.{◌≡◌, ap, sym, ◌∙◌, arith, subst}
+use Rattle.std.proofs.Common.{◌≡◌, subst}
 use Rattle.hk_core.specs.declared.outcome.Outcome.TheVariants.{Full}
 use Rattle.hk_table.specs.Calls.{Called}
 use Rattle.hk_table.specs.Errors.{Refuses, RefusedOrFull}
 use Rattle.hk_table.specs.declared.error.HeapError.{HeapError}
 use Rattle.hk_table.specs.Passes.{known}
-use Rattle.hk_race.proofs.Joining.{tells_done, tells_full, tells_nil, tells_field, not_spent}
+use Rattle.hk_race.proofs.Joining.{tells_done, tells_full, not_spent}
 use Rattle.hk_race.proofs.shared.said_of.Goals as goal
 
 pub returns-in-Ok-clause-tells : goal.returns-in-Ok-clause-tells

@@ -1,4 +1,4 @@
-use Rattle.std.proofs.Common.{◌≡◌, ◌<◌, ◌+◌, ◌-◌, length, sym, ◌∙◌, arith}
+use Rattle.std.proofs.Common.{◌-◌, sym, ◌∙◌, arith}
 use Rattle.hk_race.specs.Tasks.{of_high, of_low}
 use Rattle.hk_race.proofs.Sheets.{high_fits, low_fits, high_arrivals, low_arrivals, is_held, tasks_count}
 use Rattle.hk_race.proofs.tasks.task_at.Goals as goal

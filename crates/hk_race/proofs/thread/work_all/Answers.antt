@@ -1,4 +1,4 @@
-use Rattle.std.proofs.Common.{◌≡◌, subst}
+use Rattle.std.proofs.Common.{subst}
 use Rattle.hk_table.specs.declared.heap.Heap.{Heap}
 use Rattle.hk_table.specs.Passes.{IsPassOf}
 use Rattle.hk_race.proofs.thread.work_all.Goals as goal

@@ -1,4 +1,4 @@
-use Rattle.std.proofs.Common.{◌≡◌, ap, sym, inl, inr, refl}
+use Rattle.std.proofs.Common.{inl, inr, refl}
 use Rattle.hk_script.specs.declared.walk.Need.TheVariants.{Heap}
 use Rattle.hk_race.proofs.Going.{goes_done, goes_full, goes_nil, goes_field}
 use Rattle.hk_race.proofs.Through.{call_fits, falls_at, walks_on}

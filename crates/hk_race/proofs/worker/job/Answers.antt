@@ -1,4 +1,4 @@
-use Rattle.std.proofs.Common.{◌≡◌, ◌≤◌, sym, ◌∙◌, refl, inl, inr, subst, arith}
+use Rattle.std.proofs.Common.{◌≤◌, sym, refl, subst, arith}
 use Rattle.hk_script.specs.declared.walk.Walk.{Walk}
 use Rattle.hk_script.specs.Left.{ticks_left}
 use Rattle.hk_model.specs.Heap.{opening_of}

@@ -1,6 +1,6 @@
-use Rattle.std.proofs.Common.{◌≡◌, ap, sym, ◌∙◌, Some, None, refl, inl, inr}
+use Rattle.std.proofs.Common.{ap, sym, ◌∙◌, Some, refl, inl, inr}
 use Rattle.hk_model.specs.Heap.{opening_of}
-use Rattle.hk_script.specs.declared.walk.Need.TheVariants.{Heap, Ask, Work, Local, Out}
+use Rattle.hk_script.specs.declared.walk.Need.TheVariants.{Ask}
 use Rattle.hk_race.proofs.Going.{ask_fits, goes_end, goes_work, goes_local, goes_ask, goes_out}
 use Rattle.hk_race.proofs.Through.{call_fits, falls_at, walks_on, none_wanted}
 use Rattle.hk_race.proofs.worker.statement.Goals as goal

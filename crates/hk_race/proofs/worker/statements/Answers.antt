@@ -1,7 +1,7 @@
-use Rattle.std.proofs.Common.{◌≡◌, ◌⊎◌, ◌+◌, ◌≤◌, ℕ, ap, arith, sym, ◌∙◌, refl, subst, inl, inr}
+use Rattle.std.proofs.Common.{ap, arith, sym, ◌∙◌, inl, inr}
 use Rattle.hk_model.specs.Heap.{opening_of}
-use Rattle.hk_race.specs.Course.{stepped, times}
-use Rattle.hk_race.specs.Goes.{Goes, course_of, RunsOn, IsThrough}
+use Rattle.hk_race.specs.Course.{stepped}
+use Rattle.hk_race.specs.Goes.{course_of}
 use Rattle.hk_race.proofs.Going.{goes_stays, goes_once, goes_moved, stopped_still, ended_still, no_some}
 use Rattle.hk_race.proofs.Through.{none_wanted, left_after, through_by, not_through}
 use Rattle.hk_race.proofs.worker.statements.Goals as goal

@@ -1,4 +1,4 @@
-use Rattle.std.proofs.Common.{◌≡◌, ◌⊎◌, ◌+◌, ◌≤◌, ◌*◌, ap, arith, sym, ◌∙◌, refl, inl, inr}
+use Rattle.std.proofs.Common.{ap, arith, sym, ◌∙◌, inl, inr}
 use Rattle.hk_model.specs.Heap.{opening_of}
 use Rattle.hk_race.specs.Course.{job_done}
 use Rattle.hk_race.proofs.Going.{task_told_from, goes_next_job, goes_moved, one_more_cost}

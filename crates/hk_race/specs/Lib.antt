@@ -1,0 +1,10 @@
+pub mod Turns
+pub mod Course
+pub mod Says
+pub mod Goes
+pub mod Lives
+pub mod Tasks
+pub mod Text
+pub mod Shown
+pub mod Jobs
+pub mod Raced

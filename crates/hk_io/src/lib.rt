@@ -49,6 +49,8 @@ pub enum Status {
     NotAdmitted,
     /// The collector found more words live than the sheet declares, and the run ended there. The whole text was written.
     Live,
+    /// A task on threads found no room for an object and stopped there. The whole text was written.
+    Full,
 }
 
 impl Status {
@@ -65,6 +67,7 @@ impl Status {
             Status::Sheet => 5,
             Status::NotAdmitted => 6,
             Status::Live => 7,
+            Status::Full => 8,
         }
     }
 }

@@ -17,6 +17,7 @@ fn statuses_have_their_numbers(rt: HostRuntime) {
         (Status::Sheet, 5),
         (Status::NotAdmitted, 6),
         (Status::Live, 7),
+        (Status::Full, 8),
     ];
     for (status, number) in table {
         assert_eq!(rt; status.number(), number);

@@ -6,8 +6,8 @@ use Rattle.std.proofs.lemmas.List.{get_or_default, take_more_set, map_push, map_
 use Rattle.hk_rta.specs.declared.Timing.{Timing}
 use Rattle.hk_sheet.specs.declared.sheet.High.{High}
 use Rattle.hk_admit.specs.Analysis.{timings_of}
-use Rattle.hk_top.specs.Text.{line}
-use Rattle.hk_top.specs.Words.{shown}
+use Rattle.hk_front.specs.Text.{line}
+use Rattle.hk_front.specs.Words.{shown}
 use Rattle.hk_assign.specs.Sheets.{no_high, name_at, names_at}
 use Rattle.hk_assign.specs.Tool.{order_line}
 

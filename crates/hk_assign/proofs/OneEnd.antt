@@ -1,22 +1,19 @@
 -- Words and bytes call for one end, and for one text, or for texts that are read as one sheet.
-use Rattle.std.proofs.Common.{◌≡◌, ◌≢◌, ℕ, ◌⊎◌, inl, inr, List, All, Option, Some, None, Ok, Err, refl, sym, ap, ◌∙◌, subst, arith, String, Global}
-use Rattle.toml.specs.Data.{Members}
+use Rattle.std.proofs.Common.{◌≡◌, ◌≢◌, ℕ, ◌⊎◌, inl, inr, List, All, Option, Some, None, Ok, refl, sym, ap, ◌∙◌, subst, String, Global}
 use Rattle.hk_io.specs.declared.Status.{Status}
 use Rattle.hk_io.specs.declared.Status.TheVariants as status
 use Rattle.hk_rta.specs.Demand.{IsTimed}
 use Rattle.hk_sheet.specs.declared.error.SheetError.{SheetError}
-use Rattle.hk_sheet.specs.declared.error.SheetError.TheVariants as unread
 use Rattle.hk_sheet.specs.declared.sheet.Sheet.{Sheet}
-use Rattle.hk_sheet.specs.Answers.{IsDocument, IsRead, Answers}
+use Rattle.hk_sheet.specs.Answers.{IsRead}
 use Rattle.hk_sheet.specs.Faults.{unless_fault, fault_of, sheet_of}
 use Rattle.hk_sheet.specs.Reading.{sheet_in}
 use Rattle.hk_sheet.specs.Valid.{IsSheet}
-use Rattle.hk_sheet.proofs.OneAnswer.{one_read, answered}
 use Rattle.hk_sheet.proofs.Validity.{sheet_right}
 use Rattle.hk_admit.specs.Analysis.{timings_of}
 use Rattle.hk_admit.proofs.Readable.{all_in_range, all_timed}
-use Rattle.hk_top.specs.Refusals.{sheet_line}
-use Rattle.hk_top.specs.Tool.{IsSheetOf, IsNoSheet, IsUnread, too_long, no_sheet}
+use Rattle.hk_front.specs.Input.{IsSheetOf}
+use Rattle.hk_front.proofs.OneInput.{one_sheet, none_read, one_unread}
 use Rattle.hk_assign.specs.Assignment.{IsStuck}
 use Rattle.hk_assign.specs.Sheets.{names_at, in_sheet_order, IsAssigned}
 use Rattle.hk_assign.specs.Tool.{IsAsked, usage_line, order_line, IsArranged, IsNoOrder, BytesCallFor, CallsFor, AreOneSheet}
@@ -24,14 +21,6 @@ use Rattle.hk_assign.proofs.Blocked.{no_order}
 use Rattle.hk_assign.proofs.OneOrder.{one_order, one_set}
 
 -- A SHEET
-
-one_sheet : (bytes : List ℕ) (x y : Sheet) → IsSheetOf bytes x → IsSheetOf bytes y → x ≡ y
-one_sheet bytes x y a b = let same = one_read bytes (Ok x) (Ok y) a.read b.read in cc
-
--- bytes that aren't read are no sheet
-none_read : (bytes text : List ℕ) (sheet : Sheet) → IsUnread bytes text → IsSheetOf bytes sheet → ⊥
-none_read bytes text sheet (too_long long is) x = let s = x.short in omega (arith, long, s)
-none_read bytes text sheet (no_sheet error e is) x = e.told (answered sheet bytes (Err error) x.read e.answers)
 
 -- a sheet that is read is one that can be read
 is_good : (fault : Option SheetError) (found sheet : Sheet) → unless_fault fault found ≡ Ok sheet → (fault ≡ None) × (found ≡ sheet)
@@ -48,38 +37,6 @@ pub timed : (sheet : Sheet) → IsSheet sheet → All IsTimed (timings_of sheet.
 timed sheet is = all_timed sheet.high (all_in_range sheet is)
 
 -- THE TEXTS
-
--- the bytes are no document, or the first fault of one
-abbrev IsTold : List ℕ → SheetError → Type 0
-IsTold bytes error = ((error ≡ unread.Text) × ((document : Members) → ¬ (IsDocument bytes document))) ⊎ IsRead bytes (Err error)
-
-told_by : (bytes : List ℕ) (error : SheetError) → error ≢ unread.Memory → Answers bytes (Err error) → IsTold bytes error
-told_by bytes unread.Text told a = inl (refl, a)
-told_by bytes (unread.Missing key) told a = inr a
-told_by bytes (unread.Unknown key) told a = inr a
-told_by bytes (unread.Kind key) told a = inr a
-told_by bytes (unread.Range key) told a = inr a
-told_by bytes (unread.Name index) told a = inr a
-told_by bytes (unread.Arrivals task place earlier later) told a = inr a
-told_by bytes (unread.Script task error) told a = inr a
-told_by bytes (unread.Geometry error) told a = inr a
-told_by bytes unread.Memory told a = absurd (told refl)
-
--- one line for bytes that aren't read
-error_same : (bytes : List ℕ) (x y : SheetError) → IsNoSheet bytes x → IsNoSheet bytes y → x ≡ y
-error_same bytes x y a b = go (told_by bytes x a.told a.answers) (told_by bytes y b.told b.answers)
-  where
-    go : IsTold bytes x → IsTold bytes y → x ≡ y
-    go (inl p) (inl q) = p.0 ∙ sym q.0
-    go (inl p) (inr q) = absurd (p.1 q.document q.is)
-    go (inr p) (inl q) = absurd (q.1 p.document p.is)
-    go (inr p) (inr q) = let same = one_read bytes (Err x) (Err y) p q in cc
-
-one_unread : (bytes t t' : List ℕ) → IsUnread bytes t → IsUnread bytes t' → t ≡ t'
-one_unread bytes t t' (too_long long is) (too_long long' is') = is ∙ sym is'
-one_unread bytes t t' (too_long long is) (no_sheet error e is') = let s = e.short in absurd (omega (arith, long, s))
-one_unread bytes t t' (no_sheet error e is) (too_long long' is') = let s = e.short in absurd (omega (arith, long', s))
-one_unread bytes t t' (no_sheet error e is) (no_sheet error' e' is') = is ∙ ap sheet_line (error_same bytes error error' e e') ∙ sym is'
 
 -- one sheet for tasks that have an order
 arranged_same : (bytes t t' : List ℕ) → IsArranged bytes t → IsArranged bytes t' → AreOneSheet t t'
@@ -125,6 +82,7 @@ one_bytes bytes status.Done status.WriteFault t t' a b = absurd b
 one_bytes bytes status.Done status.Sheet t t' a b = absurd (none_read bytes t' a.sheet b a.is)
 one_bytes bytes status.Done status.NotAdmitted t t' a b = absurd (not_both bytes t t' a b)
 one_bytes bytes status.Done status.Live t t' a b = absurd b
+one_bytes bytes status.Done status.Full t t' a b = absurd b
 one_bytes bytes status.Memory s' t t' a b = absurd a
 one_bytes bytes status.Usage s' t t' a b = absurd a
 one_bytes bytes status.ReadFault s' t t' a b = absurd a
@@ -137,6 +95,7 @@ one_bytes bytes status.Sheet status.WriteFault t t' a b = absurd b
 one_bytes bytes status.Sheet status.Sheet t t' a b = refl
 one_bytes bytes status.Sheet status.NotAdmitted t t' a b = absurd (none_read bytes t b.sheet a b.is)
 one_bytes bytes status.Sheet status.Live t t' a b = absurd b
+one_bytes bytes status.Sheet status.Full t t' a b = absurd b
 one_bytes bytes status.NotAdmitted status.Done t t' a b = absurd (not_both bytes t' t b a)
 one_bytes bytes status.NotAdmitted status.Memory t t' a b = absurd b
 one_bytes bytes status.NotAdmitted status.Usage t t' a b = absurd b
@@ -145,7 +104,9 @@ one_bytes bytes status.NotAdmitted status.WriteFault t t' a b = absurd b
 one_bytes bytes status.NotAdmitted status.Sheet t t' a b = absurd (none_read bytes t' a.sheet b a.is)
 one_bytes bytes status.NotAdmitted status.NotAdmitted t t' a b = refl
 one_bytes bytes status.NotAdmitted status.Live t t' a b = absurd b
+one_bytes bytes status.NotAdmitted status.Full t t' a b = absurd b
 one_bytes bytes status.Live s' t t' a b = absurd a
+one_bytes bytes status.Full s' t t' a b = absurd a
 
 -- there are words, or there are none
 record IsWrong (words : List (String Global)) (s : Status) (t : List ℕ) : Type 0 where
@@ -166,6 +127,7 @@ parted words bytes status.WriteFault t called = inr (record { none = called.0; c
 parted words bytes status.Sheet t called = inr (record { none = called.0; called = called.1 })
 parted words bytes status.NotAdmitted t called = inr (record { none = called.0; called = called.1 })
 parted words bytes status.Live t called = inr (record { none = called.0; called = called.1 })
+parted words bytes status.Full t called = inr (record { none = called.0; called = called.1 })
 
 -- one end
 pub one_status : (words : List (String Global)) (bytes : List ℕ) (s s' : Status) (t t' : List ℕ) → CallsFor words bytes s t → CallsFor words bytes s' t' → s ≡ s'
@@ -187,6 +149,7 @@ one_same_text words bytes status.WriteFault t t' a b other = absurd a.1
 one_same_text words bytes status.Sheet t t' a b other = one_unread bytes t t' a.1 b.1
 one_same_text words bytes status.NotAdmitted t t' a b other = no_order_same bytes t t' a.1 b.1
 one_same_text words bytes status.Live t t' a b other = absurd a.1
+one_same_text words bytes status.Full t t' a b other = absurd a.1
 
 pub one_text : (words : List (String Global)) (bytes : List ℕ) (s s' : Status) (t t' : List ℕ) → CallsFor words bytes s t → CallsFor words bytes s' t' → s ≢ status.Done → t ≡ t'
 one_text words bytes s s' t t' a b other =

@@ -8,8 +8,8 @@ use Rattle.hk_io.specs.Bytes.{AppendsPrefix}
 use Rattle.hk_sheet.specs.declared.sheet.Sheet.{Sheet}
 use Rattle.hk_sheet.specs.Answers.{IsRead}
 use Rattle.hk_admit.specs.Analysis.{timings_of}
-use Rattle.hk_top.specs.Text.{line}
-use Rattle.hk_top.specs.Tool.{IsSheetOf, IsUnread}
+use Rattle.hk_front.specs.Text.{line}
+use Rattle.hk_front.specs.Input.{IsSheetOf, IsUnread}
 use Rattle.hk_assign.specs.Assignment.{IsStuck}
 use Rattle.hk_assign.specs.Sheets.{names_at, in_sheet_order, IsAssigned}
 

@@ -1,14 +1,14 @@
 //! What the program does for its words.
-ghost use Rattle.std.specs.Prelude.{◌≡◌, ◌≢◌, ◌⊎◌, ℕ, ◌<◌, ◌≤◌, List, take, length, All, Ok, Err, IfOk, IfErr, IfSome, MatchResult};
+ghost use Rattle.std.specs.Prelude.{◌≡◌, ◌≢◌, ◌⊎◌, ℕ, ◌<◌, ◌≤◌, List, take, length, All, IfOk, IfErr, IfSome};
 ghost use Rattle.std.specs.Io.KnownBytes.{IsAtEnd};
 ghost use Rattle.hk_io.specs.Faults.{Rose};
 ghost use Rattle.hk_io.specs.Limits.{longest_input};
 ghost use Rattle.hk_rta.specs.Demand.{IsTimed};
-ghost use Rattle.hk_sheet.specs.Answers.{IsRead, Answers};
 ghost use Rattle.hk_sheet.specs.Valid.{IsSheet};
 ghost use Rattle.hk_admit.specs.Analysis.{timings_of};
-ghost use Rattle.hk_top.specs.Tool.{IsSheetOf, HasText, EndsBy};
-ghost use Rattle.hk_top.specs.Words.{Puts};
+ghost use Rattle.hk_front.specs.Words.{Puts};
+ghost use Rattle.hk_front.specs.Input.{IsSheetOf};
+ghost use Rattle.hk_front.specs.Endings.{HasText, EndsBy};
 ghost use Rattle.hk_assign.specs.Orders.{IsOrder};
 ghost use Rattle.hk_assign.specs.Assignment.{IsStuck};
 ghost use Rattle.hk_assign.specs.Sheets.{names_at, in_sheet_order, IsAssigned};
@@ -18,24 +18,14 @@ use crate::assignment::assign;
 use crate::order::{Order, Stuck};
 use crate::placing::NO_TIMING;
 use crate::reorder::in_order;
+use hk_front::{ended, put_line, refuse_sheet};
 use hk_io::{Failed, Sink, Source, Status, TakeFault, put_all, take_all};
 use hk_rta::{MAX_TASKS, Timing};
-use hk_sheet::{High, Memory, Sheet, SheetError, read, text};
-use hk_top::{put_line, put_sheet_error};
+use hk_sheet::{High, Memory, Sheet, read, text};
 use std::alloc::Global;
 
 /// The words of a line for tasks that have no order: two, and one for each task.
 const MAX_WORDS: usize = 2 + MAX_TASKS;
-
-/// How the program ends after it wrote a text: so, or with a write fault.
-fn ended(status: Status, written: Result<(), Failed>) -> Status
-    ensures { MatchResult written (λ _. result ≡ status) (λ _. result ≡ Status.WriteFault) }
-{
-    match written {
-        Ok(()) => status,
-        Err(Failed) => Status::WriteFault,
-    }
-}
 
 /// The timings of some tasks.
 fn timings(tasks: &[High]) -> [Timing; MAX_TASKS]
@@ -89,18 +79,6 @@ fn write_in_order<K: Sink>(alloc: Global, sheet: Sheet, order: &Order, sink: &mu
     match text(alloc, &arranged) {
         Ok(bytes) => ended(Status::Done, put_all(sink, bytes.as_slice())),
         Err(Memory) => Status::Memory,
-    }
-}
-
-/// Ends the program for bytes that are no sheet.
-fn refuse_sheet<K: Sink>(error: &SheetError, sink: &mut K) -> Status
-    ensures ends { (bytes : List ℕ) → length bytes ≤ longest_input → Answers bytes (Err error.now)
-        → EndsBy (BytesCallFor bytes) (K.taken sink.old) (K.taken sink.new) (K.faults sink.old) (K.faults sink.new) result }
-    ensures memory { result ≡ Status.Memory → sink.new ≡ sink.old }
-{
-    match error {
-        SheetError::Memory => Status::Memory,
-        _ => ended(Status::Sheet, put_sheet_error(sink, error)),
     }
 }
 

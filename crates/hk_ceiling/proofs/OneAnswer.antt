@@ -1,5 +1,5 @@
 -- Words and bytes call for one end, and for one text.
-use Rattle.std.proofs.Common.{◌≡◌, ℕ, ◌<◌, true, false, List, ◌++◌, length, refl, sym, ap, ◌∙◌, subst, arith, String, Global}
+use Rattle.std.proofs.Common.{◌≡◌, ℕ, ◌<◌, ◌⊎◌, inl, inr, true, false, List, ◌++◌, length, refl, sym, ap, ◌∙◌, subst, arith, String, Global}
 use Rattle.std.proofs.lemmas.Grind.{same_number_lists}
 use Rattle.std.specs.Prelude.{slice_index}
 use Rattle.hk_io.specs.declared.Status.{Status}
@@ -11,10 +11,10 @@ use Rattle.hk_admit.specs.Analysis.{IsBusy, timings_of, cycle_work, attempt_even
 use Rattle.hk_admit.proofs.Excluded.{one_busy}
 use Rattle.hk_words.specs.Geometry.{HasSizes}
 use Rattle.hk_words.proofs.OneGeometry.{one_geometry}
+use Rattle.hk_front.proofs.OneInput.{one_sheet, none_read, one_unread}
 use Rattle.hk_top.specs.declared.report.Form.TheVariants.{Plain}
 use Rattle.hk_top.specs.Report.{analysis, IsRunText}
 use Rattle.hk_top.specs.Tool.{status_of}
-use Rattle.hk_top.proofs.OneCall.{one_sheet, none_read, one_unread}
 use Rattle.hk_top.proofs.OneRun.{one_run}
 use Rattle.hk_ceiling.specs.declared.admitted.Held.{Held}
 use Rattle.hk_ceiling.specs.declared.ceilings.TaskSection.{TaskSection}
@@ -22,7 +22,7 @@ use Rattle.hk_ceiling.specs.declared.told.Section.{Section}
 use Rattle.hk_ceiling.specs.Admission.{AreResponses, IsCeilRefusal}
 use Rattle.hk_ceiling.specs.Choice.{by_ceilings}
 use Rattle.hk_ceiling.specs.Told.{all_numbered}
-use Rattle.hk_ceiling.specs.Tool.{ceil_line, numbered_of, analysis_of, IsNotAdmitted, IsReport, IsAnswer, BytesCallFor, CallsFor}
+use Rattle.hk_ceiling.specs.Tool.{usage_line, ceil_line, numbered_of, analysis_of, IsNotAdmitted, IsReport, IsAnswer, BytesCallFor, CallsFor}
 use Rattle.hk_ceiling.specs.Words.{are_sections, sections_from}
 use Rattle.hk_ceiling.proofs.Excluded.{held_excludes, one_refusal}
 
@@ -109,6 +109,7 @@ module _ (sections : List Section) (bytes : List ℕ) where
   one_bytes status.Done status.Sheet t t' a b = absurd (none_read bytes t' a.held.checked.sheet b a.is)
   one_bytes status.Done status.NotAdmitted t t' a b = absurd (none_admitted t' status.Done t b a)
   one_bytes status.Done status.Live t t' a b = one_answer status.Done status.Live t t' a b
+  one_bytes status.Done status.Full t t' a b = absurd b
   one_bytes status.Memory s' t t' a b = absurd a
   one_bytes status.Usage s' t t' a b = absurd a
   one_bytes status.ReadFault s' t t' a b = absurd a
@@ -121,6 +122,7 @@ module _ (sections : List Section) (bytes : List ℕ) where
   one_bytes status.Sheet status.Sheet t t' a b = (refl, one_unread bytes t t' a b)
   one_bytes status.Sheet status.NotAdmitted t t' a b = absurd (none_read bytes t b.sheet a b.is)
   one_bytes status.Sheet status.Live t t' a b = absurd (none_read bytes t b.held.checked.sheet a b.is)
+  one_bytes status.Sheet status.Full t t' a b = absurd b
   one_bytes status.NotAdmitted status.Done t t' a b = absurd (none_admitted t status.Done t' a b)
   one_bytes status.NotAdmitted status.Memory t t' a b = absurd b
   one_bytes status.NotAdmitted status.Usage t t' a b = absurd b
@@ -129,6 +131,7 @@ module _ (sections : List Section) (bytes : List ℕ) where
   one_bytes status.NotAdmitted status.Sheet t t' a b = absurd (none_read bytes t' a.sheet b a.is)
   one_bytes status.NotAdmitted status.NotAdmitted t t' a b = (refl, one_not_admitted t t' a b)
   one_bytes status.NotAdmitted status.Live t t' a b = absurd (none_admitted t status.Live t' a b)
+  one_bytes status.NotAdmitted status.Full t t' a b = absurd b
   one_bytes status.Live status.Done t t' a b = one_answer status.Live status.Done t t' a b
   one_bytes status.Live status.Memory t t' a b = absurd b
   one_bytes status.Live status.Usage t t' a b = absurd b
@@ -137,75 +140,38 @@ module _ (sections : List Section) (bytes : List ℕ) where
   one_bytes status.Live status.Sheet t t' a b = absurd (none_read bytes t' a.held.checked.sheet b a.is)
   one_bytes status.Live status.NotAdmitted t t' a b = absurd (none_admitted t' status.Live t b a)
   one_bytes status.Live status.Live t t' a b = one_answer status.Live status.Live t t' a b
+  one_bytes status.Live status.Full t t' a b = absurd b
+  one_bytes status.Full s' t t' a b = absurd a
 
 -- BY THE WORDS
+
+-- words that tell no sections call for the usage line, and others for what the bytes call for
+abbrev IsWrong : List (String Global) → Status → List ℕ → Type 0
+IsWrong words s t = (are_sections words ≡ false) × (s ≡ status.Usage) × (t ≡ usage_line)
+
+abbrev IsRight : List (String Global) → (bytes : List ℕ) → Status → List ℕ → Type 0
+IsRight words bytes s t = (are_sections words ≡ true) × BytesCallFor (sections_from words) bytes s t
+
+parted : (words : List (String Global)) (bytes : List ℕ) (s : Status) (t : List ℕ) → CallsFor words bytes s t → IsWrong words s t ⊎ IsRight words bytes s t
+parted words bytes status.Done t called = inr called
+parted words bytes status.Memory t called = inr called
+parted words bytes status.Usage t called = inl (called.0, refl, called.1)
+parted words bytes status.ReadFault t called = inr called
+parted words bytes status.WriteFault t called = inr called
+parted words bytes status.Sheet t called = inr called
+parted words bytes status.NotAdmitted t called = inr called
+parted words bytes status.Live t called = inr called
+parted words bytes status.Full t called = inr called
 
 -- words that tell sections tell some
 told_and_not : (words : List (String Global)) → are_sections words ≡ true → are_sections words ≡ false → ⊥
 told_and_not words some none = let e : true ≡ false = sym some ∙ none in cc
 
 pub one_call : (words : List (String Global)) (bytes : List ℕ) (s s' : Status) (t t' : List ℕ) → CallsFor words bytes s t → CallsFor words bytes s' t' → (s ≡ s') × (t ≡ t')
-one_call words bytes status.Done status.Done t t' a b = one_bytes (sections_from words) bytes status.Done status.Done t t' a.1 b.1
-one_call words bytes status.Done status.Memory t t' a b = one_bytes (sections_from words) bytes status.Done status.Memory t t' a.1 b.1
-one_call words bytes status.Done status.Usage t t' a b = absurd (told_and_not words a.0 b.0)
-one_call words bytes status.Done status.ReadFault t t' a b = one_bytes (sections_from words) bytes status.Done status.ReadFault t t' a.1 b.1
-one_call words bytes status.Done status.WriteFault t t' a b = one_bytes (sections_from words) bytes status.Done status.WriteFault t t' a.1 b.1
-one_call words bytes status.Done status.Sheet t t' a b = one_bytes (sections_from words) bytes status.Done status.Sheet t t' a.1 b.1
-one_call words bytes status.Done status.NotAdmitted t t' a b = one_bytes (sections_from words) bytes status.Done status.NotAdmitted t t' a.1 b.1
-one_call words bytes status.Done status.Live t t' a b = one_bytes (sections_from words) bytes status.Done status.Live t t' a.1 b.1
-one_call words bytes status.Memory status.Done t t' a b = one_bytes (sections_from words) bytes status.Memory status.Done t t' a.1 b.1
-one_call words bytes status.Memory status.Memory t t' a b = one_bytes (sections_from words) bytes status.Memory status.Memory t t' a.1 b.1
-one_call words bytes status.Memory status.Usage t t' a b = absurd (told_and_not words a.0 b.0)
-one_call words bytes status.Memory status.ReadFault t t' a b = one_bytes (sections_from words) bytes status.Memory status.ReadFault t t' a.1 b.1
-one_call words bytes status.Memory status.WriteFault t t' a b = one_bytes (sections_from words) bytes status.Memory status.WriteFault t t' a.1 b.1
-one_call words bytes status.Memory status.Sheet t t' a b = one_bytes (sections_from words) bytes status.Memory status.Sheet t t' a.1 b.1
-one_call words bytes status.Memory status.NotAdmitted t t' a b = one_bytes (sections_from words) bytes status.Memory status.NotAdmitted t t' a.1 b.1
-one_call words bytes status.Memory status.Live t t' a b = one_bytes (sections_from words) bytes status.Memory status.Live t t' a.1 b.1
-one_call words bytes status.Usage status.Done t t' a b = absurd (told_and_not words b.0 a.0)
-one_call words bytes status.Usage status.Memory t t' a b = absurd (told_and_not words b.0 a.0)
-one_call words bytes status.Usage status.Usage t t' a b = (refl, a.1 ∙ sym b.1)
-one_call words bytes status.Usage status.ReadFault t t' a b = absurd (told_and_not words b.0 a.0)
-one_call words bytes status.Usage status.WriteFault t t' a b = absurd (told_and_not words b.0 a.0)
-one_call words bytes status.Usage status.Sheet t t' a b = absurd (told_and_not words b.0 a.0)
-one_call words bytes status.Usage status.NotAdmitted t t' a b = absurd (told_and_not words b.0 a.0)
-one_call words bytes status.Usage status.Live t t' a b = absurd (told_and_not words b.0 a.0)
-one_call words bytes status.ReadFault status.Done t t' a b = one_bytes (sections_from words) bytes status.ReadFault status.Done t t' a.1 b.1
-one_call words bytes status.ReadFault status.Memory t t' a b = one_bytes (sections_from words) bytes status.ReadFault status.Memory t t' a.1 b.1
-one_call words bytes status.ReadFault status.Usage t t' a b = absurd (told_and_not words a.0 b.0)
-one_call words bytes status.ReadFault status.ReadFault t t' a b = one_bytes (sections_from words) bytes status.ReadFault status.ReadFault t t' a.1 b.1
-one_call words bytes status.ReadFault status.WriteFault t t' a b = one_bytes (sections_from words) bytes status.ReadFault status.WriteFault t t' a.1 b.1
-one_call words bytes status.ReadFault status.Sheet t t' a b = one_bytes (sections_from words) bytes status.ReadFault status.Sheet t t' a.1 b.1
-one_call words bytes status.ReadFault status.NotAdmitted t t' a b = one_bytes (sections_from words) bytes status.ReadFault status.NotAdmitted t t' a.1 b.1
-one_call words bytes status.ReadFault status.Live t t' a b = one_bytes (sections_from words) bytes status.ReadFault status.Live t t' a.1 b.1
-one_call words bytes status.WriteFault status.Done t t' a b = one_bytes (sections_from words) bytes status.WriteFault status.Done t t' a.1 b.1
-one_call words bytes status.WriteFault status.Memory t t' a b = one_bytes (sections_from words) bytes status.WriteFault status.Memory t t' a.1 b.1
-one_call words bytes status.WriteFault status.Usage t t' a b = absurd (told_and_not words a.0 b.0)
-one_call words bytes status.WriteFault status.ReadFault t t' a b = one_bytes (sections_from words) bytes status.WriteFault status.ReadFault t t' a.1 b.1
-one_call words bytes status.WriteFault status.WriteFault t t' a b = one_bytes (sections_from words) bytes status.WriteFault status.WriteFault t t' a.1 b.1
-one_call words bytes status.WriteFault status.Sheet t t' a b = one_bytes (sections_from words) bytes status.WriteFault status.Sheet t t' a.1 b.1
-one_call words bytes status.WriteFault status.NotAdmitted t t' a b = one_bytes (sections_from words) bytes status.WriteFault status.NotAdmitted t t' a.1 b.1
-one_call words bytes status.WriteFault status.Live t t' a b = one_bytes (sections_from words) bytes status.WriteFault status.Live t t' a.1 b.1
-one_call words bytes status.Sheet status.Done t t' a b = one_bytes (sections_from words) bytes status.Sheet status.Done t t' a.1 b.1
-one_call words bytes status.Sheet status.Memory t t' a b = one_bytes (sections_from words) bytes status.Sheet status.Memory t t' a.1 b.1
-one_call words bytes status.Sheet status.Usage t t' a b = absurd (told_and_not words a.0 b.0)
-one_call words bytes status.Sheet status.ReadFault t t' a b = one_bytes (sections_from words) bytes status.Sheet status.ReadFault t t' a.1 b.1
-one_call words bytes status.Sheet status.WriteFault t t' a b = one_bytes (sections_from words) bytes status.Sheet status.WriteFault t t' a.1 b.1
-one_call words bytes status.Sheet status.Sheet t t' a b = one_bytes (sections_from words) bytes status.Sheet status.Sheet t t' a.1 b.1
-one_call words bytes status.Sheet status.NotAdmitted t t' a b = one_bytes (sections_from words) bytes status.Sheet status.NotAdmitted t t' a.1 b.1
-one_call words bytes status.Sheet status.Live t t' a b = one_bytes (sections_from words) bytes status.Sheet status.Live t t' a.1 b.1
-one_call words bytes status.NotAdmitted status.Done t t' a b = one_bytes (sections_from words) bytes status.NotAdmitted status.Done t t' a.1 b.1
-one_call words bytes status.NotAdmitted status.Memory t t' a b = one_bytes (sections_from words) bytes status.NotAdmitted status.Memory t t' a.1 b.1
-one_call words bytes status.NotAdmitted status.Usage t t' a b = absurd (told_and_not words a.0 b.0)
-one_call words bytes status.NotAdmitted status.ReadFault t t' a b = one_bytes (sections_from words) bytes status.NotAdmitted status.ReadFault t t' a.1 b.1
-one_call words bytes status.NotAdmitted status.WriteFault t t' a b = one_bytes (sections_from words) bytes status.NotAdmitted status.WriteFault t t' a.1 b.1
-one_call words bytes status.NotAdmitted status.Sheet t t' a b = one_bytes (sections_from words) bytes status.NotAdmitted status.Sheet t t' a.1 b.1
-one_call words bytes status.NotAdmitted status.NotAdmitted t t' a b = one_bytes (sections_from words) bytes status.NotAdmitted status.NotAdmitted t t' a.1 b.1
-one_call words bytes status.NotAdmitted status.Live t t' a b = one_bytes (sections_from words) bytes status.NotAdmitted status.Live t t' a.1 b.1
-one_call words bytes status.Live status.Done t t' a b = one_bytes (sections_from words) bytes status.Live status.Done t t' a.1 b.1
-one_call words bytes status.Live status.Memory t t' a b = one_bytes (sections_from words) bytes status.Live status.Memory t t' a.1 b.1
-one_call words bytes status.Live status.Usage t t' a b = absurd (told_and_not words a.0 b.0)
-one_call words bytes status.Live status.ReadFault t t' a b = one_bytes (sections_from words) bytes status.Live status.ReadFault t t' a.1 b.1
-one_call words bytes status.Live status.WriteFault t t' a b = one_bytes (sections_from words) bytes status.Live status.WriteFault t t' a.1 b.1
-one_call words bytes status.Live status.Sheet t t' a b = one_bytes (sections_from words) bytes status.Live status.Sheet t t' a.1 b.1
-one_call words bytes status.Live status.NotAdmitted t t' a b = one_bytes (sections_from words) bytes status.Live status.NotAdmitted t t' a.1 b.1
-one_call words bytes status.Live status.Live t t' a b = one_bytes (sections_from words) bytes status.Live status.Live t t' a.1 b.1
+one_call words bytes s s' t t' a b = go (parted words bytes s t a) (parted words bytes s' t' b)
+  where
+    go : IsWrong words s t ⊎ IsRight words bytes s t → IsWrong words s' t' ⊎ IsRight words bytes s' t' → (s ≡ s') × (t ≡ t')
+    go (inl x) (inl y) = (x.1 ∙ sym y.1, x.2 ∙ sym y.2)
+    go (inl x) (inr y) = absurd (told_and_not words y.0 x.0)
+    go (inr x) (inl y) = absurd (told_and_not words x.0 y.0)
+    go (inr x) (inr y) = one_bytes (sections_from words) bytes s s' t t' x.1 y.1

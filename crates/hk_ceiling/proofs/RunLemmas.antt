@@ -1,21 +1,18 @@
 -- From what the parts of the program answer to what its top call answers.
-use Rattle.std.proofs.Common.{◌≡◌, ◌≢◌, ℕ, ◌≤◌, ◌⊎◌, inl, inr, true, false, List, ◌++◌, length, Option, Some, None, Result, Err, refl, sym, ap, ◌∙◌, subst, arith, String, Global}
+use Rattle.std.proofs.Common.{◌≡◌, ◌≢◌, ℕ, ◌⊎◌, inl, inr, true, false, List, ◌++◌, Option, Some, None, Result, refl, sym, ap, ◌∙◌, subst, arith, String, Global}
 use Rattle.std.specs.Prelude.{IfSome, MatchOption, MatchResult}
 use Rattle.hk_io.specs.declared.Status.{Status}
 use Rattle.hk_io.specs.declared.Status.TheVariants as status
 use Rattle.hk_io.specs.declared.faults.Failed.{Failed}
-use Rattle.hk_io.specs.Limits.{longest_input}
-use Rattle.hk_sheet.specs.declared.error.SheetError.{SheetError}
-use Rattle.hk_sheet.specs.declared.error.SheetError.TheVariants as unread
 use Rattle.hk_sheet.specs.declared.sheet.Sheet.{Sheet}
-use Rattle.hk_sheet.specs.Answers.{Answers}
+use Rattle.hk_front.specs.Words.{Puts}
+use Rattle.hk_front.specs.Input.{IsSheetOf}
+use Rattle.hk_front.specs.Endings.{HasText, EndsBy, EndsOn}
+use Rattle.hk_front.proofs.EndLemmas.{ends_written, text_or_memory}
 use Rattle.hk_top.specs.declared.report.Finish.{Finish}
 use Rattle.hk_top.specs.declared.report.Finish.TheVariants as finish
-use Rattle.hk_top.specs.Refusals.{sheet_line}
-use Rattle.hk_top.specs.Tool.{status_of, IsSheetOf, no_sheet, HasText, EndsBy, EndsOn}
-use Rattle.hk_top.specs.Words.{Puts}
+use Rattle.hk_top.specs.Tool.{status_of}
 use Rattle.hk_top.proofs.RunEnds.{ends_from, opened}
-use Rattle.hk_top.proofs.ToolLemmas.{ends_written}
 use Rattle.hk_top.specs.declared.report.Form.TheVariants.{Plain}
 use Rattle.hk_top.specs.Report.{analysis, IsRunText}
 use Rattle.hk_words.specs.declared.geometry.Geometry.{Geometry}
@@ -33,14 +30,6 @@ use Rattle.hk_ceiling.specs.declared.told.Section.{Section}
 use Rattle.hk_ceiling.specs.Admission.{IsCeilRefusal}
 use Rattle.hk_ceiling.specs.Tool.{usage_line, ceil_line, numbered_of, analysis_of, IsReport, BytesCallFor, CallsFor, Writes, WritesPrefix}
 use Rattle.hk_ceiling.specs.Words.{are_sections, sections_from}
-
--- why bytes are no sheet
-pub sheet_refused : (before after : Option (List ℕ)) (faults faults_after : ℕ) (sections : List Section) (bytes : List ℕ) (error : SheetError) (written : Result (Unit {0}) Failed) (result : Status)
-    → length bytes ≤ longest_input → Answers bytes (Err error) → error ≢ unread.Memory → Puts before after faults faults_after (sheet_line error) written
-    → MatchResult written (λ _. result ≡ status.Sheet) (λ _. result ≡ status.WriteFault) → EndsBy (BytesCallFor sections bytes) before after faults faults_after result
-sheet_refused before after faults faults_after sections bytes error written result short answers told puts is =
-    ends_written (BytesCallFor sections bytes) before after faults faults_after status.Sheet (sheet_line error) written result tt
-    (no_sheet error (record { short = short; told = told; answers = answers }) refl) puts is
 
 -- why a sheet isn't admitted with its sections
 pub admission_refused : (before after : Option (List ℕ)) (faults faults_after : ℕ) (sections : List Section) (bytes : List ℕ) (sheet : Sheet) (why : CeilRefused) (written : Result (Unit {0}) Failed) (result : Status)
@@ -71,6 +60,7 @@ words_call words bytes form status.WriteFault t h = (form, h)
 words_call words bytes form status.Sheet t h = (form, h)
 words_call words bytes form status.NotAdmitted t h = (form, h)
 words_call words bytes form status.Live t h = (form, h)
+words_call words bytes form status.Full t h = (form, h)
 
 -- the sections that were read are those that the words tell
 pub some_told : (words : List (String Global)) (found : Option (List Section)) (sections : List Section) → found ≡ Some sections
@@ -95,20 +85,11 @@ pub complete : (words : List (String Global)) (input before after : Option (List
     → (ended ≡ status.ReadFault → ⊥) → (ended ≡ status.WriteFault → ⊥)
     → IfSome input (λ bytes. (s : Status) (t : List ℕ) → CallsFor words bytes s t → (ended ≡ s) ⊎ (ended ≡ status.Memory))
 complete words None before after ended whole not_read not_write = tt
-complete words (Some left) before after ended whole not_read not_write = λ s t called. by_end ended refl s t called
+complete words (Some left) before after ended whole not_read not_write = λ s t called.
+    elim (text_or_memory ended not_read not_write) [ inl has ↦ inl (writing (whole has) s t called) | inr none ↦ inr none ]
   where
     writing : Writes words (Some left) before after ended → (s : Status) (t : List ℕ) → CallsFor words left s t → ended ≡ s
     writing w s t called = (one_call words left ended s w.text t (subst (λ b. CallsFor words b ended w.text) w.told w.called) called).0
-
-    by_end : (answer : Status) → ended ≡ answer → (s : Status) (t : List ℕ) → CallsFor words left s t → (ended ≡ s) ⊎ (ended ≡ status.Memory)
-    by_end status.Done e s t called = inl (writing (whole (subst HasText (sym e) tt)) s t called)
-    by_end status.Memory e s t called = inr e
-    by_end status.Usage e s t called = inl (writing (whole (subst HasText (sym e) tt)) s t called)
-    by_end status.ReadFault e s t called = absurd (not_read e)
-    by_end status.WriteFault e s t called = absurd (not_write e)
-    by_end status.Sheet e s t called = inl (writing (whole (subst HasText (sym e) tt)) s t called)
-    by_end status.NotAdmitted e s t called = inl (writing (whole (subst HasText (sym e) tt)) s t called)
-    by_end status.Live e s t called = inl (writing (whole (subst HasText (sym e) tt)) s t called)
 
 -- THE REPORT of an admitted sheet, by the numbers of its session
 module _ (held : Held) (sheet : Sheet) (work attempt busy debt : ℕ) (pick : List TaskSection) (g : Geometry) (same : sheet ≡ held.checked.sheet)

@@ -10,12 +10,13 @@ use Rattle.hk_io.specs.Bytes.{AppendsPrefix}
 use Rattle.hk_sheet.specs.declared.sheet.Sheet.{Sheet}
 use Rattle.hk_sheet.specs.Faults.{sizes_of}
 use Rattle.hk_dispatch.specs.Session.{IsSession}
+use Rattle.hk_front.specs.Text.{line}
+use Rattle.hk_front.specs.Input.{IsSheetOf, IsUnread}
 use Rattle.hk_top.specs.declared.report.Finish.{Finish}
 use Rattle.hk_top.specs.declared.report.Form.TheVariants.{Plain}
 use Rattle.hk_top.specs.Refusals.{refused_words}
 use Rattle.hk_top.specs.Report.{analysis, IsRunText}
-use Rattle.hk_top.specs.Text.{line}
-use Rattle.hk_top.specs.Tool.{status_of, IsSheetOf, IsUnread}
+use Rattle.hk_top.specs.Tool.{status_of}
 use Rattle.hk_ceiling.specs.declared.admitted.Held.{Held}
 use Rattle.hk_ceiling.specs.declared.ceilings.TaskSection.{TaskSection}
 use Rattle.hk_ceiling.specs.declared.refused.CeilRefused.{CeilRefused}

@@ -1,15 +1,15 @@
 //! What the program does for its words.
-ghost use Rattle.std.specs.Prelude.{◌≡◌, ◌≢◌, ◌⊎◌, ℕ, ◌++◌, ◌≤◌, List, length, false, Ok, Err, IfOk, IfSome, OnErr, MatchResult};
+ghost use Rattle.std.specs.Prelude.{◌≡◌, ◌≢◌, ◌⊎◌, ℕ, ◌++◌, ◌≤◌, List, length, false, Ok, IfOk, IfSome, OnErr};
 ghost use Rattle.std.specs.Io.KnownBytes.{Appends, IsAtEnd};
 ghost use Rattle.hk_io.specs.Bytes.{AppendsPrefix};
 ghost use Rattle.hk_io.specs.Faults.{HasCause, Rose};
 ghost use Rattle.hk_io.specs.Limits.{longest_input};
-ghost use Rattle.hk_sheet.specs.Answers.{Answers};
 ghost use Rattle.hk_sheet.specs.declared.sheet.Sheet.{Sheet};
+ghost use Rattle.hk_front.specs.Words.{Puts};
+ghost use Rattle.hk_front.specs.Input.{IsSheetOf};
+ghost use Rattle.hk_front.specs.Endings.{HasText, EndsBy, EndsOn};
 ghost use Rattle.hk_top.specs.declared.report.Form.TheVariants.{Plain};
 ghost use Rattle.hk_top.specs.Report.{analysis, IsRunText};
-ghost use Rattle.hk_top.specs.Tool.{IsSheetOf, HasText, EndsBy, EndsOn};
-ghost use Rattle.hk_top.specs.Words.{Puts};
 ghost use Rattle.hk_ceiling.specs.declared.told.Section.{Section};
 ghost use Rattle.hk_ceiling.specs.Admission.{IsCeilRefusal};
 ghost use Rattle.hk_ceiling.specs.Choice.{by_ceilings};
@@ -23,23 +23,12 @@ use crate::refused::CeilRefused;
 use crate::told::Sections;
 use crate::words::{are_sections, read_sections};
 use hk_dispatch::SessionBy;
+use hk_front::{digits, ended, put_line, refuse_sheet};
 use hk_io::{Failed, Sink, Source, Status, TakeFault, take_all};
-use hk_sheet::{SheetError, Ticks, read};
-use hk_top::{
-    Finish, Form, digits, put_line, put_refused, put_sheet_error, write_analysis, write_run,
-};
+use hk_sheet::{Ticks, read};
+use hk_top::{Finish, Form, put_refused, write_analysis, write_run};
 use hk_words::Memory;
 use std::alloc::{AllocError, Global};
-
-/// How the program ends after it wrote a text: so, or with a write fault.
-fn ended(status: Status, written: Result<(), Failed>) -> Status
-    ensures { MatchResult written (λ _. result ≡ status) (λ _. result ≡ Status.WriteFault) }
-{
-    match written {
-        Ok(()) => status,
-        Err(Failed) => Status::WriteFault,
-    }
-}
 
 /// Writes why a sheet with sections isn't admitted.
 fn put_ceil_refused<K: Sink>(sink: &mut K, refused: &CeilRefused) -> Result<(), Failed>
@@ -54,18 +43,6 @@ fn put_ceil_refused<K: Sink>(sink: &mut K, refused: &CeilRefused) -> Result<(), 
         CeilRefused::Jitter(task) => put_line(sink, &[b"refused", b"jitter", &task.items]),
         CeilRefused::Response(task) => put_line(sink, &[b"refused", b"response", &task.items]),
         CeilRefused::Memory => put_line(sink, &[b"refused"]),
-    }
-}
-
-/// Ends the program for bytes that are no sheet.
-fn refuse_sheet<K: Sink>(error: &SheetError, sink: &mut K) -> Status
-    ensures ends { (sections : List Section) (bytes : List ℕ) → length bytes ≤ longest_input → Answers bytes (Err error.now)
-        → EndsBy (BytesCallFor sections bytes) (K.taken sink.old) (K.taken sink.new) (K.faults sink.old) (K.faults sink.new) result }
-    ensures memory { result ≡ Status.Memory → sink.new ≡ sink.old }
-{
-    match error {
-        SheetError::Memory => Status::Memory,
-        _ => ended(Status::Sheet, put_sheet_error(sink, error)),
     }
 }
 

@@ -9,10 +9,10 @@ use Rattle.hk_admit.specs.Analysis.{IsBusy, cycle_work, attempt_events, most_owe
 use Rattle.hk_admit.proofs.Excluded.{one_busy}
 use Rattle.hk_words.specs.Geometry.{HasSizes}
 use Rattle.hk_words.proofs.OneGeometry.{one_geometry}
+use Rattle.hk_front.proofs.OneInput.{one_sheet, none_read, one_unread}
 use Rattle.hk_top.specs.declared.report.Form.TheVariants.{Plain}
 use Rattle.hk_top.specs.Report.{IsRunText}
 use Rattle.hk_top.specs.Tool.{status_of}
-use Rattle.hk_top.proofs.OneCall.{one_sheet, none_read, one_unread}
 use Rattle.hk_top.proofs.OneRun.{one_run}
 use Rattle.hk_edf.specs.Earliest.{earliest_row}
 use Rattle.hk_edf.specs.Refusals.{IsEdfRefusal}
@@ -70,6 +70,7 @@ one_bytes bytes status.Done status.WriteFault t t' a b = absurd b
 one_bytes bytes status.Done status.Sheet t t' a b = absurd (none_read bytes t' a.checked.sheet b a.is)
 one_bytes bytes status.Done status.NotAdmitted t t' a b = absurd (none_admitted bytes t' status.Done t b a)
 one_bytes bytes status.Done status.Live t t' a b = one_answer bytes status.Done status.Live t t' a b
+one_bytes bytes status.Done status.Full t t' a b = absurd b
 one_bytes bytes status.Memory s' t t' a b = absurd a
 one_bytes bytes status.Usage s' t t' a b = absurd a
 one_bytes bytes status.ReadFault s' t t' a b = absurd a
@@ -82,6 +83,7 @@ one_bytes bytes status.Sheet status.WriteFault t t' a b = absurd b
 one_bytes bytes status.Sheet status.Sheet t t' a b = (refl, one_unread bytes t t' a b)
 one_bytes bytes status.Sheet status.NotAdmitted t t' a b = absurd (none_read bytes t b.sheet a b.is)
 one_bytes bytes status.Sheet status.Live t t' a b = absurd (none_read bytes t b.checked.sheet a b.is)
+one_bytes bytes status.Sheet status.Full t t' a b = absurd b
 one_bytes bytes status.NotAdmitted status.Done t t' a b = absurd (none_admitted bytes t status.Done t' a b)
 one_bytes bytes status.NotAdmitted status.Memory t t' a b = absurd b
 one_bytes bytes status.NotAdmitted status.Usage t t' a b = absurd b
@@ -90,6 +92,7 @@ one_bytes bytes status.NotAdmitted status.WriteFault t t' a b = absurd b
 one_bytes bytes status.NotAdmitted status.Sheet t t' a b = absurd (none_read bytes t' a.sheet b a.is)
 one_bytes bytes status.NotAdmitted status.NotAdmitted t t' a b = (refl, one_not_admitted bytes t t' a b)
 one_bytes bytes status.NotAdmitted status.Live t t' a b = absurd (none_admitted bytes t status.Live t' a b)
+one_bytes bytes status.NotAdmitted status.Full t t' a b = absurd b
 one_bytes bytes status.Live status.Done t t' a b = one_answer bytes status.Live status.Done t t' a b
 one_bytes bytes status.Live status.Memory t t' a b = absurd b
 one_bytes bytes status.Live status.Usage t t' a b = absurd b
@@ -98,6 +101,8 @@ one_bytes bytes status.Live status.WriteFault t t' a b = absurd b
 one_bytes bytes status.Live status.Sheet t t' a b = absurd (none_read bytes t' a.checked.sheet b a.is)
 one_bytes bytes status.Live status.NotAdmitted t t' a b = absurd (none_admitted bytes t' status.Live t b a)
 one_bytes bytes status.Live status.Live t t' a b = one_answer bytes status.Live status.Live t t' a b
+one_bytes bytes status.Live status.Full t t' a b = absurd b
+one_bytes bytes status.Full s' t t' a b = absurd a
 
 pub one_call : (words : List (String Global)) (bytes : List ℕ) (s s' : Status) (t t' : List ℕ) → CallsFor words bytes s t → CallsFor words bytes s' t' → (s ≡ s') × (t ≡ t')
 one_call [] bytes s s' t t' a b = one_bytes bytes s s' t t' a b

@@ -12,11 +12,12 @@ use Rattle.hk_io.proofs.BytesLemmas.{AppendsPrefix-append}
 use Rattle.hk_sheet.specs.declared.sheet.High.{High}
 use Rattle.hk_sheet.specs.declared.sheet.Low.{Low}
 use Rattle.hk_sheet.specs.declared.sheet.Sheet.{Sheet}
-use Rattle.hk_top.specs.Text.{line, heap_line, low_line}
+use Rattle.hk_front.specs.Text.{line}
+use Rattle.hk_front.specs.Words.{Puts}
+use Rattle.hk_front.proofs.WordLemmas.{prefix_after}
+use Rattle.hk_top.specs.Text.{heap_line, low_line}
 use Rattle.hk_top.specs.Report.{line_of_low, low_lines}
-use Rattle.hk_top.specs.Words.{Puts}
 use Rattle.hk_top.proofs.Parts.{first_texts}
-use Rattle.hk_top.proofs.WordLemmas.{prefix_after}
 use Rattle.hk_edf.specs.Text.{deadline_lines, edf_analysis}
 
 -- ---- two texts

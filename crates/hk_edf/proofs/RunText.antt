@@ -15,13 +15,14 @@ use Rattle.hk_sheet.specs.Faults.{sizes_of}
 use Rattle.hk_admit.specs.declared.checked.Checked.{Checked}
 use Rattle.hk_dispatch.specs.Moment.{opening}
 use Rattle.hk_dispatch.specs.Session.{state}
+use Rattle.hk_front.specs.Endings.{HasText, EndsBy}
+use Rattle.hk_front.proofs.EndLemmas.{ends_written}
 use Rattle.hk_top.specs.declared.report.Form.TheVariants.{Plain}
 use Rattle.hk_top.specs.declared.report.Finish.{Finish}
 use Rattle.hk_top.specs.declared.report.Finish.TheVariants as finish
 use Rattle.hk_top.specs.Report.{ticks_text, last_lines, IsRunText}
-use Rattle.hk_top.specs.Tool.{status_of, HasText, EndsBy}
+use Rattle.hk_top.specs.Tool.{status_of}
 use Rattle.hk_top.proofs.RunEnds.{ends_from}
-use Rattle.hk_top.proofs.ToolLemmas.{ends_written}
 use Rattle.hk_edf.specs.Earliest.{earliest_row}
 use Rattle.hk_edf.specs.Refusals.{MeetsDemand}
 use Rattle.hk_edf.specs.Text.{edf_analysis, analysis_of}

@@ -1,5 +1,5 @@
 -- From what the parts of the program answer to what its top call answers.
-use Rattle.std.proofs.Common.{◌≡◌, ◌≢◌, ℕ, ◌≤◌, ◌⊎◌, inl, inr, List, [], ◌∷◌, ◌++◌, length, true, false, ◌==◌, Option, None, Some, Result, Err, refl, sym, ap, ◌∙◌, subst, arith, String, Global}
+use Rattle.std.proofs.Common.{◌≡◌, ◌≢◌, ℕ, ◌⊎◌, inl, inr, List, [], ◌∷◌, ◌++◌, length, true, false, ◌==◌, Option, None, Some, Result, refl, sym, ap, ◌∙◌, subst, arith, String, Global}
 use Rattle.std.proofs.lemmas.Bool.{ne_eqb, true≢false}
 use Rattle.std.specs.Prelude.{IfSome, MatchResult}
 use Rattle.hk_words.specs.declared.geometry.Geometry.{Geometry}
@@ -7,21 +7,18 @@ use Rattle.hk_words.specs.Geometry.{HasSizes}
 use Rattle.hk_io.specs.declared.Status.{Status}
 use Rattle.hk_io.specs.declared.Status.TheVariants as status
 use Rattle.hk_io.specs.declared.faults.Failed.{Failed}
-use Rattle.hk_io.specs.Limits.{longest_input}
-use Rattle.hk_sheet.specs.declared.error.SheetError.{SheetError}
-use Rattle.hk_sheet.specs.declared.error.SheetError.TheVariants as unread
 use Rattle.hk_sheet.specs.declared.sheet.Sheet.{Sheet}
-use Rattle.hk_sheet.specs.Answers.{Answers}
 use Rattle.hk_sheet.specs.Faults.{sizes_of}
 use Rattle.hk_admit.specs.declared.checked.Checked.{Checked}
+use Rattle.hk_front.specs.Words.{Puts}
+use Rattle.hk_front.specs.Input.{IsSheetOf}
+use Rattle.hk_front.specs.Endings.{HasText, EndsBy}
+use Rattle.hk_front.proofs.EndLemmas.{ends_written, text_or_memory}
 use Rattle.hk_top.specs.declared.report.Form.TheVariants.{Plain}
 use Rattle.hk_top.specs.declared.report.Finish.{Finish}
 use Rattle.hk_top.specs.declared.report.Finish.TheVariants as finish
-use Rattle.hk_top.specs.Refusals.{sheet_line}
 use Rattle.hk_top.specs.Report.{IsRunText}
-use Rattle.hk_top.specs.Tool.{status_of, IsSheetOf, no_sheet, HasText, EndsBy}
-use Rattle.hk_top.specs.Words.{Puts}
-use Rattle.hk_top.proofs.ToolLemmas.{ends_written}
+use Rattle.hk_top.specs.Tool.{status_of}
 use Rattle.hk_edf.specs.declared.refused.EdfRefused.{EdfRefused}
 use Rattle.hk_edf.specs.declared.refused.EdfRefused.TheVariants as refused
 use Rattle.hk_edf.specs.Earliest.{earliest_row}
@@ -60,14 +57,6 @@ answer_calls bytes c is meets s t r =
     (by_finish bytes t r.finish (record { checked = c; is = is; meets = meets; report = subst (λ x. IsReport c x t) r.ended_is r }))
 
 -- ---- refusals
-
--- why bytes are no sheet
-pub sheet_refused : (before after : Option (List ℕ)) (faults faults_after : ℕ) (bytes : List ℕ) (error : SheetError) (written : Result (Unit {0}) Failed) (result : Status)
-    → length bytes ≤ longest_input → Answers bytes (Err error) → error ≢ unread.Memory → Puts before after faults faults_after (sheet_line error) written
-    → MatchResult written (λ _. result ≡ status.Sheet) (λ _. result ≡ status.WriteFault) → EndsBy (BytesCallFor bytes) before after faults faults_after result
-sheet_refused before after faults faults_after bytes error written result short answers told puts is =
-    ends_written (BytesCallFor bytes) before after faults faults_after status.Sheet (sheet_line error) written result tt
-    (no_sheet error (record { short = short; told = told; answers = answers }) refl) puts is
 
 -- why a sheet isn't admitted
 pub admission_refused : (before after : Option (List ℕ)) (faults faults_after : ℕ) (bytes : List ℕ) (sheet : Sheet) (why : EdfRefused) (written : Result (Unit {0}) Failed) (result : Status)
@@ -110,17 +99,8 @@ pub complete : (words : List (String Global)) (input before after : Option (List
     → (ended ≡ status.ReadFault → ⊥) → (ended ≡ status.WriteFault → ⊥)
     → IfSome input (λ bytes. (s : Status) (t : List ℕ) → CallsFor words bytes s t → (ended ≡ s) ⊎ (ended ≡ status.Memory))
 complete words None before after ended whole not_read not_write = tt
-complete words (Some left) before after ended whole not_read not_write = λ s t called. by_end ended refl s t called
+complete words (Some left) before after ended whole not_read not_write = λ s t called.
+    elim (text_or_memory ended not_read not_write) [ inl has ↦ inl (writing (whole has) s t called) | inr none ↦ inr none ]
   where
     writing : Writes words (Some left) before after ended → (s : Status) (t : List ℕ) → CallsFor words left s t → ended ≡ s
     writing w s t called = (one_call words left ended s w.text t (subst (λ b. CallsFor words b ended w.text) w.told w.called) called).0
-
-    by_end : (answer : Status) → ended ≡ answer → (s : Status) (t : List ℕ) → CallsFor words left s t → (ended ≡ s) ⊎ (ended ≡ status.Memory)
-    by_end status.Done e s t called = inl (writing (whole (subst HasText (sym e) tt)) s t called)
-    by_end status.Memory e s t called = inr e
-    by_end status.Usage e s t called = inl (writing (whole (subst HasText (sym e) tt)) s t called)
-    by_end status.ReadFault e s t called = absurd (not_read e)
-    by_end status.WriteFault e s t called = absurd (not_write e)
-    by_end status.Sheet e s t called = inl (writing (whole (subst HasText (sym e) tt)) s t called)
-    by_end status.NotAdmitted e s t called = inl (writing (whole (subst HasText (sym e) tt)) s t called)
-    by_end status.Live e s t called = inl (writing (whole (subst HasText (sym e) tt)) s t called)

@@ -3,7 +3,8 @@ use Rattle.std.specs.Prelude.{ℕ, List, [], ◌∷◌, ◌++◌, codes, decimal
 use Rattle.hk_sheet.specs.declared.sheet.High.{High}
 use Rattle.hk_sheet.specs.declared.sheet.Sheet.{Sheet}
 use Rattle.hk_admit.specs.declared.checked.Checked.{Checked}
-use Rattle.hk_top.specs.Text.{line, heap_line}
+use Rattle.hk_front.specs.Text.{line}
+use Rattle.hk_top.specs.Text.{heap_line}
 use Rattle.hk_top.specs.Refusals.{refused_words}
 use Rattle.hk_top.specs.Report.{low_lines}
 use Rattle.hk_edf.specs.declared.refused.EdfRefused.{EdfRefused}

@@ -13,10 +13,11 @@ use Rattle.hk_sheet.specs.Faults.{sizes_of}
 use Rattle.hk_admit.specs.declared.checked.Checked.{Checked}
 use Rattle.hk_dispatch.specs.Moment.{flip_heap}
 use Rattle.hk_dispatch.specs.Session.{state}
+use Rattle.hk_front.specs.Input.{IsSheetOf, IsUnread}
 use Rattle.hk_top.specs.declared.report.Form.TheVariants.{Plain}
 use Rattle.hk_top.specs.declared.report.Finish.{Finish}
 use Rattle.hk_top.specs.Report.{IsRunText}
-use Rattle.hk_top.specs.Tool.{status_of, IsSheetOf, IsUnread}
+use Rattle.hk_top.specs.Tool.{status_of}
 use Rattle.hk_edf.specs.declared.refused.EdfRefused.{EdfRefused}
 use Rattle.hk_edf.specs.declared.refused.EdfRefused.TheVariants as refused
 use Rattle.hk_edf.specs.Earliest.{earliest_row}

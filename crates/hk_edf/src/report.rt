@@ -1,15 +1,16 @@
 //! The lines of a sheet whose high jobs go by earliest deadlines.
 ghost use Rattle.std.specs.Prelude.{◌≡◌};
+ghost use Rattle.hk_front.specs.Words.{Puts};
 ghost use Rattle.hk_top.specs.Text.{heap_line};
 ghost use Rattle.hk_top.specs.Report.{low_lines};
-ghost use Rattle.hk_top.specs.Words.{Puts};
 ghost use Rattle.hk_edf.specs.Text.{deadline_lines, analysis_of, edf_line};
 
 use crate::refused::EdfRefused;
 use hk_admit::Checked;
+use hk_front::{digits, put_line};
 use hk_io::{Failed, Sink};
 use hk_sheet::{High, Low};
-use hk_top::{digits, put_line, put_refused};
+use hk_top::put_refused;
 
 /// Writes the analysis of the heap.
 #[tactic(auto, unfolding(hk_top::specs::Text::heap_line))]

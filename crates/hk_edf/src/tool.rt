@@ -1,15 +1,15 @@
 //! What the program does.
-ghost use Rattle.std.specs.Prelude.{◌≡◌, ◌≢◌, ◌⊎◌, ℕ, ◌++◌, ◌≤◌, List, [], length, Err, OnErr, IfOk, IfSome, MatchResult};
+ghost use Rattle.std.specs.Prelude.{◌≡◌, ◌≢◌, ◌⊎◌, ℕ, ◌++◌, ◌≤◌, List, [], length, OnErr, IfOk, IfSome};
 ghost use Rattle.std.specs.Io.KnownBytes.{Appends, IsAtEnd};
 ghost use Rattle.hk_io.specs.Bytes.{AppendsPrefix};
 ghost use Rattle.hk_io.specs.Faults.{Rose, HasCause};
 ghost use Rattle.hk_io.specs.Limits.{longest_input};
-ghost use Rattle.hk_sheet.specs.Answers.{Answers};
 ghost use Rattle.hk_sheet.specs.declared.sheet.Sheet.{Sheet};
+ghost use Rattle.hk_front.specs.Input.{IsSheetOf};
+ghost use Rattle.hk_front.specs.Endings.{HasText, EndsBy};
 ghost use Rattle.hk_top.specs.declared.report.Finish.{Finish};
 ghost use Rattle.hk_top.specs.declared.report.Form.TheVariants.{Plain};
 ghost use Rattle.hk_top.specs.Report.{IsRunText};
-ghost use Rattle.hk_top.specs.Tool.{IsSheetOf, HasText, EndsBy};
 ghost use Rattle.hk_edf.specs.Earliest.{earliest_row};
 ghost use Rattle.hk_edf.specs.Refusals.{MeetsDemand, IsEdfRefusal};
 ghost use Rattle.hk_edf.specs.Text.{edf_analysis};
@@ -21,21 +21,12 @@ use crate::refused::EdfRefused;
 use crate::report::{put_analysis, put_edf_refused};
 use hk_admit::Checked;
 use hk_dispatch::SessionBy;
+use hk_front::{ended, put_line, refuse_sheet};
 use hk_io::{Failed, Sink, Source, Status, TakeFault, take_all};
-use hk_sheet::{SheetError, read};
-use hk_top::{Finish, Form, put_line, put_sheet_error, write_run};
+use hk_sheet::read;
+use hk_top::{Finish, Form, write_run};
 use hk_words::Memory;
 use std::alloc::Global;
-
-/// How the program ends after it wrote a text: so, or with a write fault.
-fn ended(status: Status, written: Result<(), Failed>) -> Status
-    ensures { MatchResult written (λ _. result ≡ status) (λ _. result ≡ Status.WriteFault) }
-{
-    match written {
-        Ok(()) => status,
-        Err(Failed) => Status::WriteFault,
-    }
-}
 
 /// Writes the analysis of the sheet of a session that has had no tick, runs the session, and writes its report.
 fn write_report<K: Sink>(session: &mut SessionBy<Earliest>, sink: &mut K) -> Result<Finish, Failed>
@@ -64,18 +55,6 @@ fn run_checked<K: Sink>(alloc: Global, checked: Checked, sink: &mut K) -> Status
         Ok(Finish::AtEnd) => Status::Done,
         Ok(Finish::Live(_)) => Status::Live,
         Err(Failed) => Status::WriteFault,
-    }
-}
-
-/// Ends the program for bytes that are no sheet.
-fn refuse_sheet<K: Sink>(error: &SheetError, sink: &mut K) -> Status
-    ensures ends { (bytes : List ℕ) → length bytes ≤ longest_input → Answers bytes (Err error.now)
-        → EndsBy (BytesCallFor bytes) (K.taken sink.old) (K.taken sink.new) (K.faults sink.old) (K.faults sink.new) result }
-    ensures memory { result ≡ Status.Memory → sink.new ≡ sink.old }
-{
-    match error {
-        SheetError::Memory => Status::Memory,
-        _ => ended(Status::Sheet, put_sheet_error(sink, error)),
     }
 }
 

@@ -12,6 +12,7 @@ use Rattle.hk_gen.proofs.Drawn.{made_admitted}
 use Rattle.hk_dispatch.specs.Session.{IsTick}
 use Rattle.hk_dispatch.specs.Told.{told}
 use Rattle.hk_dispatch.specs.declared.tick.Tick.TheVariants as tick
+use Rattle.hk_front.specs.Input.{IsSheetOf}
 use Rattle.hk_top.specs.declared.report.Form.{Form}
 use Rattle.hk_top.specs.declared.report.Form.TheVariants as form
 use Rattle.hk_top.specs.declared.report.Finish.{Finish}
@@ -20,7 +21,7 @@ use Rattle.hk_top.specs.declared.tool.Command.{Command}
 use Rattle.hk_top.specs.declared.tool.Command.TheVariants as command
 use Rattle.hk_top.specs.Report.{ticks_text, last_lines, EndsSo, at_horizon, live_over}
 use Rattle.hk_top.specs.Headline.{LiveIsWithin}
-use Rattle.hk_top.specs.Tool.{analysis_of, needs_input, IsSheetOf, IsReport, CommandCallsFor}
+use Rattle.hk_top.specs.Tool.{analysis_of, needs_input, IsReport, CommandCallsFor}
 use Rattle.hk_top.proofs.Headline.{headline}
 use Rattle.hk_top.proofs.OneRun.{found}
 use Rattle.hk_top.proofs.RunEnds.{Ends, ends_from, opened}

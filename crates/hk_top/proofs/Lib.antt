@@ -4,7 +4,6 @@ pub mod Parts
 pub mod Below
 pub mod Three
 pub mod Four
-pub mod WordLemmas
 pub mod ReportParts
 pub mod ReportLemmas
 pub mod SheetLemmas

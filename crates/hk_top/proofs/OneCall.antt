@@ -1,17 +1,12 @@
 -- Words and bytes call for one end, and for one text.
-use Rattle.std.proofs.Common.{◌≡◌, ◌≢◌, ℕ, ◌-◌, ◌<◌, ◌⊎◌, inl, inr, List, ◌++◌, length, Option, Some, None, Result, Ok, Err, refl, sym, ap, ◌∙◌, subst, arith, slice_index}
+use Rattle.std.proofs.Common.{◌≡◌, ◌≢◌, ℕ, ◌-◌, ◌<◌, List, ◌++◌, length, Option, Some, None, refl, sym, ap, ◌∙◌, subst, arith, slice_index}
 use Rattle.std.proofs.lemmas.Grind.{same_number_lists}
-use Rattle.std.specs.Prelude.{unwrap_or}
-use Rattle.toml.specs.Data.{Members}
 use Rattle.hk_io.specs.declared.Status.{Status}
 use Rattle.hk_io.specs.declared.Status.TheVariants as status
 use Rattle.hk_rta.specs.declared.Timing.{Timing}
 use Rattle.hk_rta.specs.Demand.{jitter_at}
-use Rattle.hk_sheet.specs.declared.error.SheetError.{SheetError}
-use Rattle.hk_sheet.specs.declared.error.SheetError.TheVariants as unread
 use Rattle.hk_sheet.specs.declared.sheet.Sheet.{Sheet}
-use Rattle.hk_sheet.specs.Answers.{IsDocument, IsRead, Answers}
-use Rattle.hk_sheet.specs.Faults.{sheet_of, sizes_of}
+use Rattle.hk_sheet.specs.Faults.{sizes_of}
 use Rattle.hk_admit.specs.declared.checked.Admitted.{Admitted}
 use Rattle.hk_admit.specs.Analysis.{timings_of, IsBusy, cycle_work, attempt_events, most_owed}
 use Rattle.hk_admit.specs.Conditions.{AreResponses}
@@ -21,83 +16,16 @@ use Rattle.hk_admit.proofs.Unique.{one_refusal}
 use Rattle.hk_words.specs.Geometry.{HasSizes}
 use Rattle.hk_words.proofs.OneGeometry.{one_geometry}
 use Rattle.hk_plan.specs.AloneBy.{least_task}
+use Rattle.hk_front.specs.Input.{IsSheetOf}
+use Rattle.hk_front.proofs.OneInput.{one_sheet, none_read, one_unread}
 use Rattle.hk_top.specs.declared.report.Form.{Form}
 use Rattle.hk_top.specs.declared.report.Form.TheVariants as form
 use Rattle.hk_top.specs.declared.tool.Command.{Command}
 use Rattle.hk_top.specs.declared.tool.Command.TheVariants as command
-use Rattle.hk_top.specs.Refusals.{sheet_line, refused_line}
+use Rattle.hk_top.specs.Refusals.{refused_line}
 use Rattle.hk_top.specs.Report.{analysis, IsRunText}
-use Rattle.hk_top.specs.Tool.{analysis_of, status_of, IsSheetOf, IsNoSheet, IsUnread, too_long, no_sheet, IsNotAdmitted, IsAnalysis, IsReport, IsAnswer, answer_for, BytesCallFor, CommandCallsFor}
+use Rattle.hk_top.specs.Tool.{analysis_of, status_of, IsNotAdmitted, IsAnalysis, IsReport, IsAnswer, answer_for, BytesCallFor, CommandCallsFor}
 use Rattle.hk_top.proofs.OneRun.{one_run}
-
--- A SHEET
-
-one_document : (bytes : List ℕ) (d e : Members) → IsDocument bytes d → IsDocument bytes e → d ≡ e
-one_document bytes d e x y = ap (λ o. unwrap_or o d) (sym x.parsed ∙ y.parsed)
-
-sheet_or : Sheet → Result Sheet SheetError → Sheet
-sheet_or other (Ok sheet) = sheet
-sheet_or other (Err error) = other
-
-abbrev IsGood : Result Sheet SheetError → Type 0
-IsGood (Ok sheet) = Unit {0}
-IsGood (Err error) = ⊥
-
-one_read : (bytes : List ℕ) (r s : Result Sheet SheetError) → IsRead bytes r → IsRead bytes s → r ≡ s
-one_read bytes r s x y = sym x.read ∙ ap sheet_of (one_document bytes x.document y.document x.is y.is) ∙ y.read
-
-pub one_sheet : (bytes : List ℕ) (x y : Sheet) → IsSheetOf bytes x → IsSheetOf bytes y → x ≡ y
-unfolding sheet_or
-one_sheet bytes x y a b = ap (sheet_or x) (one_read bytes (Ok x) (Ok y) a.read b.read)
-
--- AN ERROR
-
-error_or : SheetError → Result Sheet SheetError → SheetError
-error_or other (Ok sheet) = other
-error_or other (Err error) = error
-
-same_error : (x y : SheetError) (r : Result Sheet SheetError) → r ≡ Err x → r ≡ Err y → x ≡ y
-unfolding error_or
-same_error x y r p q = ap (error_or x) (sym p ∙ q)
-
--- the bytes are no document, or the first fault of one
-told_by : (bytes : List ℕ) (error : SheetError) → error ≢ unread.Memory → Answers bytes (Err error)
-    → ((error ≡ unread.Text) × ((document : Members) → ¬ (IsDocument bytes document))) ⊎ IsRead bytes (Err error)
-told_by bytes unread.Text told a = inl (refl, a)
-told_by bytes (unread.Missing key) told a = inr a
-told_by bytes (unread.Unknown key) told a = inr a
-told_by bytes (unread.Kind key) told a = inr a
-told_by bytes (unread.Range key) told a = inr a
-told_by bytes (unread.Name index) told a = inr a
-told_by bytes (unread.Arrivals task place earlier later) told a = inr a
-told_by bytes (unread.Script task error) told a = inr a
-told_by bytes (unread.Geometry error) told a = inr a
-told_by bytes unread.Memory told a = absurd (told refl)
-
-one_error : (bytes : List ℕ) (x y : SheetError) → IsNoSheet bytes x → IsNoSheet bytes y → x ≡ y
-one_error bytes x y a b = go (told_by bytes x a.told a.answers) (told_by bytes y b.told b.answers)
-  where
-    go : ((x ≡ unread.Text) × ((document : Members) → ¬ (IsDocument bytes document))) ⊎ IsRead bytes (Err x)
-        → ((y ≡ unread.Text) × ((document : Members) → ¬ (IsDocument bytes document))) ⊎ IsRead bytes (Err y) → x ≡ y
-    go (inl p) (inl q) = p.0 ∙ sym q.0
-    go (inl p) (inr q) = absurd (p.1 q.document q.is)
-    go (inr p) (inl q) = absurd (q.1 p.document p.is)
-    go (inr p) (inr q) = same_error x y (Err x) refl (one_read bytes (Err x) (Err y) p q)
-
-not_both : (bytes : List ℕ) (sheet : Sheet) (error : SheetError) → IsRead bytes (Ok sheet) → IsRead bytes (Err error) → ⊥
-not_both bytes sheet error x y = subst IsGood (one_read bytes (Ok sheet) (Err error) x y) tt
-
-not_answered : (bytes : List ℕ) (sheet : Sheet) (error : SheetError) → IsRead bytes (Ok sheet) → error ≢ unread.Memory → Answers bytes (Err error) → ⊥
-not_answered bytes sheet error x told a = go (told_by bytes error told a)
-  where
-    go : ((error ≡ unread.Text) × ((document : Members) → ¬ (IsDocument bytes document))) ⊎ IsRead bytes (Err error) → ⊥
-    go (inl p) = p.1 x.document x.is
-    go (inr p) = not_both bytes sheet error x p
-
--- bytes that aren't read are no sheet
-pub none_read : (bytes text : List ℕ) (sheet : Sheet) → IsUnread bytes text → IsSheetOf bytes sheet → ⊥
-none_read bytes text sheet (too_long long is) x = let s = x.short in omega (arith, long, s)
-none_read bytes text sheet (no_sheet error e is) x = not_answered bytes sheet error x.read e.told e.answers
 
 -- a sheet that isn't admitted is none that is
 pub none_admitted : (bytes text : List ℕ) (a : Admitted) → IsNotAdmitted bytes text → IsSheetOf bytes a.checked.sheet → ⊥
@@ -107,12 +35,6 @@ none_admitted bytes text a n x =
     (subst (λ s. IsRefusal s n.why) same n.refusal))
 
 -- THE TEXTS
-
-pub one_unread : (bytes t t' : List ℕ) → IsUnread bytes t → IsUnread bytes t' → t ≡ t'
-one_unread bytes t t' (too_long long is) (too_long long' is') = is ∙ sym is'
-one_unread bytes t t' (too_long long is) (no_sheet error e is') = let s = e.short in absurd (omega (arith, long, s))
-one_unread bytes t t' (no_sheet error e is) (too_long long is') = let s = e.short in absurd (omega (arith, long, s))
-one_unread bytes t t' (no_sheet error e is) (no_sheet error' e' is') = is ∙ ap sheet_line (one_error bytes error error' e e') ∙ sym is'
 
 one_not_admitted : (bytes t t' : List ℕ) → IsNotAdmitted bytes t → IsNotAdmitted bytes t' → t ≡ t'
 one_not_admitted bytes t t' a b =
@@ -189,6 +111,7 @@ module _ (Answer : Admitted → Status → List ℕ → Type 0) (one : IsOne Ans
   one_bytes status.Done status.Sheet t t' a b = absurd (none_read bytes t' a.admitted.checked.sheet b a.is)
   one_bytes status.Done status.NotAdmitted t t' a b = absurd (none_admitted bytes t' a.admitted b a.is)
   one_bytes status.Done status.Live t t' a b = answers status.Done status.Live t t' a b
+  one_bytes status.Done status.Full t t' a b = absurd b
   one_bytes status.Memory s' t t' a b = absurd a
   one_bytes status.Usage s' t t' a b = absurd a
   one_bytes status.ReadFault s' t t' a b = absurd a
@@ -201,6 +124,7 @@ module _ (Answer : Admitted → Status → List ℕ → Type 0) (one : IsOne Ans
   one_bytes status.Sheet status.Sheet t t' a b = (refl, one_unread bytes t t' a b)
   one_bytes status.Sheet status.NotAdmitted t t' a b = absurd (none_read bytes t b.sheet a b.is)
   one_bytes status.Sheet status.Live t t' a b = absurd (none_read bytes t b.admitted.checked.sheet a b.is)
+  one_bytes status.Sheet status.Full t t' a b = absurd b
   one_bytes status.NotAdmitted status.Done t t' a b = absurd (none_admitted bytes t b.admitted a b.is)
   one_bytes status.NotAdmitted status.Memory t t' a b = absurd b
   one_bytes status.NotAdmitted status.Usage t t' a b = absurd b
@@ -209,6 +133,7 @@ module _ (Answer : Admitted → Status → List ℕ → Type 0) (one : IsOne Ans
   one_bytes status.NotAdmitted status.Sheet t t' a b = absurd (none_read bytes t' a.sheet b a.is)
   one_bytes status.NotAdmitted status.NotAdmitted t t' a b = (refl, one_not_admitted bytes t t' a b)
   one_bytes status.NotAdmitted status.Live t t' a b = absurd (none_admitted bytes t b.admitted a b.is)
+  one_bytes status.NotAdmitted status.Full t t' a b = absurd b
   one_bytes status.Live status.Done t t' a b = answers status.Live status.Done t t' a b
   one_bytes status.Live status.Memory t t' a b = absurd b
   one_bytes status.Live status.Usage t t' a b = absurd b
@@ -217,6 +142,8 @@ module _ (Answer : Admitted → Status → List ℕ → Type 0) (one : IsOne Ans
   one_bytes status.Live status.Sheet t t' a b = absurd (none_read bytes t' a.admitted.checked.sheet b a.is)
   one_bytes status.Live status.NotAdmitted t t' a b = absurd (none_admitted bytes t' a.admitted b a.is)
   one_bytes status.Live status.Live t t' a b = answers status.Live status.Live t t' a b
+  one_bytes status.Live status.Full t t' a b = absurd b
+  one_bytes status.Full s' t t' a b = absurd a
 
 -- one end, whatever is asked for
 pub one_end : (c : Option Command) (bytes : List ℕ) (s s' : Status) (t t' : List ℕ) → CommandCallsFor c bytes s t → CommandCallsFor c bytes s' t' → s ≡ s'

@@ -1,116 +1,32 @@
 -- From what the parts of the program answer to what its top call answers.
-use Rattle.std.proofs.Common.{◌≡◌, ◌≢◌, ℕ, ◌+◌, ◌<◌, ◌≤◌, ◌⊎◌, inl, inr, List, [], ◌++◌, length, Option, None, Some, Result, Ok, Err, refl, sym, ap, ◌∙◌, subst, arith, String, Global}
-use Rattle.std.proofs.lemmas.List.{length-append}
+use Rattle.std.proofs.Common.{◌≡◌, ◌≢◌, ℕ, ◌⊎◌, inl, inr, List, ◌++◌, Option, None, Some, Result, refl, sym, ap, ◌∙◌, subst, String, Global}
 use Rattle.std.specs.Prelude.{IfSome, MatchResult, map}
 use Rattle.std.specs.String.{string_bytes}
 use Rattle.hk_io.specs.declared.Status.{Status}
 use Rattle.hk_io.specs.declared.Status.TheVariants as status
 use Rattle.hk_io.specs.declared.faults.Failed.{Failed}
-use Rattle.std.specs.Io.KnownBytes.{Appends}
 use Rattle.hk_words.specs.declared.geometry.Geometry.{Geometry}
 use Rattle.hk_words.specs.Geometry.{HasSizes}
-use Rattle.hk_io.specs.Bytes.{AppendsPrefix, ConsumesFront}
-use Rattle.hk_io.specs.Faults.{Rose}
-use Rattle.hk_io.specs.Limits.{longest_input}
-use Rattle.hk_sheet.specs.declared.error.SheetError.{SheetError}
-use Rattle.hk_sheet.specs.declared.error.SheetError.TheVariants as unread
 use Rattle.hk_sheet.specs.declared.sheet.Sheet.{Sheet}
-use Rattle.hk_sheet.specs.Answers.{Answers}
 use Rattle.hk_sheet.specs.Faults.{sizes_of}
 use Rattle.hk_plan.specs.AloneBy.{least_task}
 use Rattle.hk_admit.specs.declared.checked.Admitted.{Admitted}
 use Rattle.hk_admit.specs.declared.refused.Refused.{Refused}
 use Rattle.hk_admit.specs.declared.refused.Refused.TheVariants as refused
 use Rattle.hk_admit.specs.Refusals.{IsRefusal}
-use Rattle.hk_top.specs.Refusals.{sheet_line, refused_line}
+use Rattle.hk_front.specs.Words.{Puts}
+use Rattle.hk_front.specs.Input.{IsSheetOf}
+use Rattle.hk_front.specs.Endings.{HasText, EndsBy, EndsOn}
+use Rattle.hk_front.proofs.EndLemmas.{ends_written, text_or_memory}
+use Rattle.hk_top.specs.Refusals.{refused_line}
 use Rattle.hk_top.specs.declared.report.Form.{Form}
 use Rattle.hk_top.specs.declared.report.Finish.{Finish}
 use Rattle.hk_top.specs.declared.report.Finish.TheVariants as finish
 use Rattle.hk_top.specs.declared.tool.Command.{Command}
 use Rattle.hk_top.specs.Report.{analysis, IsRunText}
-use Rattle.hk_top.specs.Tool.{analysis_of, status_of, asked, IsSheetOf, no_sheet, IsAnalysis, IsReport, answer_for, BytesCallFor, CommandCallsFor, CallsFor, HasText, Writes, WritesPrefix, EndsBy, EndsOn}
-use Rattle.hk_top.specs.Words.{Puts}
+use Rattle.hk_top.specs.Tool.{analysis_of, status_of, asked, IsAnalysis, IsReport, answer_for, BytesCallFor, CommandCallsFor, CallsFor, Writes, WritesPrefix}
 use Rattle.hk_top.proofs.Headline.{headline}
 use Rattle.hk_top.proofs.OneCall.{one_end}
-
--- ENDS
-
--- a write fault is told from the other ends
-abbrev IsWriteFault : Status → Type 0
-IsWriteFault status.WriteFault = Unit {0}
-IsWriteFault other = ⊥
-
-abbrev HasMemory : Status → Type 0
-HasMemory status.Memory = Unit {0}
-HasMemory other = ⊥
-
-module _ (Calls : Status → List ℕ → Type 0) (before after : Option (List ℕ)) (faults faults_after : ℕ) where
-  -- a text that is called for was written, or a first part of it
-  pub ends_written : (owed : Status) (text : List ℕ) (written : Result (Unit {0}) Failed) (result : Status) → HasText owed → Calls owed text
-      → Puts before after faults faults_after text written → MatchResult written (λ _. result ≡ owed) (λ _. result ≡ status.WriteFault)
-      → EndsBy Calls before after faults faults_after result
-  ends_written owed text (Ok done) result has called puts is = record {
-    whole = λ _. (text, subst (λ s. Calls s text) (sym is) called, puts.ok);
-    prefix = λ w. absurd (subst HasText (sym is ∙ w) has);
-    cause = λ w. absurd (subst HasText (sym is ∙ w) has);
-    no_read = λ r. subst HasText (sym is ∙ r) has;
-    kept = λ _. puts.cause.kept;
-    later = puts.cause.later;
-  }
-  ends_written owed text (Err e) result has called puts is = record {
-    whole = λ h. absurd (subst HasText is h);
-    prefix = λ _. (owed, text, called, puts.prefix);
-    cause = λ _. puts.cause.failed;
-    no_read = λ r. subst IsWriteFault (sym is ∙ r) tt;
-    kept = λ other. absurd (other is);
-    later = puts.cause.later;
-  }
-
-  -- there was no memory
-  pub ends_memory : faults_after ≡ faults → EndsBy Calls before after faults faults_after status.Memory
-  ends_memory kept = record {
-    whole = λ h. absurd h;
-    prefix = λ w. absurd (subst IsWriteFault (sym w) tt);
-    cause = λ w. absurd (subst IsWriteFault (sym w) tt);
-    no_read = λ r. subst HasMemory r tt;
-    kept = λ _. kept;
-    later = omega (arith, kept);
-  }
-
-  -- what this calls for, that calls for too
-  pub ends_as : (Others : Status → List ℕ → Type 0) (result : Status) → ((s : Status) (t : List ℕ) → Calls s t → Others s t)
-      → EndsBy Calls before after faults faults_after result → EndsBy Others before after faults faults_after result
-  ends_as Others result turns ends = record {
-    whole = λ h. let w = ends.whole h in (w.0, turns result w.0 w.1, w.2);
-    prefix = λ e. let p = ends.prefix e in (p.0, p.1, turns p.0 p.1 p.2, p.3);
-    cause = ends.cause;
-    no_read = ends.no_read;
-    kept = ends.kept;
-    later = ends.later;
-  }
-
-module _ (Calls : Status → List ℕ → Type 0) (before after : Option (List ℕ)) (faults faults_after : ℕ) (owed : Status) (text : List ℕ) (called : Calls owed text) where
-  -- a text was written whole
-  pub ends_whole : HasText owed → Appends before after text → faults_after ≡ faults → EndsBy Calls before after faults faults_after owed
-  ends_whole has appended kept = record {
-    whole = λ _. (text, called, appended);
-    prefix = λ w. absurd (subst HasText w has);
-    cause = λ w. absurd (subst HasText w has);
-    no_read = λ r. subst HasText r has;
-    kept = λ _. kept;
-    later = omega (arith, kept);
-  }
-
-  -- or in part
-  pub ends_cut : AppendsPrefix before after text → Rose faults faults_after → faults ≤ faults_after → EndsBy Calls before after faults faults_after status.WriteFault
-  ends_cut part rose later = record {
-    whole = λ h. absurd h;
-    prefix = λ _. (owed, text, called, part);
-    cause = λ _. rose;
-    no_read = λ r. subst IsWriteFault r tt;
-    kept = λ other. absurd (other refl);
-    later = later;
-  }
 
 -- the analysis by equal numbers
 pub analysis_by : (sheet sheet' : Sheet) (work work' attempt attempt' busy busy' debt debt' : ℕ) (responses : List ℕ) → sheet ≡ sheet' → work ≡ work' → attempt ≡ attempt' → busy ≡ busy' → debt ≡ debt'
@@ -169,15 +85,7 @@ report_calls f bytes a is s t answer = answered (answer_for (Some f)) bytes a is
 pub asked_as : (words : List (String Global)) (c : Option Command) → asked (map string_bytes words) ≡ c → (bytes : List ℕ) (s : Status) (t : List ℕ) → CommandCallsFor c bytes s t → CallsFor words bytes s t
 asked_as words c asks bytes s t called = subst (λ o. CommandCallsFor o bytes s t) (sym asks) called
 
-pub no_read_fault : (ended : Status) → ended ≡ status.WriteFault → ended ≢ status.ReadFault
-no_read_fault ended e r = subst IsWriteFault (sym e ∙ r) tt
-
--- THE TOP CALL. What needs no input ends so on whatever the input is
-pub on_any_input : (Calls : Status → List ℕ → Type 0) (input before after : Option (List ℕ)) (faults faults_after : ℕ) (ended : Status) → EndsBy Calls before after faults faults_after ended
-    → EndsOn (λ bytes. Calls) input before after faults faults_after ended
-on_any_input Calls None before after faults faults_after ended e = record { bytes = []; told = tt; ends = e }
-on_any_input Calls (Some left) before after faults faults_after ended e = record { bytes = left; told = refl; ends = e }
-
+-- THE TOP CALL
 module _ (Calls : List ℕ → Status → List ℕ → Type 0) (words : List (String Global)) (input before after : Option (List ℕ)) (faults faults_after : ℕ) (ended : Status)
     (turns : (bytes : List ℕ) (s : Status) (t : List ℕ) → Calls bytes s t → CallsFor words bytes s t) (e : EndsOn Calls input before after faults faults_after ended) where
   pub writes : HasText ended → Writes words input before after ended
@@ -191,42 +99,11 @@ pub complete : (words : List (String Global)) (input before after : Option (List
     → (ended ≡ status.ReadFault → ⊥) → (ended ≡ status.WriteFault → ⊥)
     → IfSome input (λ bytes. (s : Status) (t : List ℕ) → CallsFor words bytes s t → (ended ≡ s) ⊎ (ended ≡ status.Memory))
 complete words None before after ended whole not_read not_write = tt
-complete words (Some left) before after ended whole not_read not_write = λ s t called. by_end ended refl s t called
+complete words (Some left) before after ended whole not_read not_write = λ s t called.
+    elim (text_or_memory ended not_read not_write) [ inl has ↦ inl (writing (whole has) s t called) | inr none ↦ inr none ]
   where
     writing : Writes words (Some left) before after ended → (s : Status) (t : List ℕ) → CallsFor words left s t → ended ≡ s
     writing w s t called = one_end (asked (map string_bytes words)) left ended s w.text t (subst (λ b. CallsFor words b ended w.text) w.told w.called) called
-
-    by_end : (answer : Status) → ended ≡ answer → (s : Status) (t : List ℕ) → CallsFor words left s t → (ended ≡ s) ⊎ (ended ≡ status.Memory)
-    by_end status.Done e s t called = inl (writing (whole (subst HasText (sym e) tt)) s t called)
-    by_end status.Memory e s t called = inr e
-    by_end status.Usage e s t called = inl (writing (whole (subst HasText (sym e) tt)) s t called)
-    by_end status.ReadFault e s t called = absurd (not_read e)
-    by_end status.WriteFault e s t called = absurd (not_write e)
-    by_end status.Sheet e s t called = inl (writing (whole (subst HasText (sym e) tt)) s t called)
-    by_end status.NotAdmitted e s t called = inl (writing (whole (subst HasText (sym e) tt)) s t called)
-    by_end status.Live e s t called = inl (writing (whole (subst HasText (sym e) tt)) s t called)
-
--- what was read of an input that is too long
-pub long_input : (before after : Option (List ℕ)) → ConsumesFront before after (λ count. count ≡ longest_input + 1) → (bytes : List ℕ) × IfSome before (λ left. bytes ≡ left) × (longest_input < length bytes)
-long_input None after front = let n = front.fits in (front.front, tt, omega (arith, n))
-long_input (Some left) None front = absurd front.consumed
-long_input (Some left) (Some rest) front =
-    let e = ap length front.consumed ∙ length-append front.front rest in
-    let n = front.fits in
-    (left, refl, omega (arith, e, n))
-
--- some bytes, where the input isn't told
-pub any_input : (input : Option (List ℕ)) → (bytes : List ℕ) × IfSome input (λ left. bytes ≡ left)
-any_input None = ([], tt)
-any_input (Some left) = (left, refl)
-
--- why bytes are no sheet
-pub sheet_refused : (before after : Option (List ℕ)) (faults faults_after : ℕ) (f : Option Form) (bytes : List ℕ) (error : SheetError) (written : Result (Unit {0}) Failed) (result : Status)
-    → length bytes ≤ longest_input → Answers bytes (Err error) → error ≢ unread.Memory → Puts before after faults faults_after (sheet_line error) written
-    → MatchResult written (λ _. result ≡ status.Sheet) (λ _. result ≡ status.WriteFault) → EndsBy (BytesCallFor (answer_for f) bytes) before after faults faults_after result
-sheet_refused before after faults faults_after f bytes error written result short answers told puts is =
-    ends_written (BytesCallFor (answer_for f) bytes) before after faults faults_after status.Sheet (sheet_line error) written result tt
-    (no_sheet error (record { short = short; told = told; answers = answers }) refl) puts is
 
 -- why a sheet isn't admitted
 pub admission_refused : (before after : Option (List ℕ)) (faults faults_after : ℕ) (f : Option Form) (bytes : List ℕ) (sheet : Sheet) (why : Refused) (written : Result (Unit {0}) Failed) (result : Status)
@@ -235,6 +112,3 @@ pub admission_refused : (before after : Option (List ℕ)) (faults faults_after 
 admission_refused before after faults faults_after f bytes sheet why written result is refusal told puts ended =
     ends_written (BytesCallFor (answer_for f) bytes) before after faults faults_after status.NotAdmitted (refused_line why) written result tt
     (record { sheet = sheet; is = is; why = why; told = told; refusal = refusal; text_is = refl }) puts ended
-
-pub read_sheet : (bytes : List ℕ) (sheet : Sheet) → length bytes ≤ longest_input → Answers bytes (Ok sheet) → IsSheetOf bytes sheet
-read_sheet bytes sheet short answers = record { short = short; read = answers }

@@ -1,10 +1,6 @@
 -- The lines of the report.
-use Rattle.std.specs.Prelude.{ℕ, Bool, if◌then◌else◌, List, [], ◌∷◌, codes, decimal, fold}
-use Rattle.hk_io.specs.Line.{with_word, with_end}
-
--- a line of these words, parted by single spaces, with its newline
-abbrev pub line : List (List ℕ) → List ℕ
-line words = with_end (fold with_word [] words)
+use Rattle.std.specs.Prelude.{ℕ, Bool, if◌then◌else◌, List, [], ◌∷◌, codes, decimal}
+use Rattle.hk_front.specs.Text.{line}
 
 -- the analysis of the heap: the events that a cycle of the collector takes at most, those of an attempt that a job can
 -- spoil, the length of the busy period in ticks, and the events that the collector is behind at most

@@ -1,5 +1,5 @@
 -- What the program answers and writes, by its words and its input.
-use Rattle.std.specs.Prelude.{◌≡◌, ◌≢◌, ℕ, ◌<◌, ◌≤◌, Bool, true, false, List, [], ◌∷◌, ◌++◌, map, length, codes, Option, Some, None, option_map, if◌then◌else◌, IfSome, Ok, Err, String}
+use Rattle.std.specs.Prelude.{◌≡◌, ◌≢◌, ℕ, Bool, true, false, List, [], ◌∷◌, ◌++◌, map, codes, Option, Some, None, option_map, if◌then◌else◌, IfSome, Ok, String}
 use Rattle.std.specs.Str.{bytes_eq}
 use Rattle.std.specs.String.{string_bytes}
 use Rattle.std.specs.declared.alloc.Global.{Global}
@@ -9,20 +9,17 @@ use Rattle.hk_words.specs.Geometry.{HasSizes}
 use Rattle.hk_io.specs.declared.Status.{Status}
 use Rattle.hk_io.specs.declared.Status.TheVariants as status
 use Rattle.hk_io.specs.Bytes.{AppendsPrefix}
-use Rattle.hk_io.specs.Faults.{Rose}
-use Rattle.hk_io.specs.Limits.{longest_input}
 use Rattle.hk_io.specs.Number.{number_of}
 use Rattle.hk_plan.specs.AloneBy.{least_task}
-use Rattle.hk_sheet.specs.declared.error.SheetError.{SheetError}
-use Rattle.hk_sheet.specs.declared.error.SheetError.TheVariants as unread
 use Rattle.hk_sheet.specs.declared.sheet.Sheet.{Sheet}
-use Rattle.hk_sheet.specs.Answers.{IsRead, Answers}
+use Rattle.hk_sheet.specs.Answers.{IsRead}
 use Rattle.hk_sheet.specs.Faults.{sizes_of}
 use Rattle.hk_admit.specs.declared.checked.Admitted.{Admitted}
 use Rattle.hk_admit.specs.declared.refused.Refused.{Refused}
 use Rattle.hk_admit.specs.declared.refused.Refused.TheVariants as refused
 use Rattle.hk_admit.specs.Refusals.{IsRefusal}
 use Rattle.hk_gen.specs.Made.{made}
+use Rattle.hk_front.specs.Input.{IsSheetOf, IsUnread}
 use Rattle.hk_top.specs.declared.report.Form.{Form}
 use Rattle.hk_top.specs.declared.report.Form.TheVariants as form
 use Rattle.hk_top.specs.declared.report.Finish.{Finish}
@@ -30,7 +27,7 @@ use Rattle.hk_top.specs.declared.report.Finish.TheVariants as finish
 use Rattle.hk_top.specs.declared.tool.Command.{Command}
 use Rattle.hk_top.specs.declared.tool.Command.TheVariants as command
 use Rattle.hk_top.specs.Headline.{Headline}
-use Rattle.hk_top.specs.Refusals.{usage_line, long_line, sheet_line, refused_line}
+use Rattle.hk_top.specs.Refusals.{usage_line, refused_line}
 use Rattle.hk_top.specs.Report.{analysis, IsRunText}
 
 -- the analysis of an admitted sheet
@@ -78,22 +75,6 @@ abbrev pub ReadsInput : List (String Global) → Type 0
 ReadsInput words = needs_input (asked (map string_bytes words)) ≡ true
 
 -- WHAT THE BYTES CALL FOR
-
--- the bytes aren't too many, and they are this sheet
-pub record IsSheetOf (bytes : List ℕ) (sheet : Sheet) : Type 0 where
-  pub short : length bytes ≤ longest_input
-  pub read : IsRead bytes (Ok sheet)
-
--- the bytes aren't too many, and this is why they are no sheet
-pub record IsNoSheet (bytes : List ℕ) (error : SheetError) : Type 0 where
-  pub short : length bytes ≤ longest_input
-  pub told : error ≢ unread.Memory
-  pub answers : Answers bytes (Err error)
-
--- the line for bytes that are too many, or no sheet
-pub data IsUnread (bytes : List ℕ) (text : List ℕ) : Type 0 where
-  too_long : longest_input < length bytes → text ≡ long_line → IsUnread bytes text
-  no_sheet : (error : SheetError) → IsNoSheet bytes error → text ≡ sheet_line error → IsUnread bytes text
 
 -- the line for bytes that are a sheet which isn't admitted
 pub record IsNotAdmitted (bytes : List ℕ) (text : List ℕ) : Type 0 where
@@ -162,13 +143,6 @@ CommandCallsFor (Some (command.Simulate n)) bytes ended text = IsSimulation n en
 abbrev pub CallsFor : List (String Global) → (bytes : List ℕ) → Status → (text : List ℕ) → Type 0
 CallsFor words bytes ended text = CommandCallsFor (asked (map string_bytes words)) bytes ended text
 
--- a program that ends so has written a text whole
-abbrev pub HasText : Status → Type 0
-HasText status.Memory = ⊥
-HasText status.ReadFault = ⊥
-HasText status.WriteFault = ⊥
-HasText other = Unit {0}
-
 -- the whole text was written that the words and the input call for; where the input isn't told, that some input calls for
 pub record Writes (words : List (String Global)) (input before after : Option (List ℕ)) (ended : Status) : Type 0 where
   pub bytes : List ℕ
@@ -185,20 +159,3 @@ pub record WritesPrefix (words : List (String Global)) (input before after : Opt
   pub text : List ℕ
   pub called : CallsFor words bytes ended text
   pub written : AppendsPrefix before after text
-
--- THE PARTS OF THE PROGRAM
-
--- a part of the program ends so, where this says which ends and texts are called for
-pub record EndsBy (Calls : Status → List ℕ → Type 0) (before after : Option (List ℕ)) (faults faults_after : ℕ) (ended : Status) : Type 0 where
-  pub whole : HasText ended → (text : List ℕ) × Calls ended text × Appends before after text
-  pub prefix : ended ≡ status.WriteFault → (other : Status) × (text : List ℕ) × Calls other text × AppendsPrefix before after text
-  pub cause : ended ≡ status.WriteFault → Rose faults faults_after
-  pub no_read : ended ≢ status.ReadFault
-  pub kept : ended ≢ status.WriteFault → faults_after ≡ faults
-  pub later : faults ≤ faults_after
-
--- so, on some bytes, which are the input where that is told
-pub record EndsOn (Calls : List ℕ → Status → List ℕ → Type 0) (input before after : Option (List ℕ)) (faults faults_after : ℕ) (ended : Status) : Type 0 where
-  pub bytes : List ℕ
-  pub told : IfSome input (λ left. bytes ≡ left)
-  pub ends : EndsBy (Calls bytes) before after faults faults_after ended

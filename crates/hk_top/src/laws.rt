@@ -9,9 +9,10 @@ ghost use Rattle.hk_io.specs.declared.Status.TheVariants as status;
 ghost use Rattle.hk_sheet.specs.Faults.{sizes_of};
 ghost use Rattle.hk_admit.specs.declared.checked.Admitted.{Admitted};
 ghost use Rattle.hk_gen.specs.Made.{made};
+ghost use Rattle.hk_front.specs.Input.{IsSheetOf};
 ghost use Rattle.hk_top.specs.declared.tool.Command.TheVariants.{Make, Simulate};
 ghost use Rattle.hk_top.specs.Headline.{Headline, LiveIsWithin};
-ghost use Rattle.hk_top.specs.Tool.{asked, ReadsInput, IsSheetOf, CallsFor};
+ghost use Rattle.hk_top.specs.Tool.{asked, ReadsInput, CallsFor};
 
 /// The words and the bytes of an input call for one end of the program at most, and for one text: two of which both are
 /// called for are the same status, and the same bytes to be written. Only of the sheet that is made for a number there may be

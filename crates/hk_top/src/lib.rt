@@ -10,6 +10,6 @@ mod tests;
 mod tool;
 
 pub use laws::{admitted_sheets_are_done, headline_holds, one_end_and_one_text};
-pub use refusals::{digits, put_line, put_refused, put_sheet_error};
+pub use refusals::put_refused;
 pub use report::{Finish, Form, write_analysis, write_run};
 pub use tool::run_tool;

@@ -18,7 +18,7 @@ fn add_word(line: &mut Line, bytes: &[u8])
 }
 
 /// Adds a number to a line that has room for 20 digits and a space.
-pub fn add_number(line: &mut Line, value: u64)
+fn add_number(line: &mut Line, value: u64)
     requires { length line.old + 21 ≤ longest_line }
     ensures added { line.new ≡ with_number line.old value }
     ensures room { length line.new ≤ length line.old + 21 }

@@ -1,5 +1,5 @@
 //! What the program does for its words.
-ghost use Rattle.std.specs.Prelude.{◌≡◌, ◌≢◌, ◌⊎◌, ℕ, ◌≤◌, List, ◌++◌, length, map, Option, Ok, Err, Some, IfOk, OnErr, IfSome, MatchResult};
+ghost use Rattle.std.specs.Prelude.{◌≡◌, ◌≢◌, ◌⊎◌, ℕ, ◌≤◌, List, ◌++◌, length, map, Option, Ok, Some, IfOk, OnErr, IfSome};
 ghost use Rattle.std.specs.Io.KnownBytes.{Appends, IsAtEnd};
 ghost use Rattle.std.specs.Str.{bytes_eq};
 ghost use Rattle.std.specs.String.{string_bytes};
@@ -9,20 +9,23 @@ ghost use Rattle.hk_io.specs.Limits.{longest_input};
 ghost use Rattle.hk_admit.specs.Refusals.{IsRefusal};
 ghost use Rattle.hk_plan.specs.AloneBy.{least_task};
 ghost use Rattle.hk_gen.specs.Made.{made};
-ghost use Rattle.hk_sheet.specs.Answers.{Answers, IsRead};
+ghost use Rattle.hk_sheet.specs.Answers.{IsRead};
 ghost use Rattle.hk_sheet.specs.declared.sheet.Sheet.{Sheet};
+ghost use Rattle.hk_front.specs.Input.{IsSheetOf};
+ghost use Rattle.hk_front.specs.Endings.{HasText, EndsBy, EndsOn};
 ghost use Rattle.hk_top.specs.declared.report.Form.{Form};
 ghost use Rattle.hk_top.specs.declared.report.Finish.{Finish};
 ghost use Rattle.hk_top.specs.Report.{analysis, IsRunText};
-ghost use Rattle.hk_top.specs.Tool.{one_word, two_words, asked, AsksNothing, ReadsInput, IsSheetOf, IsAnalysis, IsReport, IsSimulation, answer_for, HasText, CallsFor, BytesCallFor, Writes, WritesPrefix, EndsBy, EndsOn};
+ghost use Rattle.hk_top.specs.Tool.{one_word, two_words, asked, AsksNothing, ReadsInput, IsAnalysis, IsReport, IsSimulation, answer_for, CallsFor, BytesCallFor, Writes, WritesPrefix};
 
-use crate::refusals::{put_line, put_refused, put_sheet_error};
+use crate::refusals::put_refused;
 use crate::report::{Finish, Form, write_analysis, write_run};
 use hk_admit::{Admitted, Refused, admit};
 use hk_dispatch::{First, Pick, Session};
+use hk_front::{ended, put_line, refuse_sheet};
 use hk_gen::sheet;
 use hk_io::{Failed, Sink, Source, Status, TakeFault, number, put_all, take_all};
-use hk_sheet::{SheetError, read, text};
+use hk_sheet::{read, text};
 use hk_words::Memory;
 use std::alloc::Global;
 
@@ -85,16 +88,6 @@ fn command_of(words: &[String]) -> Option<Command>
     }
 }
 
-/// How the program ends after it wrote a text: so, or with a write fault.
-fn ended(status: Status, written: Result<(), Failed>) -> Status
-    ensures { MatchResult written (λ _. result ≡ status) (λ _. result ≡ Status.WriteFault) }
-{
-    match written {
-        Ok(()) => status,
-        Err(Failed) => Status::WriteFault,
-    }
-}
-
 /// Writes the analysis of an admitted sheet.
 fn check_admitted<K: Sink>(admitted: &Admitted, sink: &mut K) -> Status
     ensures ends { EndsBy (IsAnalysis admitted.now) (K.taken sink.old) (K.taken sink.new) (K.faults sink.old) (K.faults sink.new) result }
@@ -130,18 +123,6 @@ fn run_admitted<K: Sink>(alloc: Global, admitted: Admitted, form: Form, sink: &m
         Ok(Finish::AtEnd) => Status::Done,
         Ok(Finish::Live(_)) => Status::Live,
         Err(Failed) => Status::WriteFault,
-    }
-}
-
-/// Ends the program for bytes that are no sheet.
-fn refuse_sheet<K: Sink>(error: &SheetError, sink: &mut K) -> Status
-    ensures ends { (form : Option Form) (bytes : List ℕ) → length bytes ≤ longest_input → Answers bytes (Err error.now)
-        → EndsBy (BytesCallFor (answer_for form) bytes) (K.taken sink.old) (K.taken sink.new) (K.faults sink.old) (K.faults sink.new) result }
-    ensures memory { result ≡ Status.Memory → sink.new ≡ sink.old }
-{
-    match error {
-        SheetError::Memory => Status::Memory,
-        _ => ended(Status::Sheet, put_sheet_error(sink, error)),
     }
 }
 

@@ -1,7 +1,7 @@
 -- The names so far, and all of them.
 use Rattle.std.proofs.Common.{◌≡◌, ℕ, ◌<◌, length, length-set, slice_index, sym, ap, ◌∙◌, subst, arith}
 use Rattle.hk_sheet.specs.declared.sheet.High.{High}
-use Rattle.hk_top.proofs.WordLemmas.{put_as}
+use Rattle.hk_front.proofs.WordLemmas.{put_as}
 use Rattle.hk_assign.specs.Sheets.{name_at}
 use Rattle.hk_assign.proofs.Named.{name_read, name_more, all_named}
 use Rattle.hk_assign.proofs.tool.put_no_order.Goals as goal

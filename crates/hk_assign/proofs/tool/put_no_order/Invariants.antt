@@ -1,6 +1,6 @@
 -- The words so far.
 use Rattle.std.proofs.Common.{◌≡◌, ◌+◌, take, length}
-use Rattle.hk_top.specs.Words.{shown}
+use Rattle.hk_front.specs.Words.{shown}
 use Rattle.hk_assign.proofs.Named.{words_of}
 use Rattle.hk_assign.proofs.tool.put_no_order.Given as goal
 

@@ -2,7 +2,7 @@
 use Rattle.std.proofs.Common.{◌≡◌, List, ap, ◌∙◌}
 use Rattle.hk_sheet.specs.declared.sheet.High.{High}
 use Rattle.hk_sheet.specs.declared.sheet.Sheet.{Sheet}
-use Rattle.hk_top.proofs.WordLemmas.{puts_as}
+use Rattle.hk_front.proofs.WordLemmas.{puts_as}
 use Rattle.hk_assign.specs.Sheets.{names_at}
 use Rattle.hk_assign.specs.Tool.{order_line}
 use Rattle.hk_assign.proofs.Ends.{order_refused}

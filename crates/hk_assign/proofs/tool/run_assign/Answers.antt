@@ -1,10 +1,12 @@
 -- What the parts answer is what the program answers.
 use Rattle.std.proofs.Common.{Err, refl, sym, ap, ◌∙◌}
 use Rattle.hk_io.specs.declared.Status.TheVariants as status
-use Rattle.hk_top.specs.Refusals.{long_line}
-use Rattle.hk_top.specs.Tool.{too_long}
+use Rattle.hk_front.specs.Refusals.{long_line}
+use Rattle.hk_front.specs.Input.{too_long}
+use Rattle.hk_front.proofs.EndLemmas.{ends_written, ends_as}
+use Rattle.hk_front.proofs.InputLemmas.{long_input, any_input, told_as}
 use Rattle.hk_assign.specs.Tool.{usage_line, BytesCallFor, CallsFor}
-use Rattle.hk_assign.proofs.Ends.{ends_written, ends_as, as_puts, no_words, some_words, asked_calls, writes, writes_prefix, complete, long_input, any_input, told_as}
+use Rattle.hk_assign.proofs.Ends.{as_puts, no_words, some_words, asked_calls, writes, writes_prefix, complete}
 use Rattle.hk_assign.proofs.tool.run_assign.Goals as goal
 
 pub returns-then-not-is_empty-clause-whole : goal.returns-then-not-is_empty-clause-whole

@@ -1,7 +1,8 @@
 -- What the bytes are is what is answered.
 use Rattle.std.proofs.Common.{◌≡◌, List, sym, subst, ◌∙◌}
-use Rattle.hk_top.specs.Tool.{IsSheetOf}
-use Rattle.hk_top.proofs.ToolLemmas.{ends_as, read_sheet}
+use Rattle.hk_front.specs.Input.{IsSheetOf}
+use Rattle.hk_front.proofs.EndLemmas.{ends_as, ends_unread}
+use Rattle.hk_front.proofs.InputLemmas.{read_sheet}
 use Rattle.hk_ceiling.specs.declared.told.Section.{Section}
 use Rattle.hk_ceiling.specs.Admission.{IsCeilRefusal}
 use Rattle.hk_ceiling.specs.Tool.{IsReport, BytesCallFor}
@@ -9,7 +10,10 @@ use Rattle.hk_ceiling.proofs.RunLemmas.{report_calls}
 use Rattle.hk_ceiling.proofs.tool.answer.Goals as goal
 
 pub returns-in-Err-clause-ends : goal.returns-in-Err-clause-ends
-returns-in-Err-clause-ends g c = c.refuse_sheet.ensures.ends c.args.sections.now c.args.bytes.now c.requires.short c.in-Err.ensures.answer
+returns-in-Err-clause-ends g c =
+    let bytes = c.args.bytes.now in
+    ends_unread (BytesCallFor c.args.sections.now bytes) bytes _ _ _ _ c.refuse_sheet.result (λ t unread. unread)
+    (c.refuse_sheet.ensures.ends bytes c.requires.short c.in-Err.ensures.answer)
 
 pub returns-in-Err-admit_ceiling-clause-ends : goal.returns-in-Err-admit_ceiling-clause-ends
 returns-in-Err-admit_ceiling-clause-ends g c =

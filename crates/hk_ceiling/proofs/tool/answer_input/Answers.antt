@@ -1,9 +1,10 @@
 -- The input is what was read of it.
 use Rattle.std.proofs.Common.{Err, refl, ap}
 use Rattle.hk_io.specs.declared.Status.TheVariants as status
-use Rattle.hk_top.specs.Refusals.{long_line}
-use Rattle.hk_top.specs.Tool.{too_long}
-use Rattle.hk_top.proofs.ToolLemmas.{ends_written, ends_memory, long_input, any_input}
+use Rattle.hk_front.specs.Refusals.{long_line}
+use Rattle.hk_front.specs.Input.{too_long}
+use Rattle.hk_front.proofs.EndLemmas.{ends_written, ends_memory}
+use Rattle.hk_front.proofs.InputLemmas.{long_input, any_input}
 use Rattle.hk_ceiling.specs.Tool.{BytesCallFor}
 use Rattle.hk_ceiling.proofs.tool.answer_input.Goals as goal
 

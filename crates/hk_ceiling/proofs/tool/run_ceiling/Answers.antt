@@ -2,8 +2,8 @@
 use Rattle.std.proofs.Common.{◌≡◌, ◌≢◌, ℕ, List, refl, sym, ◌∙◌, subst}
 use Rattle.hk_io.specs.declared.Status.{Status}
 use Rattle.hk_io.specs.declared.Status.TheVariants as status
-use Rattle.hk_top.specs.Tool.{HasText}
-use Rattle.hk_top.proofs.ToolLemmas.{ends_written, on_any_input, no_read_fault}
+use Rattle.hk_front.specs.Endings.{HasText}
+use Rattle.hk_front.proofs.EndLemmas.{ends_written, on_any_input, no_read_fault}
 use Rattle.hk_ceiling.specs.declared.told.Section.{Section}
 use Rattle.hk_ceiling.specs.Tool.{usage_line, BytesCallFor}
 use Rattle.hk_ceiling.proofs.RunLemmas.{usage_calls, words_call, writes, writes_prefix, complete, some_told}

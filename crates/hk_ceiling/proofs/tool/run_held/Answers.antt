@@ -1,8 +1,8 @@
 -- The report that was written, whole or in part, is that of the admitted sheet.
 use Rattle.std.proofs.Common.{refl, sym, ap, ◌∙◌}
 use Rattle.hk_io.specs.declared.Status.TheVariants as status
+use Rattle.hk_front.proofs.EndLemmas.{ends_whole, ends_cut}
 use Rattle.hk_top.specs.Tool.{status_of}
-use Rattle.hk_top.proofs.ToolLemmas.{ends_whole, ends_cut}
 use Rattle.hk_ceiling.specs.Tool.{IsReport}
 use Rattle.hk_ceiling.proofs.RunLemmas.{own_report}
 use Rattle.hk_ceiling.proofs.tool.run_held.Goals as goal

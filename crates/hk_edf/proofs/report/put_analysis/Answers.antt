@@ -3,9 +3,9 @@ use Rattle.std.proofs.Common.{◌++◌, ◌∙◌, refl, ap}
 use Rattle.std.proofs.KnownBytes.{Appends-trans}
 use Rattle.std.proofs.lemmas.Result.{err_from_is_err_and}
 use Rattle.hk_admit.specs.declared.checked.Checked.{Checked}
+use Rattle.hk_front.proofs.WordLemmas.{puts_as}
 use Rattle.hk_top.specs.Text.{heap_line}
 use Rattle.hk_top.specs.Report.{low_lines}
-use Rattle.hk_top.proofs.WordLemmas.{puts_as}
 use Rattle.hk_edf.specs.Text.{deadline_lines}
 use Rattle.hk_edf.proofs.Puts.{puts_after, puts_part, analysis_parts, analysis_first}
 use Rattle.hk_edf.proofs.report.put_analysis.Goals as goal

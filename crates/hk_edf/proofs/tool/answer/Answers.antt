@@ -1,7 +1,8 @@
 -- What the bytes are is what is answered.
 use Rattle.std.proofs.Common.{sym, subst}
-use Rattle.hk_top.specs.Tool.{IsSheetOf}
-use Rattle.hk_top.proofs.ToolLemmas.{ends_as, read_sheet}
+use Rattle.hk_front.specs.Input.{IsSheetOf}
+use Rattle.hk_front.proofs.EndLemmas.{ends_as, ends_unread}
+use Rattle.hk_front.proofs.InputLemmas.{read_sheet}
 use Rattle.hk_sheet.specs.declared.sheet.Sheet.{Sheet}
 use Rattle.hk_edf.specs.Refusals.{MeetsDemand}
 use Rattle.hk_edf.specs.Tool.{IsReport, BytesCallFor}
@@ -9,7 +10,9 @@ use Rattle.hk_edf.proofs.ToolLemmas.{answer_calls}
 use Rattle.hk_edf.proofs.tool.answer.Goals as goal
 
 pub returns-in-Err-clause-ends : goal.returns-in-Err-clause-ends
-returns-in-Err-clause-ends g c = c.refuse_sheet.ensures.ends c.args.bytes.now c.requires c.in-Err.ensures.answer
+returns-in-Err-clause-ends g c =
+    let bytes = c.args.bytes.now in
+    ends_unread (BytesCallFor bytes) bytes _ _ _ _ c.refuse_sheet.result (λ t unread. unread) (c.refuse_sheet.ensures.ends bytes c.requires c.in-Err.ensures.answer)
 
 pub returns-in-Ok-admit_edf-clause-ends : goal.returns-in-Ok-admit_edf-clause-ends
 returns-in-Ok-admit_edf-clause-ends g c =

@@ -1,18 +1,14 @@
 -- What the parts answer is what the program answers.
-use Rattle.std.proofs.Common.{◌≡◌, ℕ, List, Option, Err, refl, sym, ap, subst}
-use Rattle.std.specs.Prelude.{IfSome}
+use Rattle.std.proofs.Common.{Err, refl, ap}
 use Rattle.hk_io.specs.declared.Status.TheVariants as status
-use Rattle.hk_top.specs.Refusals.{long_line}
-use Rattle.hk_top.specs.Tool.{too_long}
-use Rattle.hk_top.proofs.ToolLemmas.{ends_written, ends_as, long_input, any_input}
+use Rattle.hk_front.specs.Refusals.{long_line}
+use Rattle.hk_front.specs.Input.{too_long}
+use Rattle.hk_front.proofs.EndLemmas.{ends_written, ends_as}
+use Rattle.hk_front.proofs.InputLemmas.{long_input, any_input, told_as}
 use Rattle.hk_edf.specs.Text.{usage_line}
 use Rattle.hk_edf.specs.Tool.{BytesCallFor, CallsFor}
 use Rattle.hk_edf.proofs.ToolLemmas.{no_words, some_words, not_empty, is_empty, writes, writes_prefix, complete}
 use Rattle.hk_edf.proofs.tool.run_edf.Goals as goal
-
--- the input is what a call that took equal bytes says
-told_as : (input : Option (List ℕ)) (bytes slice : List ℕ) → slice ≡ bytes → IfSome input (λ left. bytes ≡ left) → IfSome input (λ left. slice ≡ left)
-told_as input bytes slice same told = subst (λ b. IfSome input (λ left. b ≡ left)) (sym same) told
 
 pub returns-then-not-is_empty-clause-whole : goal.returns-then-not-is_empty-clause-whole
 returns-then-not-is_empty-clause-whole g c =

@@ -4,7 +4,7 @@ use Rattle.std.proofs.lemmas.Result.{err_from_is_err_and, on_err_weaker}
 use Rattle.std.specs.Io.KnownBytes.{Appends}
 use Rattle.hk_io.specs.Bytes.{AppendsPrefix}
 use Rattle.hk_io.proofs.BytesLemmas.{AppendsPrefix-append}
-use Rattle.hk_top.proofs.WordLemmas.{prefix_after}
+use Rattle.hk_front.proofs.WordLemmas.{prefix_after}
 use Rattle.hk_edf.specs.Earliest.{earliest_row}
 use Rattle.hk_edf.specs.Text.{edf_analysis}
 use Rattle.hk_edf.proofs.RunText.{some_run, analysis_same}

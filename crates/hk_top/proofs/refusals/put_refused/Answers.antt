@@ -1,7 +1,7 @@
 -- The words of a short reserve.
 use Rattle.std.proofs.Common.{sym, ap}
+use Rattle.hk_front.proofs.WordLemmas.{puts_as}
 use Rattle.hk_top.specs.Refusals.{refused_line}
-use Rattle.hk_top.proofs.WordLemmas.{puts_as}
 use Rattle.hk_top.proofs.refusals.put_refused.Goals as goal
 
 pub returns-in-Reserve : goal.returns-in-Reserve

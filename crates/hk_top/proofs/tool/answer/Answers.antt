@@ -1,11 +1,16 @@
 -- What the bytes are is what is answered.
 use Rattle.std.proofs.Common.{Some, None, sym, subst}
-use Rattle.hk_top.specs.Tool.{IsSheetOf, IsAnalysis, IsReport, answer_for, BytesCallFor}
-use Rattle.hk_top.proofs.ToolLemmas.{ends_as, analysis_calls, report_calls, read_sheet}
+use Rattle.hk_front.specs.Input.{IsSheetOf}
+use Rattle.hk_front.proofs.EndLemmas.{ends_as, ends_unread}
+use Rattle.hk_front.proofs.InputLemmas.{read_sheet}
+use Rattle.hk_top.specs.Tool.{IsAnalysis, IsReport, answer_for, BytesCallFor}
+use Rattle.hk_top.proofs.ToolLemmas.{analysis_calls, report_calls}
 use Rattle.hk_top.proofs.tool.answer.Goals as goal
 
 pub returns-in-Err-clause-ends : goal.returns-in-Err-clause-ends
-returns-in-Err-clause-ends g c = c.refuse_sheet.ensures.ends c.args.form c.args.bytes.now c.requires c.in-Err.ensures.answer
+returns-in-Err-clause-ends g c =
+    let bytes = c.args.bytes.now in
+    ends_unread (BytesCallFor (answer_for c.args.form) bytes) bytes _ _ _ _ c.refuse_sheet.result (λ t unread. unread) (c.refuse_sheet.ensures.ends bytes c.requires c.in-Err.ensures.answer)
 
 pub returns-in-Err-admit-clause-ends : goal.returns-in-Err-admit-clause-ends
 returns-in-Err-admit-clause-ends g c =

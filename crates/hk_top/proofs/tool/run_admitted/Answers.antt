@@ -1,8 +1,9 @@
 -- The report that was written, whole or in part, is that of the admitted sheet.
 use Rattle.std.proofs.Common.{refl, sym, ap}
 use Rattle.hk_io.specs.declared.Status.TheVariants as status
+use Rattle.hk_front.proofs.EndLemmas.{ends_whole, ends_cut}
 use Rattle.hk_top.specs.Tool.{status_of, IsReport}
-use Rattle.hk_top.proofs.ToolLemmas.{ends_whole, ends_cut, own_report}
+use Rattle.hk_top.proofs.ToolLemmas.{own_report}
 use Rattle.hk_top.proofs.tool.run_admitted.Goals as goal
 
 pub returns-in-Ok-AtEnd-clause-ends : goal.returns-in-Ok-AtEnd-clause-ends

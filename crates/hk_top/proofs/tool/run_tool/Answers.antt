@@ -4,10 +4,12 @@ use Rattle.hk_io.specs.declared.Status.{Status}
 use Rattle.hk_io.specs.declared.Status.TheVariants as status
 use Rattle.hk_sheet.specs.Answers.{IsRead}
 use Rattle.hk_gen.specs.Made.{made}
+use Rattle.hk_front.specs.Endings.{HasText}
+use Rattle.hk_front.proofs.EndLemmas.{ends_written, on_any_input, no_read_fault}
 use Rattle.hk_top.specs.declared.tool.Command.TheVariants as command
 use Rattle.hk_top.specs.Refusals.{usage_line}
-use Rattle.hk_top.specs.Tool.{answer_for, BytesCallFor, HasText, IsSimulation}
-use Rattle.hk_top.proofs.ToolLemmas.{ends_written, asked_as, on_any_input, no_read_fault, writes, writes_prefix, complete}
+use Rattle.hk_top.specs.Tool.{answer_for, BytesCallFor, IsSimulation}
+use Rattle.hk_top.proofs.ToolLemmas.{asked_as, writes, writes_prefix, complete}
 use Rattle.hk_top.proofs.tool.run_tool.Goals as goal
 
 -- the usage line

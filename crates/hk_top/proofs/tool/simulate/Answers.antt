@@ -1,8 +1,8 @@
 -- The report of the sheet that is made for the number.
 use Rattle.std.proofs.Common.{◌∙◌}
+use Rattle.hk_front.proofs.EndLemmas.{ends_as}
 use Rattle.hk_top.specs.declared.report.Form.TheVariants as form
 use Rattle.hk_top.specs.Tool.{IsReport, IsSimulation}
-use Rattle.hk_top.proofs.ToolLemmas.{ends_as}
 use Rattle.hk_top.proofs.tool.simulate.Goals as goal
 
 pub returns-in-Ok-admit-clause-ends : goal.returns-in-Ok-admit-clause-ends

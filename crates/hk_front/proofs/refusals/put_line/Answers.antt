@@ -1,7 +1,7 @@
 -- The words one behind another, and the newline.
 use Rattle.std.proofs.lemmas.Result.{err_from_is_err_and, on_err_weaker}
-use Rattle.hk_top.proofs.WordLemmas.{word_prefix, last_prefix}
-use Rattle.hk_top.proofs.refusals.put_line.Goals as goal
+use Rattle.hk_front.proofs.WordLemmas.{word_prefix, last_prefix}
+use Rattle.hk_front.proofs.refusals.put_line.Goals as goal
 
 pub returns-in_err-put_word-clause-prefix : goal.returns-in_err-put_word-clause-prefix
 returns-in_err-put_word-clause-prefix g c =

@@ -1,9 +1,9 @@
 -- The number of the line, in digits.
 use Rattle.std.proofs.Common.{[], ◌∷◌, ap, ◌∙◌}
 use Rattle.std.specs.Prelude.{codes, decimal}
-use Rattle.hk_top.specs.Text.{line}
-use Rattle.hk_top.proofs.WordLemmas.{put_as}
-use Rattle.hk_top.proofs.refusals.put_fault.Goals as goal
+use Rattle.hk_front.specs.Text.{line}
+use Rattle.hk_front.proofs.WordLemmas.{put_as}
+use Rattle.hk_front.proofs.refusals.put_fault.Goals as goal
 
 pub returns : goal.returns
 returns g c =

@@ -1,6 +1,6 @@
 -- Want of memory, or the line of the refusal.
-use Rattle.hk_edf.proofs.ToolLemmas.{sheet_refused}
-use Rattle.hk_edf.proofs.tool.refuse_sheet.Goals as goal
+use Rattle.hk_front.proofs.EndLemmas.{sheet_refused}
+use Rattle.hk_front.proofs.ends.refuse_sheet.Goals as goal
 
 pub returns-in_default-clause-ends : goal.returns-in_default-clause-ends
 returns-in_default-clause-ends g c = λ bytes short answers.

@@ -1,8 +1,8 @@
 -- The words so far were written, and no write failed.
 use Rattle.std.proofs.Common.{◌≡◌}
 use Rattle.std.specs.Io.KnownBytes.{Appends}
-use Rattle.hk_top.proofs.WordLemmas.{first_words, has_begun}
-use Rattle.hk_top.proofs.refusals.put_line.Given as goal
+use Rattle.hk_front.proofs.WordLemmas.{first_words, has_begun}
+use Rattle.hk_front.proofs.refusals.put_line.Given as goal
 
 abbrev pub invariant-loop-word : goal.invariant-loop-word
 invariant-loop-word g l = record {

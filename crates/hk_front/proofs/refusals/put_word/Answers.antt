@@ -1,7 +1,7 @@
 -- A space and then the word.
 use Rattle.std.proofs.lemmas.Result.{on_err_weaker}
-use Rattle.hk_top.proofs.WordLemmas.{space_prefix}
-use Rattle.hk_top.proofs.refusals.put_word.Goals as goal
+use Rattle.hk_front.proofs.WordLemmas.{space_prefix}
+use Rattle.hk_front.proofs.refusals.put_word.Goals as goal
 
 pub returns-in_ok-put_all-clause-prefix : goal.returns-in_ok-put_all-clause-prefix
 returns-in_ok-put_all-clause-prefix g c =

@@ -8,8 +8,8 @@ use Rattle.hk_io.specs.Bytes.{AppendsPrefix}
 use Rattle.hk_io.specs.Faults.{HasCause}
 use Rattle.hk_io.specs.Line.{with_word}
 use Rattle.hk_io.proofs.BytesLemmas.{AppendsFront-behind, AppendsPrefix-behind, AppendsPrefix-append}
-use Rattle.hk_top.specs.Text.{line}
-use Rattle.hk_top.specs.Words.{shown, added, Puts}
+use Rattle.hk_front.specs.Text.{line}
+use Rattle.hk_front.specs.Words.{shown, added, Puts}
 
 -- first bytes were taken, and then some of more
 pub prefix_after : (a b c : Option (List ℕ)) (first second : List ℕ) → Appends a b first → AppendsPrefix b c second → AppendsPrefix a c (first ++ second)

@@ -1,8 +1,8 @@
 -- The words of a script's fault that has no line.
 use Rattle.std.proofs.Common.{sym, ap}
-use Rattle.hk_top.specs.Refusals.{script_line}
-use Rattle.hk_top.proofs.WordLemmas.{put_as}
-use Rattle.hk_top.proofs.refusals.put_script_error.Goals as goal
+use Rattle.hk_front.specs.Refusals.{script_line}
+use Rattle.hk_front.proofs.WordLemmas.{put_as}
+use Rattle.hk_front.proofs.refusals.put_script_error.Goals as goal
 
 pub returns-in-Long : goal.returns-in-Long
 returns-in-Long g c =

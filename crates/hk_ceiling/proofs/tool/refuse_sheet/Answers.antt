@@ -1,7 +1,0 @@
--- Want of memory, or the line of the refusal.
-use Rattle.hk_ceiling.proofs.RunLemmas.{sheet_refused}
-use Rattle.hk_ceiling.proofs.tool.refuse_sheet.Goals as goal
-
-pub returns-in_default-clause-ends : goal.returns-in_default-clause-ends
-returns-in_default-clause-ends g c = λ sections bytes short answers.
-    sheet_refused _ _ _ _ sections bytes c.args.error.now c.put_sheet_error.result c.ended.result short answers c.in_default.not-Memory c.put_sheet_error.ensures c.ended.ensures

@@ -1,0 +1,4 @@
+pub mod WordLemmas
+pub mod EndLemmas
+pub mod InputLemmas
+pub mod OneInput

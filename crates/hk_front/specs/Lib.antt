@@ -1,0 +1,5 @@
+pub mod Text
+pub mod Words
+pub mod Refusals
+pub mod Input
+pub mod Endings

@@ -1,18 +1,20 @@
 -- The workers' jobs, and what comes back of them.
-use Rattle.std.proofs.Common.{◌≡◌, ℕ, ◌<◌, ◌≤◌, ◌+◌, List, [], ◌∷◌, ◌++◌, length, refl, sym, ◌∙◌, ap, subst, arith, inl, inr, Option, Some, None, suc, append-nil, append_assoc}
+use Rattle.std.proofs.Common.{◌≡◌, ℕ, ◌<◌, ◌≤◌, ◌+◌, List, [], ◌∷◌, ◌++◌, length, refl, sym, ◌∙◌, ap, subst, arith, inl, inr, Option, Some, None, is_some, suc, append-nil, append_assoc}
 use Rattle.std.proofs.lemmas.Bool.{cases_lt}
 use Rattle.std.proofs.lemmas.List.Elements.{filter-append}
-use Rattle.std.specs.Prelude.{slice_index_or, IfSome, All, codes, nat_lt, min, not, ◌||◌, ◌==◌, ◌%◌, if◌then◌else◌, Bool, true, false}
+use Rattle.std.specs.Prelude.{slice_index_or, IfSome, All, codes, nat_lt, nat_eq, min, not, ◌&&◌, ◌||◌, ◌==◌, ◌%◌, if◌then◌else◌, Bool, true, false}
 use Rattle.hk_words.specs.declared.geometry.Geometry.{Geometry}
 use Rattle.std.proofs.lemmas.Bool.Decides.{nat_tests}
 use Rattle.hk_words.specs.Geometry.{tasks, HasSizes, Sizes, first_error}
+use Rattle.hk_words.specs.Row.{W1, word_of}
+use Rattle.std.specs.List.{list_any}
 use Rattle.hk_words.specs.declared.geometry.GeoError.{GeoError}
 use Rattle.hk_words.specs.declared.geometry.GeoError.TheVariants as geometry
 use Rattle.hk_sheet.specs.Valid.{IsSheet}
 use Rattle.hk_sheet.specs.Faults.{sizes_of}
 use Rattle.hk_race.proofs.Sheets.{tasks_count}
 use Rattle.hk_model.specs.Heap.{Heap, opening_of}
-use Rattle.hk_model.specs.History.{History, after, of_seat}
+use Rattle.hk_model.specs.History.{History, after, of_seat, is_full}
 use Rattle.hk_sheet.specs.declared.sheet.Sheet.{Sheet}
 use Rattle.hk_core.specs.Run.{Action, begin, step, collect, run, run_from_opening}
 use Rattle.hk_keeper.specs.Collected.{answers}
@@ -31,15 +33,19 @@ use Rattle.hk_race.specs.declared.competing.Job.{Job}
 use Rattle.hk_race.specs.declared.competing.Ended.{Ended}
 use Rattle.hk_race.specs.declared.progress.Progress.{Progress}
 use Rattle.hk_race.specs.declared.tasks.Held.{Held}
-use Rattle.hk_race.specs.Course.{course}
+use Rattle.hk_race.specs.Course.{Course, course}
 use Rattle.hk_race.specs.Goes.{course_of}
-use Rattle.hk_race.specs.Jobs.{IsJobOf, TellsTask, ComesBack, IsBack, Parts, Agree}
-use Rattle.hk_race.specs.Lives.{last_live, live_of}
+use Rattle.hk_race.specs.Jobs.{IsJobOf, TellsTask, DidAll, ComesBack, IsBack, Parts, Agree}
+use Rattle.hk_race.specs.Lives.{last_live, live_of, reserved_by}
+use Rattle.hk_race.specs.Raced.{has_full, CameToEnd}
 use Rattle.hk_race.specs.Shown.{shown, IsHeld}
 use Rattle.hk_race.specs.Tasks.{Task, task_at, tasks_of}
-use Rattle.hk_race.specs.Text.{told, tasks_text, race_text, live_text, line}
+use Rattle.hk_front.specs.Text.{line}
+use Rattle.hk_race.specs.Text.{told, task_course, tasks_text, race_text, live_text}
 use Rattle.hk_race.proofs.Lists.{at_before, at_last, length_more, item}
 use Rattle.hk_race.proofs.Turning.{none_later}
+use Rattle.hk_race.proofs.Rising.{reserved_later}
+use Rattle.hk_race.proofs.Stopping.{seats_few, course_stopped, stopped_any}
 
 -- A JOB
 pub job_of : (h : Table) (sheet : Sheet) (seat : ℕ) (pass : Pass) (task : Held) → IsPassOf h pass × (known pass ≡ fresh h.geometry seat) → shown task ≡ task_at sheet seat
@@ -117,6 +123,7 @@ module _ (h : Table) (sheet : Sheet) (jobs : List Job) (ended : List Ended) (pas
         told = subst (λ (x : Pass). TellsTask h.geometry (task_at sheet seat) seat (known x).seen own') part.0
             (subst (λ (n : ℕ). TellsTask h.geometry (task_at sheet seat) n (known (slice_index_or ended seat d).pass).seen own') is.seat_is
             (subst (λ (t : Task). TellsTask h.geometry t (known job.pass).seat (known (slice_index_or ended seat d).pass).seen own') is.task tells));
+        all = subst (λ (t : Task). DidAll t.jobs own') is.task (subst (λ (o : Option Progress). IfSome o (DidAll (shown job.task).jobs)) part.1 came.all);
       }
 
   pub all_of_heap : All (IsPassOf h) passes
@@ -152,6 +159,30 @@ module _ (h : Table) (sheet : Sheet) (jobs : List Job) (ended : List Ended) (pas
         ap (λ (x : Geometry). course (task_at sheet seat).script (task_at sheet seat).jobs (opening_of x) seat (run_of c).history) is
             ∙ ap (course (task_at sheet seat).script (task_at sheet seat).jobs (opening_of h.geometry) seat) stands.saw.1 ∙ one.told later none,
       )
+
+  module _ (g : Geometry) (k : KeeperView) (c : Closed) (is : g ≡ h.geometry) (closed : ClosedBy g passes k c) where
+    -- each task came to its end
+    pub came_to_end : (seat : ℕ) → seat < length jobs → CameToEnd (task_at sheet seat).jobs (task_course sheet g (run_of c).history seat)
+    came_to_end seat below =
+        let p = item passes seat (omega (arith, below, parts.passes_are, count)) in
+        let own = item all seat (omega (arith, below, parts.told_are, count)) in
+        let one = back_at seat p own below in
+        let a = agree g k c is closed seat own (omega (arith, below, parts.told_are, count)) in
+        subst (CameToEnd (task_at sheet seat).jobs) (sym a.1) (refl, one.all)
+
+    -- some task stopped exactly where the history has a New without room
+    pub full_of : tasks g ≡ length jobs → list_any (λ (own : Progress). is_some own.full) all ≡ has_full (run_of c).history
+    full_of few = stopped_any (opening_of g) (run_of c).history all closed.legal none each
+      where
+        none : (t : ℕ) → length all ≤ t → of_seat (run_of c).history t ≡ []
+        none t far =
+            subst (λ (x : Geometry). of_seat (run_from_opening x (log_of c)).history t ≡ []) (sym closed.geometry) (seats_few g (log_of c) closed.seats t (omega (arith, far, few, parts.told_are, count)))
+
+        each : (seat : ℕ) (d : Progress) → seat < length all → is_some (slice_index_or all seat d).full ≡ list_any (λ e. nat_eq e.seat seat && is_full e.reply) (run_of c).history
+        each seat d below =
+            let a = agree g k c is closed seat d below in
+            sym (ap (λ (x : Course). is_some x.full) a.1)
+            ∙ course_stopped (task_at sheet seat).script (task_at sheet seat).jobs (opening_of g) seat (run_of c).history (ap (λ (x : Course). x.rest) a.1)
 
 -- THE TEXT
 pub text_more : (sheet : Sheet) (g : Geometry) (history : History) (all : List Progress) (seat : ℕ) (before now name : List ℕ) (own : Progress)
@@ -205,6 +236,24 @@ spot_last h keeper passes c is closed =
     ∙ ap (λ l. (run_from_opening h.geometry l).core.spot) b.1
     ∙ spot_on h.geometry (kept keeper).log b.0 (below_later (tasks h.geometry) (kept keeper).log b.0 (subst (SeatsBelow (tasks h.geometry)) b.1 closed.seats)) none
     ∙ is.stands
+
+-- the words that were reserved at the keeper's last event still are
+reserved_last : (h : Table) (keeper : Keeper) (passes : List Pass) (c : Closed) → ClosedBy h.geometry passes (kept keeper) c
+    → reserved_by h.geometry (kept keeper).log ≤ word_of h.geometry (run_of c).core.row W1
+reserved_last h keeper passes c closed =
+    let b = closed.keeper_begins in
+    let none = no_events (kept keeper).log (log_of c) b closed.keeper_acts in
+    subst (λ (g : Geometry). reserved_by h.geometry (kept keeper).log ≤ word_of h.geometry (run_from_opening g (log_of c)).core.row W1) (sym closed.geometry)
+    (subst (λ (l : List Action). reserved_by h.geometry (kept keeper).log ≤ word_of h.geometry (run_from_opening h.geometry l).core.row W1) (sym b.1)
+    (reserved_later h.geometry (kept keeper).log b.0 none))
+
+within_more : (o : Option ℕ) (few more : ℕ) → few ≤ more → IfSome o (λ words. words ≤ few) → IfSome o (λ words. words ≤ more)
+within_more None few more up h = tt
+within_more (Some words) few more up h = omega (arith, up, h)
+
+pub within_last : (h : Table) (keeper : Keeper) (passes : List Pass) (c : Closed) (live : Option ℕ) → ClosedBy h.geometry passes (kept keeper) c
+    → IfSome live (λ words. words ≤ reserved_by h.geometry (kept keeper).log) → IfSome live (λ words. words ≤ word_of h.geometry (run_of c).core.row W1)
+within_last h keeper passes c live closed few = within_more live _ _ (reserved_last h keeper passes c closed) few
 
 pub text_whole : (sheet : Sheet) (g : Geometry) (history : History) (live : Option ℕ) (declared seat : ℕ) (before now : List ℕ) → seat ≡ length (tasks_of sheet) → declared ≡ sheet.heap.live
     → before ≡ tasks_text sheet g history seat → now ≡ before ++ (live_text declared live ++ line (codes "end" ∷ [])) → now ≡ race_text sheet g history live

@@ -3,7 +3,10 @@ pub mod Going
 pub mod Through
 pub mod Joining
 pub mod Rows
+pub mod Rising
+pub mod Stopping
 pub mod Living
 pub mod Sheets
 pub mod Lists
 pub mod Coming
+pub mod Ends

@@ -4,7 +4,7 @@ use Rattle.std.proofs.Math.Nat.{min-le_left}
 use Rattle.hk_words.specs.declared.geometry.Geometry.{Geometry}
 use Rattle.hk_core.specs.declared.spot.Work.{Work}
 use Rattle.hk_core.specs.declared.spot.Work.TheVariants as work
-use Rattle.hk_core.specs.Run.{Action, run_from_opening}
+use Rattle.hk_core.specs.Run.{Action, collect, run_from_opening}
 use Rattle.hk_collect.proofs.Running.{geometry_from_opening}
 use Rattle.hk_collect.specs.Works.{HasCauses, IsWorn, FindsLiveOver}
 use Rattle.hk_core.specs.State.{opening_spot}
@@ -12,7 +12,8 @@ use Rattle.hk_table.specs.Knows.{KeeperView}
 use Rattle.hk_table.specs.Seats.{keeper_from}
 use Rattle.hk_keeper.specs.Collected.{answers, Answers, useful, stopped, worn, Collected}
 use Rattle.hk_keeper.proofs.Answering.{answers_more}
-use Rattle.hk_race.specs.Lives.{is_last, live_in, last_live, live_of}
+use Rattle.hk_race.specs.Lives.{is_last, live_in, last_live, live_of, reserved_by}
+use Rattle.hk_race.proofs.Rising.{found_reserved}
 
 last_more : (before : List Work) (answer : Work) → last_live (before ++ answer ∷ []) ≡ live_in answer
 last_more [] answer = refl
@@ -116,3 +117,23 @@ above_by g k k' budget events (work.BusyObject n) c = tt
 above_by g k k' budget events (work.Unlinked place) c = tt
 above_by g k k' budget events (work.Grey n) c = tt
 above_by g k k' budget events work.Worn c = tt
+
+-- and they are reserved
+pub within_by : (g : Geometry) (k k' : KeeperView) (budget events : ℕ) (answer : Work) → Collected g k budget answer events k' → IfSome (live_in answer) (λ words. words ≤ reserved_by g k'.log)
+within_by g k k' budget events (work.LiveOver words) c = by_answer c.answered
+  where
+    by_answer : Answers g k.log c.later budget events (work.LiveOver words) → words ≤ reserved_by g k'.log
+    by_answer (useful is all says) = absurd (cc)
+    by_answer (stopped other not-worn few count says last) =
+        let finds : FindsLiveOver (run_from_opening g (k.log ++ last.front)).core words = (last.causes.live_over words).0 refl in
+        let log_is : k'.log ≡ (k.log ++ last.front) ++ collect ∷ [] = c.log ∙ ap (λ (l : List Action). k.log ++ l) last.last ∙ sym (append_assoc k.log last.front (collect ∷ [])) in
+        subst (λ (l : List Action). words ≤ reserved_by g l) (sym log_is) (found_reserved g (k.log ++ last.front) words finds)
+    by_answer (worn is some says causes) = absurd (cc)
+within_by g k k' budget events work.Useful c = tt
+within_by g k k' budget events work.Flipped c = tt
+within_by g k k' budget events (work.Lost n) c = tt
+within_by g k k' budget events (work.BusyFrame seat) c = tt
+within_by g k k' budget events (work.BusyObject n) c = tt
+within_by g k k' budget events (work.Unlinked place) c = tt
+within_by g k k' budget events (work.Grey n) c = tt
+within_by g k k' budget events work.Worn c = tt

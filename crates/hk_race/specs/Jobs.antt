@@ -1,5 +1,5 @@
 -- What goes into the threads, and what comes back.
-use Rattle.std.specs.Prelude.{◌≡◌, ℕ, ◌<◌, List, [], length, slice_index_or, IfSome, Some}
+use Rattle.std.specs.Prelude.{◌≡◌, ◌⊎◌, ℕ, ◌<◌, true, List, [], length, slice_index_or, IfSome, Some, is_some}
 use Rattle.hk_words.specs.declared.geometry.Geometry.{Geometry}
 use Rattle.hk_model.specs.Heap.{Heap, opening_of}
 use Rattle.hk_model.specs.History.{History}
@@ -32,17 +32,23 @@ pub record IsJobOf (h : Table) (sheet : Sheet) (seat : ℕ) (job : Job) : Type 0
 abbrev pub TellsTask : Geometry → Task → (seat : ℕ) → (seen : History) → Progress → Type 0
 TellsTask g task seat seen own = TellsCourse g seat task.jobs task.script seen own
 
+-- each of so many jobs has ended, unless the task has stopped at a New without room
+abbrev pub DidAll : (jobs : ℕ) → Progress → Type 0
+DidAll jobs own = (own.jobs ≡ jobs) ⊎ (is_some own.full ≡ true)
+
 -- the pass of a job comes back, and what its worker tells, where it found memory
 pub record ComesBack (h : Table) (job : Job) (ended : Ended) : Type 0 where
   pub pass : IsPassOf h ended.pass
   pub seat : (known ended.pass).seat ≡ (known job.pass).seat
   pub told : IfSome ended.told (TellsTask h.geometry (shown job.task) (known job.pass).seat (known ended.pass).seen)
+  pub all : IfSome ended.told (DidAll job.task.jobs)
 
 -- the pass of a seat, and what its worker tells
 pub record IsBack (h : Table) (sheet : Sheet) (seat : ℕ) (pass : Pass) (own : Progress) : Type 0 where
   pub is : IsPassOf h pass
   pub seat_is : (known pass).seat ≡ seat
   pub told : TellsTask h.geometry (task_at sheet seat) seat (known pass).seen own
+  pub all : DidAll (task_at sheet seat).jobs own
 
 -- what came back, by seats: the passes, and what was told of their tasks
 pub record Parts (ended : List Ended) (passes : List Pass) (told : List Progress) : Type 0 where

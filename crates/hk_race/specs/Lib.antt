@@ -8,3 +8,4 @@ pub mod Text
 pub mod Shown
 pub mod Jobs
 pub mod Raced
+pub mod Race

@@ -1,9 +1,10 @@
 -- Whether the collector ended at more live words than were declared.
 use Rattle.std.specs.Prelude.{ℕ, List, [], ◌∷◌, Bool, true, false, Option, Some, None}
 use Rattle.hk_words.specs.declared.geometry.Geometry.{Geometry}
+use Rattle.hk_words.specs.Row.{W1, word_of}
 use Rattle.hk_core.specs.declared.spot.Work.{Work}
 use Rattle.hk_core.specs.declared.spot.Work.TheVariants as work
-use Rattle.hk_core.specs.Run.{Action}
+use Rattle.hk_core.specs.Run.{Action, run_from_opening}
 use Rattle.hk_keeper.specs.Collected.{answers}
 
 -- the words that an answer of the collector finds live, where they are too many
@@ -26,3 +27,7 @@ last_live (answer ∷ next ∷ later) = last_live (next ∷ later)
 -- the step table at the run up to it
 unfoldable pub live_of : Geometry → List Action → Option ℕ
 live_of g log = last_live (answers g [] log)
+
+-- the words that are reserved for evacuation after a log
+abbrev pub reserved_by : Geometry → List Action → ℕ
+reserved_by g log = word_of g (run_from_opening g log).core.row W1

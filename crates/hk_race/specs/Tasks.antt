@@ -51,3 +51,9 @@ is_long task = long_by task.jobs (script.told (greatest_ticks task.script))
 -- no task is long
 abbrev pub HasNoLong : Sheet → Type 0
 HasNoLong sheet = (seat : ℕ) → seat < length (tasks_of sheet) → is_long (task_at sheet seat) ≡ false
+
+-- the task of this seat is the first that is long
+pub record IsFirstLong (sheet : Sheet) (seat : ℕ) : Type 0 where
+  pub below : seat < length (tasks_of sheet)
+  pub long : is_long (task_at sheet seat) ≡ true
+  pub first : (earlier : ℕ) → earlier < seat → is_long (task_at sheet earlier) ≡ false

@@ -1,6 +1,6 @@
 -- The text of a race: what it tells of each task, by a closing history.
-use Rattle.std.specs.Prelude.{ℕ, zero, suc, List, [], ◌∷◌, ◌++◌, length, codes, decimal, fold, flat_map, Option, Some, None}
-use Rattle.hk_io.specs.Line.{with_word, with_end}
+use Rattle.std.specs.Prelude.{ℕ, zero, suc, List, [], ◌∷◌, ◌++◌, length, codes, decimal, flat_map, Option, Some, None}
+use Rattle.hk_front.specs.Text.{line}
 use Rattle.hk_words.specs.declared.geometry.Geometry.{Geometry}
 use Rattle.hk_model.specs.Heap.{opening_of}
 use Rattle.hk_model.specs.History.{History}
@@ -9,10 +9,6 @@ use Rattle.hk_race.specs.declared.note.Note.{Note}
 use Rattle.hk_race.specs.declared.note.Note.TheVariants as note
 use Rattle.hk_race.specs.Course.{Course, course}
 use Rattle.hk_race.specs.Tasks.{tasks_of, task_at}
-
--- a line of these words, parted by single spaces, with its newline
-abbrev pub line : List (List ℕ) → List ℕ
-line words = with_end (fold with_word [] words)
 
 -- a value that a task put out, or a job of it that met a fault at a statement
 abbrev pub note_line : (name : List ℕ) → Note → List ℕ
@@ -34,10 +30,12 @@ live_text declared (Some words) = line (codes "live" ∷ decimal words ∷ codes
 unfoldable pub told : (name : List ℕ) → Course → List ℕ
 told name c = flat_map (note_line name) c.notes ++ end_of_task name c.jobs c.full
 
--- what the task of a seat tells, by the history
+-- what the jobs of the task of a seat come to, by the history, and what that tells
+abbrev pub task_course : Sheet → Geometry → History → (seat : ℕ) → Course
+task_course sheet g history seat = course (task_at sheet seat).script (task_at sheet seat).jobs (opening_of g) seat history
+
 abbrev pub task_text : Sheet → Geometry → History → (seat : ℕ) → List ℕ
-task_text sheet g history seat =
-    told (task_at sheet seat).name (course (task_at sheet seat).script (task_at sheet seat).jobs (opening_of g) seat history)
+task_text sheet g history seat = told (task_at sheet seat).name (task_course sheet g history seat)
 
 -- what the tasks of the first seats tell
 abbrev pub tasks_text : Sheet → Geometry → History → (seats : ℕ) → List ℕ

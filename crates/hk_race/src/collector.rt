@@ -4,16 +4,14 @@ ghost use Rattle.hk_words.specs.Geometry.{tasks};
 ghost use Rattle.hk_table.specs.Passes.{IsKeeperOf, kept};
 ghost use Rattle.hk_table.specs.Seats.{keeper_from};
 ghost use Rattle.hk_keeper.specs.Collected.{flips};
-ghost use Rattle.hk_race.specs.Lives.{is_last, live_in, live_of};
+ghost use Rattle.hk_race.specs.Lives.{is_last, live_in, live_of, reserved_by};
 
 use crate::gate::Gate;
-use crate::room::words_used;
+use crate::room::{AtWork, rest};
 use hk_keeper::{Work, collect};
 use hk_table::{Heap, Keeper, Steps};
 use std::sync::Wait;
-use std::sync::atomic::{AtomicU64, Ordering};
 use std::sync::ledger::{Blank, Ledger};
-use std::thread;
 
 /// The most events between two looks at the count of workers.
 const TURN: u32 = 64;
@@ -69,24 +67,13 @@ fn counted(so_far: u64, answer: Work) -> u64
     }
 }
 
-/// Yields until enough words were used to be worth a cycle, or no worker is left.
-fn wait_for_use<R: Wait>(rt: &R, heap: &Heap, workers: &AtomicU64) {
-    let enough = heap.geometry().alloc() / 8;
-    for _ in rt.forever() {
-        if words_used(heap) > enough || workers.load(Ordering::SeqCst) == 0 {
-            return;
-        }
-        thread::yield_now();
-    }
-}
-
 /// Collects until no worker is left and two cycles have begun, or as long as it can: it stops where more words live than were
-/// declared, and answers how many, and where there is no further cycle. Before a cycle that nobody needs it waits.
+/// declared, and answers how many, and where there is no further cycle. Before a cycle that nobody needs it rests for a while.
 pub(crate) fn collect_all<L: Ledger, R: Wait, G: Gate>(
     rt: &R,
     heap: &Heap,
     gate: &G,
-    workers: &AtomicU64,
+    at_work: &AtWork,
     keeper: &mut Keeper,
     blank: Blank,
 ) -> Option<u64>
@@ -98,6 +85,7 @@ pub(crate) fn collect_all<L: Ledger, R: Wait, G: Gate>(
     ensures keeper { IsKeeperOf heap.now keeper.new }
     ensures live { result ≡ live_of heap.now.geometry (kept keeper.new).log }
     ensures above { IfSome result (λ words. heap.now.geometry.live < words) }
+    ensures reserved { IfSome result (λ words. words ≤ reserved_by heap.now.geometry (kept keeper.new).log) }
     ensures cycle { IsNone result → 3 ≤ (kept keeper.new).spot.cycle }
 {
     let mut steps = Steps::<L>::new(blank);
@@ -113,11 +101,11 @@ pub(crate) fn collect_all<L: Ledger, R: Wait, G: Gate>(
             return live_in(answer);
         }
         flips = counted(flips, answer);
-        if workers.load(Ordering::SeqCst) == 0 && flips >= 2 {
+        if at_work.is_done() && flips >= 2 {
             return None;
         }
         if answer == Work::Flipped {
-            wait_for_use(rt, heap, workers);
+            rest(heap, at_work);
         }
     }
     unreachable!()

@@ -1,5 +1,6 @@
 //! The workers and the collector, each on a thread.
-ghost use Rattle.std.specs.Prelude.{◌≡◌, ◌⊎◌, ℕ, ◌+◌, ◌<◌, ◌≤◌, [], All, IfOk, IfSome, IsNone, length, slice_index_or};
+ghost use Rattle.std.specs.Prelude.{◌≡◌, ◌⊎◌, ℕ, ◌+◌, ◌<◌, ◌≤◌, [], All, IfOk, IfSome, IsNone, length, slice_index_or, is_some};
+ghost use Rattle.std.specs.List.{list_any};
 ghost use Rattle.hk_model.specs.History.{History};
 ghost use Rattle.hk_sheet.specs.Faults.{sizes_of};
 ghost use Rattle.hk_sheet.specs.Valid.{IsSheet};
@@ -10,7 +11,7 @@ ghost use Rattle.hk_table.specs.Seats.{keeper_from};
 ghost use Rattle.hk_words.specs.Geometry.{HasSizes, tasks};
 ghost use Rattle.hk_words.specs.declared.geometry.Geometry.{Geometry};
 ghost use Rattle.hk_race.specs.Jobs.{MayWork, IsJobOf, ComesBack, Parts, Agree};
-ghost use Rattle.hk_race.specs.Lives.{live_of};
+ghost use Rattle.hk_race.specs.Lives.{live_of, reserved_by};
 ghost use Rattle.hk_race.specs.Raced.{IsRace};
 ghost use Rattle.hk_race.specs.Tasks.{tasks_of, HasNoLong};
 ghost use Rattle.hk_race.specs.Text.{race_text};
@@ -18,6 +19,7 @@ ghost use Rattle.hk_race.specs.Text.{race_text};
 use crate::collector::collect_all;
 use crate::gate::Gate;
 use crate::progress::Progress;
+use crate::room::AtWork;
 use crate::tasks::{Held, task_at};
 use crate::text::{tell, tell_end};
 use crate::thread::work_all;
@@ -27,7 +29,6 @@ use hk_words::Memory;
 use std::alloc::{AllocError, Global};
 use std::marker::Brand;
 use std::sync::Wait;
-use std::sync::atomic::{AtomicU64, Ordering};
 use std::sync::ledger::Blank;
 use std::thread;
 use std::thread::Threads;
@@ -67,6 +68,8 @@ pub struct Raced {
     pub closed: Closed,
     /// The words that the collector found live, where they were more than were declared.
     pub live: Option<u64>,
+    /// Some task stopped at a New that found no room.
+    pub full: bool,
     /// What was told of the tasks.
     pub text: Vec<u8>,
 }
@@ -77,7 +80,7 @@ fn run_job<R: Wait, G: Gate>(
     alloc: Global,
     heap: &Heap,
     gate: &G,
-    workers: &AtomicU64,
+    at_work: &AtWork,
     job: Job<'_>,
 ) -> Ended
     requires { MayWork heap.now job }
@@ -89,7 +92,7 @@ fn run_job<R: Wait, G: Gate>(
         alloc,
         heap,
         gate,
-        workers,
+        at_work,
         pass,
         task.script,
         task.jobs,
@@ -107,7 +110,7 @@ fn run_collector<R: Wait, G: Gate>(
     rt: &R,
     heap: &Heap,
     gate: &G,
-    workers: &AtomicU64,
+    at_work: &AtWork,
     mut keeper: Keeper,
 ) -> Swept
     requires keeper { IsKeeperOf heap.now keeper }
@@ -115,9 +118,11 @@ fn run_collector<R: Wait, G: Gate>(
     ensures keeper { IsKeeperOf heap.now result.keeper }
     ensures live { result.live ≡ live_of heap.now.geometry (kept result.keeper).log }
     ensures above { IfSome result.live (λ words. heap.now.geometry.live < words) }
+    ensures reserved { IfSome result.live (λ words. words ≤ reserved_by heap.now.geometry (kept result.keeper).log) }
     ensures cycle { IsNone result.live → 3 ≤ (kept result.keeper).spot.cycle }
 {
-    let live = collect_all::<Brand, R, G>(rt, heap, gate, workers, &mut keeper, Blank::new(1));
+    let live = collect_all::<Brand, R, G>(rt, heap, gate, at_work, &mut keeper, Blank::new(1));
+    at_work.collector_ended();
     Swept { keeper, live }
 }
 
@@ -127,7 +132,7 @@ fn run_workers<R: Threads + Wait + Sync, G: Gate>(
     alloc: Global,
     heap: &Heap,
     gate: &G,
-    workers: &AtomicU64,
+    at_work: &AtWork,
     jobs: Vec<Job<'_>>,
 ) -> Result<Vec<Ended>, AllocError>
     requires { All (MayWork heap.now) jobs.items }
@@ -140,9 +145,9 @@ fn run_workers<R: Threads + Wait + Sync, G: Gate>(
         &|job: Job| -> Ended
             requires { MayWork heap.now job }
             ensures { ComesBack heap.entry.now job.entry result }
-        { run_job(rt, alloc, heap, gate, workers, job) },
+        { run_job(rt, alloc, heap, gate, at_work, job) },
     );
-    workers.store(0, Ordering::SeqCst);
+    at_work.workers_ended();
     ended
 }
 
@@ -163,22 +168,24 @@ fn run_all<R: Threads + Wait + Sync, G: Gate>(
     ensures keeper { IsKeeperOf heap.now result.1.keeper }
     ensures live { result.1.live ≡ live_of heap.now.geometry (kept result.1.keeper).log }
     ensures above { IfSome result.1.live (λ words. heap.now.geometry.live < words) }
+    ensures reserved { IfSome result.1.live (λ words. words ≤ reserved_by heap.now.geometry (kept result.1.keeper).log) }
     ensures cycle { IsNone result.1.live → 3 ≤ (kept result.1.keeper).spot.cycle }
 {
-    let count = AtomicU64::new(jobs.len() as u64);
-    let workers = &count;
+    let all = AtWork::new(jobs.len() as u64);
+    let at_work = &all;
     let work = move || -> Result<Vec<Ended>, AllocError>
         requires { All (MayWork heap.now) jobs.items }
         ensures count { IfOk result (λ v. length v.items ≡ length jobs.entry.items) }
         ensures each { IfOk result (λ v. (i : ℕ) (d : Ended) (j : Job) → i < length jobs.entry.items → ComesBack heap.entry.now (slice_index_or jobs.entry.items i j) (slice_index_or v.items i d)) }
-    { run_workers(rt, alloc, heap, gate, workers, jobs) };
+    { run_workers(rt, alloc, heap, gate, at_work, jobs) };
     let collect = move || -> Swept
         requires { IsKeeperOf heap.now keeper × (kept keeper ≡ keeper_from (tasks heap.now.geometry)) }
         ensures keeper { IsKeeperOf heap.entry.now result.keeper }
         ensures live { result.live ≡ live_of heap.entry.now.geometry (kept result.keeper).log }
         ensures above { IfSome result.live (λ words. heap.entry.now.geometry.live < words) }
+        ensures reserved { IfSome result.live (λ words. words ≤ reserved_by heap.entry.now.geometry (kept result.keeper).log) }
         ensures cycle { IsNone result.live → 3 ≤ (kept result.keeper).spot.cycle }
-    { run_collector(rt, heap, gate, workers, keeper) };
+    { run_collector(rt, heap, gate, at_work, keeper) };
     thread::join(rt, work, collect)
 }
 
@@ -251,6 +258,13 @@ fn text_of(
     Ok(text)
 }
 
+/// Some task stopped at a New that found no room.
+fn any_stopped(told: &[Progress]) -> bool
+    ensures { result ≡ list_any (λ own. is_some own.full) told.now }
+{
+    told.iter().any(|own| own.full.is_some())
+}
+
 /// Does the scripts of a sheet on a heap that was opened for it: one worker for each task, on the task's own pass, and the
 /// collector beside them, each on a thread of its own where one can be made. At the end the heap is closed.
 pub fn compete<R: Threads + Wait + Sync, G: Gate>(
@@ -273,10 +287,12 @@ pub fn compete<R: Threads + Wait + Sync, G: Gate>(
     let ended = ended?;
     let parts = taken_apart(alloc, ended)?;
     let text = text_of(alloc, sheet, parts.told.as_slice(), swept.live)?;
+    let full = any_stopped(parts.told.as_slice());
     let closed = close(heap, parts.passes, swept.keeper);
     Ok(Raced {
         closed,
         live: swept.live,
+        full,
         text,
     })
 }

@@ -15,6 +15,7 @@ mod tasks;
 mod tests;
 mod text;
 mod thread;
+mod tool;
 mod worker;
 
 pub use competing::{Raced, compete};
@@ -23,3 +24,4 @@ pub use gate::{Gate, Open};
 pub use long::first_long;
 pub use note::Note;
 pub use progress::Progress;
+pub use tool::{RaceEnd, race};

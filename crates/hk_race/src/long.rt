@@ -1,9 +1,9 @@
 //! Tasks that are too long for a pass.
-ghost use Rattle.std.specs.Prelude.{◌≡◌, ◌≤◌, ◌<◌, ℕ, length, MatchOption, true, false};
+ghost use Rattle.std.specs.Prelude.{◌≡◌, ◌≤◌, ◌<◌, length, MatchOption};
 ghost use Rattle.hk_script.specs.Cost.{told, greatest_ticks};
 ghost use Rattle.hk_sheet.specs.Valid.{AreArrivals, IsSheet};
 ghost use Rattle.hk_sheet.specs.declared.sheet.TheConstants.{MAX_TICKS};
-ghost use Rattle.hk_race.specs.Tasks.{jobs_before, long_by, is_long, of_high, of_low, tasks_of, task_at, HasNoLong};
+ghost use Rattle.hk_race.specs.Tasks.{jobs_before, long_by, is_long, of_high, of_low, tasks_of, task_at, HasNoLong, IsFirstLong};
 
 use crate::desk::MOST_CALLS;
 use crate::tasks::{high_at, high_count, jobs_before, low_at, low_count, ticks};
@@ -59,8 +59,7 @@ fn is_long_at(sheet: &Sheet, seat: usize) -> bool
 #[tactic(auto, using(crate::proofs::Sheets::tasks_count))]
 pub fn first_long(sheet: &Sheet) -> Option<usize>
     requires { IsSheet sheet.now }
-    ensures { MatchOption result (HasNoLong sheet.now)
-        (λ seat. (seat < length (tasks_of sheet.now)) × (is_long (task_at sheet.now seat) ≡ true) × ((earlier : ℕ) → earlier < seat → is_long (task_at sheet.now earlier) ≡ false)) }
+    ensures { MatchOption result (HasNoLong sheet.now) (IsFirstLong sheet.now) }
 {
     for seat in 0..high_count(sheet) + low_count(sheet) {
         if is_long_at(sheet, seat) {

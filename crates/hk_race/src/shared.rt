@@ -15,12 +15,14 @@ ghost use Rattle.hk_race.specs.declared.desk.TheConstants.{MOST_CALLS};
 
 use crate::desk::{Desk, Said};
 use crate::gate::Gate;
+use crate::room::{AtWork, wait_for_room};
 use hk_table::{Heap, HeapError, Pass, Steps};
 use hk_words::{Call, Reply};
 use std::sync::Wait;
 use std::sync::ledger::Ledger;
 
-/// A task's pass of the shared heap, with the gate that stands round each of its calls.
+/// A task's pass of the shared heap, with the gate that stands round each of its calls. Its worker waits for room before a New
+/// while it is patient.
 #[derive(Drop)]
 pub(crate) struct Shared<'a, L: Ledger, R: Wait, G: Gate> {
     pub heap: &'a Heap,
@@ -28,7 +30,9 @@ pub(crate) struct Shared<'a, L: Ledger, R: Wait, G: Gate> {
     pub steps: Steps<L>,
     pub rt: &'a R,
     pub gate: &'a G,
+    pub at_work: &'a AtWork,
     pub calls: u64,
+    pub patient: bool,
 }
 
 /// A call on the shared heap, and its reply.
@@ -124,6 +128,8 @@ impl<'a, L: Ledger, R: Wait, G: Gate> Desk for Shared<'a, L, R, G> {
     ghost same = { λ d e. e.heap.now ≡ d.heap.now };
 
     fn call(&mut self, call: Call) -> Said {
+        let high = self.pass.high();
+        self.patient = wait_for_room(self.heap, self.at_work, high, self.patient, call);
         self.gate.before(self.rt, self.pass.seat(), self.calls);
         let said = said_of(self.heap, &mut self.pass, call, &mut self.steps);
         self.gate.after(self.rt, self.pass.seat(), self.calls);

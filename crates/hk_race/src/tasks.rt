@@ -152,3 +152,29 @@ pub(crate) fn task_at(sheet: &Sheet, seat: usize) -> Held<'_>
     }
     low_task(ticks(sheet), low_at(sheet, seat - high))
 }
+
+/// The name of a high task.
+fn high_name(task: &High) -> &[u8]
+    ensures { result.now ≡ task.now.name }
+{
+    &task.name.items
+}
+
+/// The name of a low task.
+fn low_name(task: &Low) -> &[u8]
+    ensures { result.now ≡ task.now.name }
+{
+    &task.name.items
+}
+
+/// The name of the task of a seat.
+pub(crate) fn name_at(sheet: &Sheet, seat: usize) -> &[u8]
+    requires { seat < length (tasks_of sheet.now) }
+    ensures { result.now ≡ (task_at sheet.now seat).name }
+{
+    let high = high_count(sheet);
+    if seat < high {
+        return high_name(high_at(sheet, seat));
+    }
+    low_name(low_at(sheet, seat - high))
+}

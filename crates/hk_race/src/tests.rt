@@ -1,25 +1,26 @@
 //! Races of small sheets that were worked out by hand.
-ghost use Rattle.std.specs.Prelude.{IfOk};
-ghost use Rattle.hk_sheet.specs.Faults.{sizes_of};
-ghost use Rattle.hk_sheet.specs.Valid.{IsSheet};
-ghost use Rattle.hk_table.specs.Ends.{Opens};
-ghost use Rattle.hk_words.specs.Geometry.{HasSizes};
+mod gates;
+mod refusals;
+mod rooms;
+mod streams;
 
-use crate::{Gate, Open, Raced, compete, first_long};
-use hk_sheet::{Sheet, read};
-use hk_table::{Heap, Keeper, Pass};
-use std::alloc::Global;
+use crate::{Gate, Open, RaceEnd, race};
+use hk_io::{MemSink, MemSource, Status};
+use std::alloc::{AllocError, Global};
 use std::process::Abort;
 use std::sync::Wait;
-use std::sync::atomic::{AtomicU64, Ordering};
-use std::test::Fail;
-use std::thread;
 use std::thread::Threads;
 
 /// A high task reads a number of the board, and a low one writes another and reads it back.
 const TWO: &str = r#"version = 1
 ticks = 1
-heap = { live = 62, alloc = 512, reserve = 129, rate = 11, board = [2, 2] }
+
+[heap]
+live = 62
+alloc = 512
+reserve = 129
+rate = 11
+board = [2, 2]
 
 [[high]]
 name = "a"
@@ -29,165 +30,88 @@ cost = 4
 words = 0
 first = 0
 every = 10
-script = "get v0 r0 0; out v0"
+script = """
+get v0 r0 0
+out v0
+"""
 
 [[low]]
 name = "b"
 first = 0
 every = 10
-script = "set v0 5; put r0 1 v0; get v1 r0 1; out v1"
+script = """
+set v0 5
+put r0 1 v0
+get v1 r0 1
+out v1
+"""
 "#;
 
-/// A job goes through a null register, and then one through a field that the board hasn't; each ends there.
-const FAULTS: &str = r#"version = 1
-ticks = 2
-heap = { live = 62, alloc = 512, reserve = 129, rate = 11, board = [2, 2] }
+/// What that comes to.
+const TEXT_OF_TWO: &str = "out a 0\ndone a jobs 1\nout b 5\ndone b jobs 1\nend\n";
 
-[[low]]
-name = "b"
-arrivals = [0, 1]
-script = "job v0; set v1 1; if v0 < v1; get v2 r1 0; else; get v2 r0 2; end; out v2"
-"#;
-
-/// More words are made than there are, and more live than is declared.
-const TOO_MANY: &str = r#"version = 1
-ticks = 1
-heap = { live = 2, alloc = 16, reserve = 0, rate = 1, board = [1, 0] }
-
-[[high]]
-name = "a"
-period = 1000
-deadline = 1000
-cost = 1000
-words = 82
-arrivals = [0]
-script = "new r1 1 0; repeat 40; new r2 1 0; end"
-"#;
-
-/// A script with a line for each statement.
-fn lines(rt: &(impl Abort + AllocGlobal), sheet: &str) -> Result<String, Fail> {
-    let mut text = String::new(rt.alloc());
-    for part in sheet.split("; ") {
-        if !text.is_empty() {
-            text.push_str("\\n")?;
-        }
-        text.push_str(part)?;
-    }
-    Ok(text)
-}
-
-/// The sheet of a text.
-fn sheet_of(alloc: Global, text: &str) -> Result<Sheet, &'static str>
-    ensures { IfOk result IsSheet }
-{
-    match read(alloc, text.as_bytes()) {
-        Ok(sheet) => Ok(sheet),
-        Err(_) => Err("no sheet"),
-    }
-}
-
-/// The heap of a sheet, with its passes and its keeper.
-fn opened(alloc: Global, sheet: &Sheet) -> Result<(Heap, Vec<Pass>, Keeper), &'static str>
-    requires { IsSheet sheet.now }
-    ensures sizes { IfOk result (λ r. HasSizes r.0.geometry (sizes_of sheet.now)) }
-    ensures open { IfOk result (λ r. Opens r.0.geometry r.0 r.1.items r.2) }
-{
-    match Heap::open(alloc, sheet.geometry()) {
-        Ok(parts) => Ok(parts),
-        Err(_) => Err("no memory"),
-    }
-}
-
-/// The race of a sheet.
-fn race<R: Abort + AllocGlobal + Threads + Wait + Sync, G: Gate>(
-    rt: &R,
-    sheet: &str,
-    gate: &G,
-) -> Result<Raced, Fail> {
-    let alloc = rt.alloc();
-    let text = lines(rt, sheet)?;
-    let sheet = sheet_of(alloc, text.as_str())?;
-    let None = first_long(&sheet) else {
-        panic!(rt; "a long task");
-    };
-    let (heap, passes, keeper) = opened(alloc, &sheet)?;
-    let raced = compete(rt, alloc, &sheet, heap, passes, keeper, gate).or(Err("no memory"))?;
-    Ok(raced)
-}
-
-/// The first call of the high task waits for that of the low one and for the collector's, and the second call of the low task
-/// for the first of the high one. So these are done beside each other, or somebody waits too long.
+/// How the program ended, and its source and sink.
 #[derive(Drop)]
-struct Meeting {
-    high: AtomicU64,
-    low: AtomicU64,
-    collector: AtomicU64,
-    late: AtomicU64,
+struct Ended {
+    end: RaceEnd,
+    source: MemSource,
+    sink: MemSink,
 }
 
-impl Meeting {
-    /// Waits until two counts aren't 0, but not forever.
-    fn wait_for(&self, first: &AtomicU64, second: &AtomicU64) {
-        for _ in 0..100_000_000_u32 {
-            if first.load(Ordering::SeqCst) > 0 && second.load(Ordering::SeqCst) > 0 {
-                return;
-            }
-            thread::yield_now();
-        }
-        self.late.store(1, Ordering::SeqCst);
+/// Runs the program for some words and an input, where the calls of the source and of the sink with these numbers fail, and the
+/// sink has so much room.
+fn run<R: Threads + Wait + Sync, G: Gate>(
+    rt: &R,
+    alloc: Global,
+    words: &[&str],
+    input: &str,
+    fails: (&[u64], &[u64]),
+    room: usize,
+    gate: &G,
+) -> Result<Ended, AllocError> {
+    let mut given = Vec::new(alloc);
+    for word in words {
+        given.push(String::from_str(alloc, word)?)?;
     }
-}
-
-impl Gate for Meeting {
-    fn before<R: Wait>(&self, _rt: &R, seat: u8, call: u64) {
-        match (seat, call) {
-            (0, 0) => self.wait_for(&self.low, &self.collector),
-            (1, 1) => self.wait_for(&self.high, &self.high),
-            _ => {}
-        }
-    }
-
-    fn after<R: Wait>(&self, _rt: &R, seat: u8, _call: u64) {
-        match seat {
-            0 => self.high.store(1, Ordering::SeqCst),
-            1 => self.low.store(1, Ordering::SeqCst),
-            _ => self.collector.store(1, Ordering::SeqCst),
-        }
-    }
-}
-
-#[test]
-fn workers_and_the_collector_meet(rt: HostRuntime) -> Result<(), Fail> {
-    let gate = Meeting {
-        high: AtomicU64::new(0),
-        low: AtomicU64::new(0),
-        collector: AtomicU64::new(0),
-        late: AtomicU64::new(0),
+    let (source_fails, sink_fails) = fails;
+    let bytes = input.as_bytes().to_vec(alloc)?;
+    let mut source = MemSource::new(bytes, source_fails.to_vec(alloc)?);
+    let Ok(mut sink) = MemSink::new(alloc, room, sink_fails.to_vec(alloc)?) else {
+        return Err(AllocError);
     };
-    let raced = race(&rt, TWO, &gate)?;
-    assert_eq!(&rt;
-        raced.text.as_slice(),
-        b"out a 0\ndone a jobs 1\nout b 5\ndone b jobs 1\nend\n".as_slice()
-    );
-    assert_eq!(&rt; gate.late.load(Ordering::SeqCst), 0);
+    let end = race(rt, alloc, given.as_slice(), &mut source, &mut sink, gate);
+    Ok(Ended { end, source, sink })
+}
+
+/// Compares how the program ended, and what it wrote.
+fn expect_end(rt: &impl Abort, ended: &Ended, status: Status, text: &str) {
+    assert_eq!(rt; ended.end.status, status);
+    assert_eq!(rt; ended.sink.bytes(), text.as_bytes());
+}
+
+/// Compares what the race of an input comes to.
+fn expect<R: Abort + Threads + Wait + Sync>(
+    rt: &R,
+    alloc: Global,
+    input: &str,
+    status: Status,
+    text: &str,
+) -> Result<(), AllocError> {
+    let ended = run(rt, alloc, &[], input, (&[], &[]), 65536, &Open)?;
+    expect_end(rt, &ended, status, text);
     Ok(())
 }
 
-#[test]
-fn faults_end_their_jobs(rt: HostRuntime) -> Result<(), Fail> {
-    let raced = race(&rt, FAULTS, &Open)?;
-    assert_eq!(&rt;
-        raced.text.as_slice(),
-        b"fault b 0 4 nil\nfault b 1 6 field\ndone b jobs 2\nend\n".as_slice()
-    );
-    Ok(())
-}
-
-#[test]
-fn a_full_heap_stops_its_task(rt: HostRuntime) -> Result<(), Fail> {
-    let raced = race(&rt, TOO_MANY, &Open)?;
-    let text = raced.text.as_slice();
-    assert!(&rt; text.starts_with(b"full a 16\n"));
-    assert!(&rt; text.ends_with(b"end\n"));
-    Ok(())
+/// A sheet with a part of its text changed.
+fn edited(
+    rt: &impl Abort,
+    alloc: Global,
+    sheet: &str,
+    old: &str,
+    new: &str,
+) -> Result<String, AllocError> {
+    let Some((before, after)) = sheet.split_once(old) else {
+        panic!(rt; "the sheet lacks {old:?}");
+    };
+    format!(in alloc; "{before}{new}{after}")
 }

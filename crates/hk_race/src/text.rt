@@ -4,7 +4,8 @@ ghost use Rattle.hk_io.specs.Line.{with_word, with_number, with_end};
 ghost use Rattle.hk_io.specs.declared.line.TheConstants.{LINE_ROOM};
 ghost use Rattle.hk_model.specs.Heap.{Heap};
 ghost use Rattle.hk_sheet.specs.declared.sheet.TheConstants.{MAX_NAME};
-ghost use Rattle.hk_race.specs.Text.{line, note_line, end_of_task, live_text, told};
+ghost use Rattle.hk_front.specs.Text.{line};
+ghost use Rattle.hk_race.specs.Text.{note_line, end_of_task, live_text, told};
 ghost use Rattle.hk_race.specs.Goes.{course_of};
 
 use crate::note::Note;

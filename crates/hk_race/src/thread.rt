@@ -7,13 +7,13 @@ ghost use Rattle.hk_race.specs.declared.desk.TheConstants.{MOST_CALLS};
 
 use crate::gate::Gate;
 use crate::progress::Progress;
+use crate::room::AtWork;
 use crate::shared::Shared;
 use crate::worker::work;
 use hk_script::Script;
 use hk_table::{Heap, Pass, Steps};
 use std::alloc::{AllocError, Global};
 use std::sync::Wait;
-use std::sync::atomic::{AtomicU64, Ordering};
 use std::sync::ledger::{Blank, Ledger};
 
 /// Does a task's jobs on its pass, and counts itself out.
@@ -22,7 +22,7 @@ pub(crate) fn work_all<L: Ledger, R: Wait, G: Gate>(
     alloc: Global,
     heap: &Heap,
     gate: &G,
-    workers: &AtomicU64,
+    at_work: &AtWork,
     pass: Pass,
     script: &Script,
     jobs: u64,
@@ -50,10 +50,12 @@ pub(crate) fn work_all<L: Ledger, R: Wait, G: Gate>(
         steps,
         rt,
         gate,
+        at_work,
         calls: 0,
+        patient: true,
     };
     let told = work(alloc, &mut shared, script, jobs, cost);
-    workers.fetch_sub(1, Ordering::SeqCst);
+    at_work.worker_ended();
     let Shared { pass, .. } = shared;
     (pass, told)
 }

@@ -1,9 +1,9 @@
-use Rattle.std.proofs.Common.{ℕ, ◌<◌, arith, sym, ◌∙◌, ap, subst, Option, IfSome}
+use Rattle.std.proofs.Common.{ℕ, ◌<◌, ◌≤◌, arith, sym, ◌∙◌, ap, subst, Option, IfSome}
 use Rattle.hk_words.specs.Geometry.{tasks}
 use Rattle.hk_table.specs.Passes.{kept}
 use Rattle.hk_table.specs.Knows.{KeeperView}
-use Rattle.hk_race.specs.Lives.{live_of}
-use Rattle.hk_race.proofs.Living.{live_first, live_after, goes_on_unlive, first_cycle, above_by}
+use Rattle.hk_race.specs.Lives.{live_of, reserved_by}
+use Rattle.hk_race.proofs.Living.{live_first, live_after, goes_on_unlive, first_cycle, above_by, within_by}
 use Rattle.hk_race.proofs.collector.collect_all.Goals as goal
 
 pub loop-init : goal.loop-init
@@ -26,6 +26,11 @@ pub returns-then-is_last-clause-above : goal.returns-then-is_last-clause-above
 returns-then-is_last-clause-above g c =
     subst (λ (o : Option ℕ). IfSome o (λ words. c.args.heap.now.geometry.live < words)) (sym c.live_in.ensures)
     (above_by c.args.heap.now.geometry (kept c.loop.keeper) (kept c.collect-answer.new.keeper) 64 c.collect-answer.ensures.collected.0 c.collect-answer.result c.collect-answer.ensures.collected.1)
+
+pub returns-then-is_last-clause-reserved : goal.returns-then-is_last-clause-reserved
+returns-then-is_last-clause-reserved g c =
+    subst (λ (o : Option ℕ). IfSome o (λ words. words ≤ reserved_by c.args.heap.now.geometry (kept c.collect-answer.new.keeper).log)) (sym c.live_in.ensures)
+    (within_by c.args.heap.now.geometry (kept c.loop.keeper) (kept c.collect-answer.new.keeper) 64 c.collect-answer.ensures.collected.0 c.collect-answer.result c.collect-answer.ensures.collected.1)
 
 pub loop-preserved : goal.loop-preserved
 loop-preserved g c = record {

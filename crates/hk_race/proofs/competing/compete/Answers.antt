@@ -1,10 +1,11 @@
-use Rattle.std.proofs.Common.{◌≡◌, ℕ, ◌<◌, ◌≤◌, length, sym, ◌∙◌, subst, refl, IfOk, slice_index_or}
+use Rattle.std.proofs.Common.{◌≡◌, ℕ, ◌<◌, ◌≤◌, length, sym, ◌∙◌, ap, subst, refl, IfOk, slice_index_or, is_some}
+use Rattle.std.specs.List.{list_any}
 use Rattle.hk_table.specs.Ends.{log_of, run_of}
 use Rattle.hk_table.specs.Passes.{kept}
 use Rattle.hk_race.specs.declared.competing.Job.{Job}
 use Rattle.hk_race.specs.declared.competing.Ended.{Ended}
 use Rattle.hk_race.specs.Jobs.{ComesBack, Agree}
-use Rattle.hk_race.proofs.Coming.{all_of_heap, all_seats, agree, live_last, spot_last, seats_count}
+use Rattle.hk_race.proofs.Coming.{all_of_heap, all_seats, agree, came_to_end, full_of, within_last, live_last, spot_last, seats_count}
 use Rattle.hk_race.proofs.competing.compete.Goals as goal
 
 pub close-closed-requires-clause-passes : goal.close-closed-requires-clause-passes
@@ -39,7 +40,13 @@ returns g c =
           (agree c.args.heap c.args.sheet.now c.in_ok-jobs.jobs.items c.in_ok-ended.ended.items c.in_ok-parts.parts.passes.items c.in_ok-parts.parts.told.items c.in_ok-jobs.ensures.each count back c.in_ok-parts.ensures
           c.args.heap.geometry (kept keeper) c.close-closed.result refl closed));
       live = c.run_all-ended.ensures.live ∙ sym (live_last c.args.heap.geometry (kept keeper).log (log_of c.close-closed.result) closed.keeper_begins closed.keeper_acts);
+      ended = λ seat below. came_to_end c.args.heap c.args.sheet.now c.in_ok-jobs.jobs.items c.in_ok-ended.ended.items c.in_ok-parts.parts.passes.items c.in_ok-parts.parts.told.items c.in_ok-jobs.ensures.each count back c.in_ok-parts.ensures
+          c.args.heap.geometry (kept keeper) c.close-closed.result refl closed seat (subst (λ (n : ℕ). seat < n) (sym c.in_ok-jobs.ensures.count) below);
+      full = c.any_stopped-full.ensures ∙ ap (list_any (λ own. is_some own.full)) c.as_slice-2.ensures.value
+          ∙ full_of c.args.heap c.args.sheet.now c.in_ok-jobs.jobs.items c.in_ok-ended.ended.items c.in_ok-parts.parts.passes.items c.in_ok-parts.parts.told.items c.in_ok-jobs.ensures.each count back c.in_ok-parts.ensures
+          c.args.heap.geometry (kept keeper) c.close-closed.result refl closed seats;
       above = c.run_all-ended.ensures.above;
+      reserved = within_last c.args.heap keeper c.in_ok-parts.parts.passes.items c.close-closed.result c.run_all-ended.result.1.live closed c.run_all-ended.ensures.reserved;
       cycle = λ none. subst (λ spot. 3 ≤ spot.cycle) (sym (spot_last c.args.heap keeper c.in_ok-parts.parts.passes.items c.close-closed.result c.run_all-ended.ensures.keeper closed)) (c.run_all-ended.ensures.cycle none);
     }
 

@@ -1,5 +1,9 @@
-// Refuses the allocation with the number REFUSE, counted from 1, of the program that it is loaded before, and writes to the file
-// COUNTS how many were asked for and how many blocks are still held.
+// Fails calls of the program that it is loaded before, by their numbers, counted from 1:
+//   REFUSE  the allocation that finds no memory
+//   READ    the call to read standard input that fails, WRITE the call to write standard output; both with EIO
+//   SHORT   where it is set, each such call moves one byte at most
+// It writes to the file COUNTS how many allocations were asked for, how many blocks are still held, and how many calls to read and
+// to write there were.
 #define _GNU_SOURCE
 #include <dlfcn.h>
 #include <errno.h>
@@ -9,14 +13,21 @@
 #include <fcntl.h>
 #include <unistd.h>
 #include <sys/mman.h>
+#include <sys/uio.h>
 
 // The counts stand in a file, since the program may end without a last word.
-static struct counts { atomic_long asked, held; } none, *counts = &none;
-static long refused;
+static struct counts { atomic_long asked, held, reads, writes; } none, *counts = &none;
+static long refused, failing_read, failing_write, is_short;
 static void *(*real_malloc)(size_t), *(*real_calloc)(size_t, size_t), *(*real_realloc)(void *, size_t);
 static void *(*real_aligned)(size_t, size_t);
 static int (*real_memalign)(void **, size_t, size_t);
 static void (*real_free)(void *);
+static ssize_t (*real_read)(int, void *, size_t), (*real_write)(int, const void *, size_t);
+
+static long number(const char *name) {
+    const char *at = getenv(name);
+    return at ? atol(at) : 0;
+}
 
 __attribute__((constructor)) static void begin(void) {
     real_malloc = dlsym(RTLD_NEXT, "malloc");
@@ -25,8 +36,12 @@ __attribute__((constructor)) static void begin(void) {
     real_aligned = dlsym(RTLD_NEXT, "aligned_alloc");
     real_memalign = dlsym(RTLD_NEXT, "posix_memalign");
     real_free = dlsym(RTLD_NEXT, "free");
-    const char *at = getenv("REFUSE");
-    refused = at ? atol(at) : 0;
+    real_read = dlsym(RTLD_NEXT, "read");
+    real_write = dlsym(RTLD_NEXT, "write");
+    refused = number("REFUSE");
+    failing_read = number("READ");
+    failing_write = number("WRITE");
+    is_short = getenv("SHORT") != NULL;
     int file = open(getenv("COUNTS"), O_RDWR | O_CREAT | O_TRUNC, 0600);
     if (ftruncate(file, sizeof *counts) == 0)
         counts = mmap(NULL, sizeof *counts, PROT_READ | PROT_WRITE, MAP_SHARED, file, 0);
@@ -59,3 +74,26 @@ void *realloc(void *p, size_t n) {
     return q;
 }
 void free(void *p) { if (p) atomic_fetch_sub(&counts->held, 1); real_free(p); }
+
+// The length that a call of so many bytes moves; 0 where it fails.
+static size_t moved(atomic_long *calls, long failing, size_t length) {
+    if (atomic_fetch_add(calls, 1) + 1 == failing) {
+        errno = EIO;
+        return 0;
+    }
+    return is_short && length > 1 ? 1 : length;
+}
+
+ssize_t read(int file, void *bytes, size_t length) {
+    if (file != 0 || length == 0) return real_read(file, bytes, length);
+    size_t some = moved(&counts->reads, failing_read, length);
+    return some ? real_read(file, bytes, some) : -1;
+}
+ssize_t write(int file, const void *bytes, size_t length) {
+    if (file != 1 || length == 0) return real_write(file, bytes, length);
+    size_t some = moved(&counts->writes, failing_write, length);
+    return some ? real_write(file, bytes, some) : -1;
+}
+// The first of the parts, as a short call may.
+ssize_t readv(int file, const struct iovec *parts, int count) { return count ? read(file, parts->iov_base, parts->iov_len) : 0; }
+ssize_t writev(int file, const struct iovec *parts, int count) { return count ? write(file, parts->iov_base, parts->iov_len) : 0; }

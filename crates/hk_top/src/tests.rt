@@ -1,5 +1,6 @@
 //! Runs worked out by hand.
 mod controller;
+mod disturbed;
 mod edits;
 mod forms;
 mod made;

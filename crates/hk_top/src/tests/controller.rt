@@ -6,7 +6,7 @@ use std::process::Abort;
 use std::test::Fail;
 
 /// Loops of 5, 10 and 20 ms at 100 ticks a millisecond, for 400 ms.
-const CONTROLLER: &str = r#"version = 1
+pub(super) const CONTROLLER: &str = r#"version = 1
 ticks = 40000
 heap = { live = 256, alloc = 1024, reserve = 128, rate = 11, board = [5, 4] }
 

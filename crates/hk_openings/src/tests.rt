@@ -1,0 +1,2 @@
+//! Tests over the heaps that the program opens.
+mod held;

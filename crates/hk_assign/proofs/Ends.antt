@@ -1,5 +1,5 @@
 -- From what the parts of the program answer to what its top call answers.
-use Rattle.std.proofs.Common.{◌≡◌, ℕ, ◌⊎◌, inl, inr, true, false, ◌==◌, List, [], ◌∷◌, length, Option, None, Some, Result, Ok, refl, sym, ap, subst, arith, String, Global}
+use Rattle.std.proofs.Common.{◌≡◌, ℕ, ◌⊎◌, inl, inr, true, false, ◌==◌, List, [], ◌∷◌, length, Option, None, Some, Result, Ok, refl, ap, subst, arith, String, Global}
 use Rattle.std.proofs.lemmas.Bool.Decides.{nat_tests}
 use Rattle.std.specs.Prelude.{IfSome, MatchResult, OnOk, OnErr}
 use Rattle.std.specs.Io.KnownBytes.{Appends}

@@ -9,7 +9,7 @@ use Rattle.hk_chart.specs.declared.picture.Part.TheVariants as part
 use Rattle.hk_chart.specs.declared.reader.Stop.{Stop}
 use Rattle.hk_chart.specs.declared.span.Span.{Span}
 use Rattle.hk_chart.specs.declared.window.Window.{Window}
-use Rattle.hk_chart.specs.Drawing.{span_of, picture, texts_of, top_text, middle_text, between_text}
+use Rattle.hk_chart.specs.Drawing.{span_of, picture, texts_of, top_text, owed_start_text, middle_text, between_text}
 use Rattle.hk_chart.specs.Framed.{IsFrame, framed}
 use Rattle.hk_chart.specs.Reading.{HasRead}
 use Rattle.hk_chart.specs.Tool.{window_of, usage_line, stop_line, end_of, text_of, WindowCallsFor, CallsFor, HasText, Calls, Writes, WritesPrefix, Ends}
@@ -17,16 +17,20 @@ use Rattle.hk_chart.specs.Tool.{window_of, usage_line, stop_line, end_of, text_o
 -- the texts around the shapes make the picture
 pub framed_is : (s : Span) (chart : Chart) (frame : Frame) → IsFrame s chart frame → framed frame chart ≡ picture s chart
 framed_is s chart frame is =
-    ap (λ (l : List ℕ). [] ++ l ++ texts_of part.Bars chart ++ texts_of part.Marks chart ++ frame.middle ++ texts_of part.Collector chart ++ frame.between ++ texts_of part.Idle chart ++ frame.bottom) is.top
-    ∙ ap (λ (l : List ℕ). picture_before ++ l ++ texts_of part.Collector chart ++ frame.between ++ texts_of part.Idle chart ++ frame.bottom) is.middle
+    ap (λ (l : List ℕ). [] ++ l ++ texts_of part.Bars chart ++ texts_of part.Marks chart ++ frame.owed ++ texts_of part.Owed chart ++ frame.middle ++ texts_of part.Collector chart ++ frame.between ++ texts_of part.Idle chart ++ frame.bottom) is.top
+    ∙ ap (λ (l : List ℕ). picture_before ++ l ++ texts_of part.Owed chart ++ frame.middle ++ texts_of part.Collector chart ++ frame.between ++ texts_of part.Idle chart ++ frame.bottom) is.owed
+    ∙ ap (λ (l : List ℕ). picture_owed ++ l ++ texts_of part.Collector chart ++ frame.between ++ texts_of part.Idle chart ++ frame.bottom) is.middle
     ∙ ap (λ (l : List ℕ). picture_middle ++ l ++ texts_of part.Idle chart ++ frame.bottom) is.between
     ∙ ap (λ (l : List ℕ). picture_between ++ l) is.bottom
   where
     picture_before : List ℕ
     picture_before = [] ++ top_text s chart ++ texts_of part.Bars chart ++ texts_of part.Marks chart
 
+    picture_owed : List ℕ
+    picture_owed = picture_before ++ owed_start_text s chart ++ texts_of part.Owed chart
+
     picture_middle : List ℕ
-    picture_middle = picture_before ++ middle_text s chart ++ texts_of part.Collector chart
+    picture_middle = picture_owed ++ middle_text s ++ texts_of part.Collector chart
 
     picture_between : List ℕ
     picture_between = picture_middle ++ between_text s ++ texts_of part.Idle chart

@@ -1,6 +1,7 @@
 pub mod Joined
 pub mod Taking
 mod Below
-mod Eight
+mod AllParts
 mod Endings
 mod Followed
+mod WholeRuns

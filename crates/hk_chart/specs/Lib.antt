@@ -4,6 +4,7 @@ pub mod Progress
 pub mod Shapes
 pub mod Chart
 pub mod Reading
+pub mod Runs
 pub mod Drawing
 pub mod Framed
 pub mod Tool

@@ -1,12 +1,12 @@
 //! What stands around the shapes of a picture.
-ghost use Rattle.std.specs.Prelude.{◌≡◌, ◌<◌, ◌≤◌, ◌^◌, ◌++◌, [], codes, IfOk};
+ghost use Rattle.std.specs.Prelude.{◌≡◌, ◌<◌, ◌≤◌, ◌^◌, ◌++◌, [], codes, length, IfOk};
 ghost use Rattle.std.specs.List.{flat_map};
-ghost use Rattle.hk_chart.specs.Drawing.{head_text, style_text, caption_text, legend_text, task_label, axis_texts, grid_texts, with_head, with_names, with_plot, top_text, middle_text, between_text, bottom_text};
+ghost use Rattle.hk_chart.specs.Drawing.{head_text, style_text, caption_text, legend_text, task_label, axis_texts, grid_texts, with_head, with_names, with_plot, top_text, owed_place, ticks_place, owed_start_text, middle_text, between_text, bottom_text};
 
 use crate::chart::Chart;
 use crate::drawing::{
     axis_line, below_line, counts_line, curve_end_line, curve_start_line, frame_line, grid_line,
-    label_line, name_line, plot_line, size_line, upright_line,
+    label_line, name_line, owed_units, plot_line, size_line, upright_line,
 };
 use crate::span::Span;
 use crate::task::Task;
@@ -17,28 +17,28 @@ use std::alloc::{AllocError, Global};
 fn head_text() -> &'static [u8]
     ensures { result.now ≡ head_text }
 {
-    b"<svg xmlns=\"http://www.w3.org/2000/svg\" role=\"img\" aria-labelledby=\"title desc\" font-family=\"monospace\" font-size=\"13\"\n"
+    b"<svg xmlns=\"http://www.w3.org/2000/svg\" role=\"graphics-document document\" aria-labelledby=\"title\" aria-describedby=\"desc\" font-family=\"monospace\" font-size=\"15\"\n"
 }
 
 /// What a picture shows, in words, and its colours.
 fn style_text() -> &'static [u8]
     ensures { result.now ≡ style_text }
 {
-    b"<desc id=\"desc\">One lane for each task, one for the collector and one for nobody, along an axis of ticks. A rectangle is a run of ticks of one lane. Upright strokes are arrivals, ends and deadlines of jobs, outputs and faults, and lost attempts of the collector. Below: how many ticks the collector had so far, and how many nobody had.</desc>\n<style>\npath{fill:none}\n.high{stroke:#0072b2}.low{stroke:#56b4e9}.collector{stroke:#009e73}.lost{stroke:#d55e00}.nobody{stroke:#cccccc}\n.high,.low,.collector,.lost,.nobody{stroke-width:14}\n.arrival,.end,.deadline,.out,.fault,.mark,.grid,.collected,.idle{vector-effect:non-scaling-stroke}\n.arrival{stroke:#000000;stroke-width:1.5;stroke-dasharray:2 2}.end{stroke:#000000;stroke-width:2}\n.deadline{stroke:#d55e00;stroke-width:2;stroke-dasharray:6 3}\n.out{stroke:#e69f00;stroke-width:3}.fault{stroke:#cc79a7;stroke-width:5}.mark{stroke:#d55e00;stroke-width:2}\n.grid{stroke:#dddddd;stroke-width:1}.axis{text-anchor:middle;font-size:11px}\n.collected{stroke:#009e73;stroke-width:2}.idle{stroke:#777777;stroke-width:2;stroke-dasharray:5 3}\n</style>\n<rect width=\"100%\" height=\"100%\" fill=\"#ffffff\"/>\n<text x=\"8\" y=\"30\">\n"
+    b"<desc id=\"desc\">One lane for each task, one for the collector and one for nobody, along an axis of ticks. A rectangle is a run of ticks of one lane. Upright strokes, from the top of a lane to its foot: outputs and faults, arrivals of jobs, their ends, and their deadlines; in the lane of the collector, lost attempts. Below: how many events the collector owed at least, and how many ticks the collector had so far, and how many nobody had.</desc>\n<style>\nsvg svg{overflow:visible}path{fill:none}\n.high{stroke:#0072b2}.low{stroke:#56b4e9}.collector{stroke:#009e73}.lost{stroke:#d55e00}.nobody{stroke:#bbbbbb}\n.high,.low,.collector,.lost,.nobody{stroke-width:10}\n.arrival,.end,.deadline,.out,.fault,.mark,.grid,.owed,.collected,.idle{vector-effect:non-scaling-stroke}\n.arrival,.end{stroke:#000000;stroke-width:1.5}.deadline{stroke:#d55e00;stroke-width:2}\n.out{stroke:#e69f00;stroke-width:3}.fault{stroke:#cc79a7;stroke-width:5}.mark{stroke:#d55e00;stroke-width:2}\n.grid{stroke:#dddddd;stroke-width:1}.axis{text-anchor:middle;font-size:13px}\n.owed{fill:#009e73;stroke:#009e73;stroke-width:1}.collected{stroke:#009e73;stroke-width:2}.idle{stroke:#777777;stroke-width:2;stroke-dasharray:5 3}\n</style>\n<clipPath id=\"plot\"><rect x=\"158\" y=\"0\" width=\"1004\" height=\"1200\"/></clipPath>\n<rect width=\"100%\" height=\"100%\" fill=\"#ffffff\"/>\n<text x=\"8\" y=\"32\">\n"
 }
 
-/// The names of the curves, and a frame.
+/// The names of the curves, and a frame round each plot.
 fn caption_text() -> &'static [u8]
     ensures { result.now ≡ caption_text }
 {
-    b"<text x=\"8\" y=\"20\">ticks so far of</text><text x=\"8\" y=\"40\" fill=\"#00664b\">collector, solid</text><text x=\"8\" y=\"60\" fill=\"#555555\">nobody, dashed</text>\n<path d=\"M160 0H1160V100H160z\" stroke=\"#dddddd\"/>\n"
+    b"<text x=\"8\" y=\"20\">owed at least,</text><text x=\"8\" y=\"42\">of the bound</text>\n<text x=\"8\" y=\"100\">ticks so far</text><text x=\"8\" y=\"124\" fill=\"#00664b\">collector: solid</text><text x=\"8\" y=\"148\" fill=\"#555555\">nobody: dashed</text>\n<path d=\"M160 0H1160V60H160z M160 80H1160V180H160z\" stroke=\"#dddddd\"/>\n"
 }
 
 /// What the marks are.
 fn legend_text() -> &'static [u8]
     ensures { result.now ≡ legend_text }
 {
-    b"<text x=\"160\" y=\"142\">arrival: dotted; end: solid; deadline: long dashes; output: short, orange; fault: short, purple; lost attempt: red</text>\n</g></svg>\n"
+    b"<path class=\"high\" d=\"M160 223h30\"/><text x=\"196\" y=\"228\">high task</text><path class=\"low\" d=\"M320 223h30\"/><text x=\"356\" y=\"228\">low task</text><path class=\"collector\" d=\"M480 223h30\"/><text x=\"516\" y=\"228\">collector</text><path class=\"lost\" d=\"M640 223h30\"/><text x=\"676\" y=\"228\">lost attempt</text><path class=\"nobody\" d=\"M820 223h30\"/><text x=\"856\" y=\"228\">nobody</text>\n<path class=\"out\" d=\"M175 240v6\"/><text x=\"196\" y=\"254\">output</text><path class=\"fault\" d=\"M335 240v6\"/><text x=\"356\" y=\"254\">fault</text><path class=\"arrival\" d=\"M495 244v6\"/><text x=\"516\" y=\"254\">arrival</text><path class=\"end\" d=\"M655 250v6\"/><text x=\"676\" y=\"254\">end</text><path class=\"deadline\" d=\"M835 252v6\"/><text x=\"856\" y=\"254\">deadline</text>\n</g></svg>\n"
 }
 
 /// Adds the names of the lanes of tasks.
@@ -104,6 +104,7 @@ fn add_plot(text: &mut Text, span: Span, chart: &Chart) -> Result<(), AllocError
     ensures { IfOk result (λ _. text.new ≡ with_plot text.old span chart.now) }
 {
     add_axis(text, span)?;
+    text.add(b"<g clip-path=\"url(#plot)\">\n")?;
     text.add(plot_line(span).bytes())?;
     add_grid(text, span, chart.progress.tasks)
 }
@@ -122,20 +123,52 @@ pub fn top(alloc: Global, span: Span, chart: &Chart) -> Result<Text, AllocError>
     Ok(text)
 }
 
-/// What stands between the shapes and the first curve.
-pub fn middle(alloc: Global, span: Span, chart: &Chart) -> Result<Text, AllocError>
-    ensures { IfOk result (λ text. text ≡ middle_text span chart.now) }
+/// Where the plot of what is owed stands.
+fn owed_place() -> &'static [u8]
+    ensures value { result.now ≡ owed_place }
+    ensures short { length result.now ≤ 88 }
 {
+    b"<svg x=\"160\" y=\"0\" width=\"1000\" height=\"60\" preserveAspectRatio=\"none\" viewBox=\""
+}
+
+/// Where the plot of the ticks so far stands.
+fn ticks_place() -> &'static [u8]
+    ensures value { result.now ≡ ticks_place }
+    ensures short { length result.now ≤ 88 }
+{
+    b"<svg x=\"160\" y=\"80\" width=\"1000\" height=\"100\" preserveAspectRatio=\"none\" viewBox=\""
+}
+
+/// What stands between the shapes and the curve of what is owed.
+pub fn owed_start(alloc: Global, span: Span, chart: &Chart) -> Result<Text, AllocError>
+    ensures { IfOk result (λ text. text ≡ owed_start_text span chart.now) }
+{
+    let units = owed_units(&chart.progress);
     let mut text = Text::new(alloc);
     text.add(below_line(chart.progress.tasks).bytes())?;
     text.add(caption_text())?;
-    text.add(frame_line(span).bytes())?;
-    text.add(upright_line(span).bytes())?;
+    text.add(frame_line(owed_place(), span, units).bytes())?;
+    text.add(upright_line(units).bytes())?;
+    text.add(curve_start_line(b"<path class=\"owed\" d=\"M", span.first).bytes())?;
+    Ok(text)
+}
+
+/// What stands between that curve and the collector's.
+pub fn middle(alloc: Global, span: Span) -> Result<Text, AllocError>
+    requires first { span.first < 2 ^ 32 }
+    requires ticks { span.ticks ≤ 2 ^ 32 }
+    ensures { IfOk result (λ text. text ≡ middle_text span) }
+{
+    let mut text = Text::new(alloc);
+    text.add(curve_end_line(span).bytes())?;
+    text.add(b"</g></svg>\n")?;
+    text.add(frame_line(ticks_place(), span, span.ticks).bytes())?;
+    text.add(upright_line(span.ticks).bytes())?;
     text.add(curve_start_line(b"<path class=\"collected\" d=\"M", span.first).bytes())?;
     Ok(text)
 }
 
-/// What stands between the curves.
+/// What stands between that curve and the one of nobody.
 pub fn between(alloc: Global, span: Span) -> Result<Text, AllocError>
     requires first { span.first < 2 ^ 32 }
     requires ticks { span.ticks ≤ 2 ^ 32 }

@@ -1,9 +1,9 @@
 //! The lines of a picture.
-ghost use Rattle.std.specs.Prelude.{◌≡◌, ◌+◌, ◌*◌, ◌/◌, ◌<◌, ◌≤◌, ◌^◌, [], take, length};
+ghost use Rattle.std.specs.Prelude.{◌≡◌, ◌+◌, ◌*◌, ◌/◌, ◌<◌, ◌≤◌, ◌^◌, [], take, length, max};
 ghost use Rattle.hk_io.specs.Line.{with_word, with_number, with_end};
 ghost use Rattle.hk_io.specs.Limits.{longest_line};
 ghost use Rattle.hk_chart.specs.Shapes.{task_at};
-ghost use Rattle.hk_chart.specs.Drawing.{row_of, height_of, name_at, bar_start, bar_text, mark_text, told_text, fault_text, end_text, cause_word, rectangle_text, stroke_text, title_text, size_text, name_text, label_text, tenth_of, axis_text, grid_text, plot_text, below_text, frame_text, upright_text, curve_start, rise_text, curve_end, is_collector, is_nobody, collector_rise, idle_rise, counts_text};
+ghost use Rattle.hk_chart.specs.Drawing.{row_of, height_of, name_at, bar_start, bar_text, mark_text, told_text, fault_text, end_text, cause_word, rectangle_text, stroke_text, title_text, size_text, name_text, label_text, tenth_of, axis_text, grid_text, plot_text, below_text, frame_text, upright_text, curve_start, rise_text, curve_end, owed_units, owed_text, pays, owed_fall, is_collector, is_nobody, collector_rise, idle_rise, counts_text};
 
 use crate::progress::Progress;
 use crate::shape::{Bar, Lane, Shape};
@@ -104,7 +104,7 @@ fn bar_line(progress: &Progress, bar: Bar) -> Line
     let mut line = Line::new();
     add_word(&mut line, bar_start(progress.high, bar.lane));
     add_number(&mut line, u64::from(bar.first));
-    add_number(&mut line, row_of(progress.tasks, bar.lane) + 19);
+    add_number(&mut line, row_of(progress.tasks, bar.lane) + 17);
     add_word(&mut line, b"H");
     add_number(&mut line, u64::from(bar.last) + 1);
     add_word(&mut line, b"\"/>");
@@ -213,38 +213,38 @@ pub fn stroke_line(progress: &Progress, shape: Shape) -> Line
         Shape::Lost { tick, .. } => mark_line(
             b"<path class=\"mark\" d=\"M",
             u64::from(tick),
-            30 * u64::from(progress.tasks) + 11,
+            30 * u64::from(progress.tasks) + 9,
             b"v 16\"><title>",
         ),
         Shape::Out { tick, lane, .. } => mark_line(
             b"<path class=\"out\" d=\"M",
             u64::from(tick),
-            30 * u64::from(lane) + 1,
-            b"v 7\"><title>",
+            30 * u64::from(lane),
+            b"v 6\"><title>",
         ),
         Shape::Fault { tick, lane, .. } => mark_line(
             b"<path class=\"fault\" d=\"M",
             u64::from(tick),
-            30 * u64::from(lane) + 1,
-            b"v 7\"><title>",
+            30 * u64::from(lane),
+            b"v 6\"><title>",
         ),
         Shape::Arrival { moment, lane, .. } => mark_line(
             b"<path class=\"arrival\" d=\"M",
             moment,
-            30 * u64::from(lane) + 9,
-            b"v 12\"><title>",
+            30 * u64::from(lane) + 6,
+            b"v 6\"><title>",
         ),
         Shape::Deadline { moment, lane, .. } => mark_line(
             b"<path class=\"deadline\" d=\"M",
             moment,
-            30 * u64::from(lane) + 22,
-            b"v 8\"><title>",
+            30 * u64::from(lane) + 26,
+            b"v 4\"><title>",
         ),
         Shape::End { tick, lane, .. } => mark_line(
             b"<path class=\"end\" d=\"M",
             u64::from(tick) + 1,
-            30 * u64::from(lane) + 9,
-            b"v 21\"><title>",
+            30 * u64::from(lane) + 22,
+            b"v 4\"><title>",
         ),
     }
 }
@@ -300,7 +300,7 @@ pub fn size_line(tasks: u8) -> Line
 {
     let mut line = Line::new();
     add_word(&mut line, b"viewBox=\"0 0 1200");
-    add_number(&mut line, height_of(tasks) + 230);
+    add_number(&mut line, height_of(tasks) + 330);
     add_word(&mut line, b"\">");
     end(&mut line);
     line
@@ -404,33 +404,31 @@ pub fn plot_line(span: Span) -> Line
     line
 }
 
-/// Where the plot below stands.
+/// Where the plots below stand.
 #[tactic(auto, unfolding(crate::specs::Drawing::below_text))]
 pub fn below_line(tasks: u8) -> Line
     ensures { result ≡ below_text tasks }
 {
     let mut line = Line::new();
-    add_word(&mut line, b"</svg><g transform=\"translate(0");
+    add_word(&mut line, b"</svg></g><g transform=\"translate(0");
     add_number(&mut line, height_of(tasks) + 60);
     add_word(&mut line, b")\">");
     end(&mut line);
     line
 }
 
-/// The plot below.
+/// A plot below, which begins so and has so many units up.
 #[tactic(auto, unfolding(crate::specs::Drawing::frame_text))]
-pub fn frame_line(span: Span) -> Line
-    ensures { result ≡ frame_text span }
+pub fn frame_line(start: &[u8], span: Span, units: u64) -> Line
+    requires { length start.now ≤ 88 }
+    ensures { result ≡ frame_text start.now span units }
 {
     let mut line = Line::new();
-    add_word(
-        &mut line,
-        b"<svg x=\"160\" y=\"0\" width=\"1000\" height=\"100\" preserveAspectRatio=\"none\" viewBox=\"",
-    );
+    add_word(&mut line, start);
     add_number(&mut line, span.first);
     add_word(&mut line, b"0");
     add_number(&mut line, span.ticks);
-    add_number(&mut line, span.ticks);
+    add_number(&mut line, units);
     add_word(&mut line, b"\">");
     end(&mut line);
     line
@@ -438,15 +436,22 @@ pub fn frame_line(span: Span) -> Line
 
 /// Its units go up.
 #[tactic(auto, unfolding(crate::specs::Drawing::upright_text))]
-pub fn upright_line(span: Span) -> Line
-    ensures { result ≡ upright_text span }
+pub fn upright_line(units: u64) -> Line
+    ensures { result ≡ upright_text units }
 {
     let mut line = Line::new();
     add_word(&mut line, b"<g transform=\"matrix(1 0 0 -1 0");
-    add_number(&mut line, span.ticks);
+    add_number(&mut line, units);
     add_word(&mut line, b")\">");
     end(&mut line);
     line
+}
+
+/// The events up to the top of the plot of what is owed.
+pub fn owed_units(progress: &Progress) -> u64
+    ensures { result ≡ owed_units progress.now }
+{
+    progress.debt.max(1)
 }
 
 /// How a curve begins.
@@ -494,6 +499,35 @@ pub fn curve_end_line(span: Span) -> Line
     line
 }
 
+/// The part of the curve of what is owed at a rectangle of the collector.
+#[tactic(auto, unfolding(crate::specs::Drawing::owed_text))]
+fn owed_line(bar: Bar) -> Line
+    ensures { result ≡ owed_text bar }
+{
+    let behind = u64::from(bar.last) + 1;
+    let ticks = behind.saturating_sub(u64::from(bar.first));
+    let mut line = Line::new();
+    add_word(&mut line, b"H");
+    add_number(&mut line, u64::from(bar.first));
+    add_word(&mut line, b"v");
+    add_number(&mut line, ticks);
+    add_word(&mut line, b"L");
+    add_number(&mut line, behind);
+    add_word(&mut line, b"0");
+    end(&mut line);
+    line
+}
+
+/// Whether each tick of a lane pays for an event that was owed, and makes none owed again.
+fn pays(lane: Lane) -> bool
+    ensures { result ≡ pays lane }
+{
+    match lane {
+        Lane::Collector => true,
+        Lane::Task(_) | Lane::Lost | Lane::Nobody => false,
+    }
+}
+
 /// Whether a lane is the collector's.
 fn is_collector(lane: Lane) -> bool
     ensures { result ≡ is_collector lane }
@@ -511,6 +545,23 @@ fn is_nobody(lane: Lane) -> bool
     match lane {
         Lane::Nobody => true,
         Lane::Task(_) | Lane::Collector | Lane::Lost => false,
+    }
+}
+
+/// The part of the curve of what is owed at a shape.
+#[tactic(auto, unfolding(crate::specs::Drawing::owed_fall))]
+pub fn owed_fall_line(shape: Shape) -> Line
+    ensures { result ≡ owed_fall shape }
+{
+    match shape {
+        Shape::Bar(bar) => {
+            if pays(bar.lane) {
+                owed_line(bar)
+            } else {
+                Line::new()
+            }
+        }
+        _ => Line::new(),
     }
 }
 
@@ -556,7 +607,7 @@ pub fn counts_line(progress: &Progress) -> Line
     let mut line = Line::new();
     add_word(
         &mut line,
-        b"</g></svg><text x=\"160\" y=\"120\">run: debt at most",
+        b"</g></svg><text x=\"160\" y=\"200\">run: debt at most",
     );
     add_number(&mut line, progress.debt);
     add_word(&mut line, b"events, collector");

@@ -6,6 +6,7 @@ mod caption;
 mod chart;
 mod charted;
 mod drawing;
+mod laws;
 mod lex;
 mod picture;
 mod progress;

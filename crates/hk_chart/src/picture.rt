@@ -7,10 +7,10 @@ ghost use Rattle.hk_io.specs.Faults.{HasCause};
 ghost use Rattle.hk_chart.specs.Framed.{framed, IsFrame};
 ghost use Rattle.hk_chart.specs.Drawing.{whole_mark, part_text, texts_of};
 
-use crate::caption::{between, bottom, middle, top};
+use crate::caption::{between, bottom, middle, owed_start, top};
 use crate::chart::Chart;
 use crate::drawing::{
-    collector_rise_line, idle_rise_line, rectangle_line, stroke_line, title_line,
+    collector_rise_line, idle_rise_line, owed_fall_line, rectangle_line, stroke_line, title_line,
 };
 use crate::progress::Progress;
 use crate::shape::Shape;
@@ -27,6 +27,8 @@ pub enum Part {
     Bars,
     /// The marks.
     Marks,
+    /// The curve of what the collector owed at least.
+    Owed,
     /// The curve of the collector's ticks.
     Collector,
     /// The curve of nobody's ticks.
@@ -37,6 +39,7 @@ pub enum Part {
 #[derive(Drop)]
 pub struct Frame {
     pub top: Text,
+    pub owed: Text,
     pub middle: Text,
     pub between: Text,
     pub bottom: Text,
@@ -51,7 +54,8 @@ pub fn frame_of(alloc: Global, span: Span, chart: &Chart) -> Result<Frame, Alloc
 {
     Ok(Frame {
         top: top(alloc, span, chart)?,
-        middle: middle(alloc, span, chart)?,
+        owed: owed_start(alloc, span, chart)?,
+        middle: middle(alloc, span)?,
         between: between(alloc, span)?,
         bottom: bottom(alloc, span, chart)?,
     })
@@ -101,6 +105,7 @@ fn put_shape<K: Sink>(
     match part {
         Part::Bars => gather.push(sink, rectangle_line(progress, shape).bytes()),
         Part::Marks => put_mark(progress, tasks, shape, gather, sink),
+        Part::Owed => gather.push(sink, owed_fall_line(shape).bytes()),
         Part::Collector => gather.push(sink, collector_rise_line(shape).bytes()),
         Part::Idle => gather.push(sink, idle_rise_line(shape).bytes()),
     }
@@ -157,6 +162,8 @@ pub fn put_picture<K: Sink>(frame: &Frame, chart: &Chart, sink: &mut K) -> Resul
     put_text(&frame.top, &mut gather, sink)?;
     put_part(Part::Bars, chart, &mut gather, sink)?;
     put_part(Part::Marks, chart, &mut gather, sink)?;
+    put_text(&frame.owed, &mut gather, sink)?;
+    put_part(Part::Owed, chart, &mut gather, sink)?;
     put_text(&frame.middle, &mut gather, sink)?;
     put_part(Part::Collector, chart, &mut gather, sink)?;
     put_text(&frame.between, &mut gather, sink)?;

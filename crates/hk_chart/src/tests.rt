@@ -1,4 +1,5 @@
 //! Traces worked out by hand.
+mod limits;
 mod refusals;
 mod streams;
 
@@ -136,17 +137,17 @@ fn expect_lines(
 
 /// How the lines of shapes and of what they say begin.
 const SHAPES: &[&str] = &[
-    "<path class=\"high",
-    "<path class=\"low",
-    "<path class=\"collector",
-    "<path class=\"lost",
-    "<path class=\"nobody",
-    "<path class=\"out",
-    "<path class=\"fault",
-    "<path class=\"arrival",
-    "<path class=\"deadline",
-    "<path class=\"end",
-    "<path class=\"mark",
+    "<path class=\"high\" d=\"M ",
+    "<path class=\"low\" d=\"M ",
+    "<path class=\"collector\" d=\"M ",
+    "<path class=\"lost\" d=\"M ",
+    "<path class=\"nobody\" d=\"M ",
+    "<path class=\"out\" d=\"M ",
+    "<path class=\"fault\" d=\"M ",
+    "<path class=\"arrival\" d=\"M ",
+    "<path class=\"deadline\" d=\"M ",
+    "<path class=\"end\" d=\"M ",
+    "<path class=\"mark\" d=\"M ",
     "out ",
     "fault ",
     "arrival ",
@@ -157,8 +158,9 @@ const SHAPES: &[&str] = &[
 
 #[test]
 fn the_shapes_of_the_smallest_run(rt: HostRuntime) -> Result<(), Fail> {
-    // The lane of `a` begins at 0, the collector's at 30 and nobody's at 60; a rectangle's middle is 19 below. The job arrives
-    // at 0, has to end by 10, and ends at 2.
+    // The lane of `a` begins at 0, the collector's at 30 and nobody's at 60; a rectangle's middle is 17 below. Outputs stand 0 to 6
+    // below, arrivals 6 to 12, ends 22 to 26, deadlines 26 to 30. The job
+    // arrives at 0, has to end by 10, and ends at 2.
     expect_lines(
         &rt,
         rt.alloc(),
@@ -166,15 +168,15 @@ fn the_shapes_of_the_smallest_run(rt: HostRuntime) -> Result<(), Fail> {
         SMALLEST,
         SHAPES,
         &[
-            "<path class=\"high\" d=\"M 0 19 H 2 \"/>",
-            "<path class=\"nobody\" d=\"M 2 79 H 10 \"/>",
-            "<path class=\"out\" d=\"M 1 1 v 7\"><title>",
+            "<path class=\"high\" d=\"M 0 17 H 2 \"/>",
+            "<path class=\"nobody\" d=\"M 2 77 H 10 \"/>",
+            "<path class=\"out\" d=\"M 1 0 v 6\"><title>",
             "out 1 a 7 </title></path>",
-            "<path class=\"arrival\" d=\"M 0 9 v 12\"><title>",
+            "<path class=\"arrival\" d=\"M 0 6 v 6\"><title>",
             "arrival 0 a 0 </title></path>",
-            "<path class=\"deadline\" d=\"M 10 22 v 8\"><title>",
+            "<path class=\"deadline\" d=\"M 10 26 v 4\"><title>",
             "deadline 10 a 0 </title></path>",
-            "<path class=\"end\" d=\"M 2 9 v 21\"><title>",
+            "<path class=\"end\" d=\"M 2 22 v 4\"><title>",
             "ended 1 a 0 2 </title></path>",
         ],
     )
@@ -190,21 +192,21 @@ fn the_shapes_of_a_busy_run(rt: HostRuntime) -> Result<(), Fail> {
         BUSY,
         SHAPES,
         &[
-            "<path class=\"high\" d=\"M 0 19 H 1 \"/>",
-            "<path class=\"collector\" d=\"M 1 79 H 2 \"/>",
-            "<path class=\"lost\" d=\"M 2 79 H 3 \"/>",
-            "<path class=\"low\" d=\"M 3 49 H 4 \"/>",
-            "<path class=\"collector\" d=\"M 4 79 H 5 \"/>",
-            "<path class=\"nobody\" d=\"M 5 109 H 6 \"/>",
-            "<path class=\"fault\" d=\"M 0 1 v 7\"><title>",
+            "<path class=\"high\" d=\"M 0 17 H 1 \"/>",
+            "<path class=\"collector\" d=\"M 1 77 H 2 \"/>",
+            "<path class=\"lost\" d=\"M 2 77 H 3 \"/>",
+            "<path class=\"low\" d=\"M 3 47 H 4 \"/>",
+            "<path class=\"collector\" d=\"M 4 77 H 5 \"/>",
+            "<path class=\"nobody\" d=\"M 5 107 H 6 \"/>",
+            "<path class=\"fault\" d=\"M 0 0 v 6\"><title>",
             "fault 0 fast 0 1 nil </title></path>",
-            "<path class=\"arrival\" d=\"M 0 9 v 12\"><title>",
+            "<path class=\"arrival\" d=\"M 0 6 v 6\"><title>",
             "arrival 0 fast 0 </title></path>",
-            "<path class=\"deadline\" d=\"M 3 22 v 8\"><title>",
+            "<path class=\"deadline\" d=\"M 3 26 v 4\"><title>",
             "deadline 3 fast 0 </title></path>",
-            "<path class=\"end\" d=\"M 1 9 v 21\"><title>",
+            "<path class=\"end\" d=\"M 1 22 v 4\"><title>",
             "ended 0 fast 0 1 </title></path>",
-            "<path class=\"mark\" d=\"M 2 71 v 16\"><title>",
+            "<path class=\"mark\" d=\"M 2 69 v 16\"><title>",
             "lost 2 events 12 </title></path>",
         ],
     )
@@ -220,11 +222,11 @@ fn a_window_cuts(rt: HostRuntime) -> Result<(), Fail> {
         SMALLEST,
         SHAPES,
         &[
-            "<path class=\"high\" d=\"M 1 19 H 2 \"/>",
-            "<path class=\"nobody\" d=\"M 2 79 H 4 \"/>",
-            "<path class=\"out\" d=\"M 1 1 v 7\"><title>",
+            "<path class=\"high\" d=\"M 1 17 H 2 \"/>",
+            "<path class=\"nobody\" d=\"M 2 77 H 4 \"/>",
+            "<path class=\"out\" d=\"M 1 0 v 6\"><title>",
             "out 1 a 7 </title></path>",
-            "<path class=\"end\" d=\"M 2 9 v 21\"><title>",
+            "<path class=\"end\" d=\"M 2 22 v 4\"><title>",
             "ended 1 a 0 2 </title></path>",
         ],
     )
@@ -264,14 +266,23 @@ fn the_axis_and_the_curves(rt: HostRuntime) -> Result<(), Fail> {
             "<path class=\"grid\" d=\"M 6 0 V 120 \"/>",
         ],
     )?;
-    // The collector has the ticks 1, 2 and 4, the second as a rectangle of its own, and nobody has 5.
+    // The collector has the ticks 1, 2 and 4, the second as a rectangle of its own, with which nothing is paid; nobody has 5.
     expect_lines(
         &rt,
         rt.alloc(),
         &[],
         BUSY,
-        &["<path class=\"collected", "<path class=\"idle", "H "],
         &[
+            "<path class=\"owed\" d=\"M 0",
+            "<path class=\"collected\" d=\"M 0",
+            "<path class=\"idle\" d=\"M 0",
+            "H ",
+        ],
+        &[
+            "<path class=\"owed\" d=\"M 0 0",
+            "H 1 v 1 L 2 0",
+            "H 4 v 1 L 5 0",
+            "H 6 \"/>",
             "<path class=\"collected\" d=\"M 0 0",
             "H 1 l 1 1",
             "H 2 l 1 1",
@@ -280,6 +291,44 @@ fn the_axis_and_the_curves(rt: HostRuntime) -> Result<(), Fail> {
             "<path class=\"idle\" d=\"M 0 0",
             "H 5 l 1 1",
             "H 6 \"/>",
+        ],
+    )
+}
+
+#[test]
+fn what_is_owed_at_least(rt: HostRuntime) -> Result<(), Fail> {
+    // The collector has three ticks in a row, so three events were owed before them; the top is the bound, 7. The ticks so far
+    // are five at most.
+    expect_lines(
+        &rt,
+        rt.alloc(),
+        &[],
+        "heap work 9 attempt 3 busy 5 debt 7
+low log
+t 0 low log
+t 1 gc flip
+t 2 gc step
+t 3 gc step
+t 4 idle
+done log jobs 0 latest 0
+cycles 1 collector 3 idle 1
+end 5
+",
+        &[
+            "<svg x=",
+            "<g transform=\"matrix",
+            "H 1 ",
+            "</g></svg><text",
+        ],
+        &[
+            "<svg x=\"160\" y=\"40\" width=\"1000\" height=\"1000\" preserveAspectRatio=\"none\" viewBox=\" 0 0 5 1000\">",
+            "<svg x=\"160\" y=\"0\" width=\"1000\" height=\"60\" preserveAspectRatio=\"none\" viewBox=\" 0 0 5 7 \">",
+            "<g transform=\"matrix(1 0 0 -1 0 7 )\">",
+            "H 1 v 3 L 4 0",
+            "<svg x=\"160\" y=\"80\" width=\"1000\" height=\"100\" preserveAspectRatio=\"none\" viewBox=\" 0 0 5 5 \">",
+            "<g transform=\"matrix(1 0 0 -1 0 5 )\">",
+            "H 1 l 3 3",
+            "</g></svg><text x=\"160\" y=\"200\">run: debt at most 7 events, collector 3 ticks, nobody 1 ticks</text>",
         ],
     )
 }

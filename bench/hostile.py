@@ -25,6 +25,7 @@ from hostile_inputs import (
     in_room,
     low,
     padded,
+    slow_tasks,
     spoiling,
 )
 
@@ -527,31 +528,57 @@ def limited():
     resource.setrlimit(resource.RLIMIT_AS, (1 << 26, 1 << 26))
 
 
+def hurried():
+    """For a child: one second of the processor."""
+    resource.setrlimit(resource.RLIMIT_CPU, (1, 1))
+
+
+def measured(form, turns):
+    """How a form ended and what it wrote, the least processor time of so many turns with its wall time, and the most memory."""
+    figures = f"{WORK}/figures"
+    words = ["/usr/bin/time", "-o", figures, "-f", "%U %S %M", path_of(form.program), *form.words]
+    times, most = [], 0
+    for _ in range(turns):
+        began = time.perf_counter()
+        done = subprocess.run(words, input=form.text, stdout=subprocess.PIPE)
+        wall = time.perf_counter() - began
+        with open(figures) as file:
+            user, system, kilobytes = file.read().split()[-3:]
+        times.append((float(user) + float(system), wall))
+        most = max(most, int(kilobytes))
+    return (done.returncode, done.stdout), *min(times), most
+
+
 def sizes():
     """The largest and slowest inputs that are known: the least of three times of the processor, the most memory, and the end
     with no more than 64 MB of addresses."""
-    form = Form("henri", ["check"], "", 0)
-    measured = f"{WORK}/measured"
-    words = ["/usr/bin/time", "-o", measured, "-f", "%U %S %M", path_of("henri"), "check"]
     for name, text, line, is_aimed in families():
-        text = text.encode()
-        times, most = [], 0
-        for _ in range(3):
-            began = time.perf_counter()
-            done = subprocess.run(words, input=text, stdout=subprocess.PIPE)
-            wall = time.perf_counter() - began
-            with open(measured) as file:
-                user, system, kilobytes = file.read().split()[-3:]
-            times.append((float(user) + float(system), wall))
-            most = max(most, int(kilobytes))
-        spent, wall = min(times)
-        told = done.stdout.decode().split("\n")[0]
-        is_right = done.returncode in (5, 6) and told == line if line else done.returncode == 0
-        look(is_right and len(text) <= LONGEST + 1, f"size: {name}: {done.returncode} {told[:100]}, {len(text)} bytes")
+        form = Form("henri", ["check"], text, 0)
+        (status, wrote), spent, wall, most = measured(form, 3)
+        told = wrote.decode().split("\n")[0]
+        is_right = status in (5, 6) and told == line if line else status == 0
+        look(is_right and len(form.text) <= LONGEST + 1, f"size: {name}: {status} {told[:100]}, {len(form.text)} bytes")
         look(not is_aimed or (spent < 0.3 and most < 65536), f"size: {name}: {spent} s, {most} kB")
-        few = subprocess.run([path_of("henri"), "check"], input=text, stdout=subprocess.PIPE, preexec_fn=limited)
-        look((few.returncode, few.stdout) in ((1, b""), (done.returncode, done.stdout)), f"size: {name} with 64 MB: {few.returncode}")
-        print(f"size: {name}: {len(text)} bytes, {spent:.2f} s of the processor, {wall:.2f} s, {most / 1024:.0f} MB, {told[:40]}; with 64 MB of addresses: {few.returncode}")
+        few = form.run(preexec_fn=limited)
+        look(few in ((1, b""), (status, wrote)), f"size: {name} with 64 MB: {few[0]}, {len(few[1])} bytes")
+        print(
+            f"size: {name}: {len(form.text)} bytes, {spent:.2f} s of the processor, {wall:.2f} s, {most / 1024:.0f} MB, "
+            f"{told[:40]}; with 64 MB of addresses: {few[0]}"
+        )
+
+
+def slow_analyses():
+    """The slowest analysis that is known, in each program that makes one, and with a second of the processor."""
+    for program, words in (("henri", ["check"]), ("hk_assign", []), ("hk_ceiling", []), ("hk_edf", [])):
+        if not is_built(program):
+            continue
+        form = Form(program, words, slow_tasks(), 0)
+        whole, spent, wall, most = measured(form, 1)
+        look(whole[0] == 0, f"time: {form.name}: {whole[0]} {whole[1][:80]}")
+        got = form.run(preexec_fn=hurried)
+        look(got == whole or (got[0] < 0 and got[1] == b""), f"time: {form.name} with a second: {got[0]}, {len(got[1])} bytes")
+        end = "done" if got == whole else f"ended by the signal {-got[0]}, and nothing written"
+        print(f"time: {form.name}: 31 tasks that leave little free: {spent:.2f} s of the processor, {wall:.2f} s, {most / 1024:.0f} MB; with one second: {end}")
 
 
 def main():
@@ -576,6 +603,7 @@ def main():
     numbers_of_words()
     if is_built("henri"):
         sizes()
+    slow_analyses()
     print(f"{cases} cases, {wrong} not right")
     return wrong != 0
 

@@ -94,6 +94,8 @@ ssize_t write(int file, const void *bytes, size_t length) {
     size_t some = moved(&counts->writes, failing_write, length);
     return some ? real_write(file, bytes, some) : -1;
 }
+ssize_t __read(int file, void *bytes, size_t length) { return read(file, bytes, length); }
+ssize_t __write(int file, const void *bytes, size_t length) { return write(file, bytes, length); }
 // The first of the parts, as a short call may.
 ssize_t readv(int file, const struct iovec *parts, int count) { return count ? read(file, parts->iov_base, parts->iov_len) : 0; }
 ssize_t writev(int file, const struct iovec *parts, int count) { return count ? write(file, parts->iov_base, parts->iov_len) : 0; }

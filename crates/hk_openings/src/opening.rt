@@ -126,9 +126,9 @@ fn plan_line(alloc: Global) -> Result<String, Unopened> {
         ticks: 2,
     };
     let mut plan = Plan::open(alloc, &[first, second])?;
-    for _ in 0..3 {
-        plan.tick();
-    }
+    plan.tick();
+    plan.tick();
+    plan.tick();
     match (plan.finish_of(0), plan.finish_of(1)) {
         (Some(one), Some(other)) => Ok(format!(in alloc; "plan {one} {other}\n")?),
         _ => Ok(format!(in alloc; "plan none\n")?),

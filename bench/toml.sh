@@ -1,0 +1,43 @@
+#!/usr/bin/env bash
+# What the TOML reader alone takes for the large inputs of `bench/hostile.sh`: it proves and builds a program of its own, which reads
+# standard input and its TOML and nothing else, in a folder of its own over a copy of hk_io. Prints for each input the processor time
+# and the most memory; the least time of three turns.
+set -eu
+cd "$(dirname "$0")/.."
+work=$(mktemp -d)
+trap 'rm -rf "$work"' EXIT
+mkdir -p "$work/crates/only_toml/src" "$work/crates/hk_io"
+cp -r crates/hk_io/src crates/hk_io/specs crates/hk_io/proofs "$work/crates/hk_io/"
+printf 'hk_io:\nonly_toml: hk_io toml\n' > "$work/crates.txt"
+cat > "$work/crates/only_toml/src/main.rt" <<'PROGRAM'
+#![tactic(auto)]
+
+use hk_io::{StdSource, take_all};
+use std::process::ExitCode;
+
+fn main(rt: HostRuntime) -> ExitCode {
+    let mut source = StdSource::new(rt.reader());
+    match take_all(rt.alloc(), &mut source) {
+        Ok(bytes) => match toml::table_from_slice(rt.alloc(), bytes.as_slice()) {
+            Ok(_) => ExitCode::from(0),
+            Err(_) => ExitCode::from(5),
+        },
+        Err(_) => ExitCode::from(3),
+    }
+}
+PROGRAM
+(cd "$work/crates/only_toml" && rt run < /dev/null > "$work/log" 2>&1) || { tail -n 40 "$work/log"; exit 1; }
+PYTHONDONTWRITEBYTECODE=1 PYTHONPATH=bench python3 -u - "$work/crates/only_toml/out/only_toml" <<'TURNS'
+import subprocess
+import sys
+from hostile_inputs import families
+
+for name, text, _, _ in families():
+    times, most = [], 0
+    for _ in range(3):
+        done = subprocess.run(["/usr/bin/time", "-f", "%U %S %M", sys.argv[1]], input=text.encode(), stderr=subprocess.PIPE)
+        user, system, kilobytes = done.stderr.split()[-3:]
+        times.append(float(user) + float(system))
+        most = max(most, int(kilobytes))
+    print(f"{name}: {len(text.encode())} bytes, {min(times):.2f} s of the processor, {most / 1024:.0f} MB")
+TURNS

@@ -98,11 +98,14 @@ fn is_written(rt: &impl Abort, alloc: Global, call: u64) -> Result<bool, AllocEr
 
 #[test]
 fn each_write_fails_until_the_run_is_done(rt: HostRuntime) -> Result<(), Fail> {
-    let mut failed: u64 = 0;
-    while failed < 1000 && !is_written(&rt, rt.alloc(), failed)? {
-        failed = failed.wrapping_add(1);
+    let mut done_at = None;
+    for call in 0..1000_u64 {
+        if is_written(&rt, rt.alloc(), call)? {
+            done_at = Some(call);
+            break;
+        }
     }
-    assert!(&rt; 0 < failed && failed < 1000);
+    assert!(&rt; matches!(done_at, Some(call) if call > 0));
     Ok(())
 }
 
@@ -119,10 +122,13 @@ fn is_read(rt: &impl Abort, alloc: Global, call: u64) -> Result<bool, AllocError
 
 #[test]
 fn each_read_fails_until_the_check_is_done(rt: HostRuntime) -> Result<(), Fail> {
-    let mut failed: u64 = 0;
-    while failed < 1000 && !is_read(&rt, rt.alloc(), failed)? {
-        failed = failed.wrapping_add(1);
+    let mut done_at = None;
+    for call in 0..1000_u64 {
+        if is_read(&rt, rt.alloc(), call)? {
+            done_at = Some(call);
+            break;
+        }
     }
-    assert!(&rt; 0 < failed && failed < 1000);
+    assert!(&rt; matches!(done_at, Some(call) if call > 0));
     Ok(())
 }

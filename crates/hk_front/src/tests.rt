@@ -115,22 +115,20 @@ fn tells_no_want_of_memory(rt: HostRuntime) -> Result<(), Fail> {
 /// the newline. Here each fails in turn.
 #[test]
 fn stops_at_the_first_fault(rt: HostRuntime) -> Result<(), Fail> {
-    let texts: [&str; 6] = [
-        "",
-        "sheet",
-        "sheet ",
-        "sheet range",
-        "sheet range ",
-        "sheet range k",
+    let texts: [(u64, &str); 6] = [
+        (0, ""),
+        (1, "sheet"),
+        (2, "sheet "),
+        (3, "sheet range"),
+        (4, "sheet range "),
+        (5, "sheet range k"),
     ];
     let error = SheetError::Range(key(rt.alloc(), "k")?);
-    let mut call = 0;
-    for text in texts {
+    for (call, text) in texts {
         let mut sink = sink(rt.alloc(), &[call])?;
         assert_eq!(rt; refuse_sheet(&error, &mut sink), Status::WriteFault);
         assert_eq!(rt; sink.bytes(), text.as_bytes());
-        assert_eq!(rt; sink.calls(), call + 1);
-        call += 1;
+        assert_eq!(rt; sink.calls(), call.wrapping_add(1));
     }
     Ok(())
 }

@@ -7,7 +7,7 @@ use std::sync::atomic::{AtomicBool, AtomicU64, Ordering};
 use std::thread;
 
 /// The most turns that the collector rests after a flip.
-const MOST_RESTS: u32 = 1 << 14;
+const MOST_RESTS: u32 = 1 << 17;
 
 /// The most turns that a worker waits before one allocation.
 const MOST_WAITS: u32 = 1 << 22;
@@ -60,11 +60,12 @@ fn words_used(heap: &Heap) -> u32 {
     w0_words(heap.table.shared.peek(0))
 }
 
-/// A cycle is worth its while, or nobody is there to wait for: more than an eighth of the words for allocation are used, a
-/// worker waits for room, or none is left.
+/// A cycle is worth its while, or nobody is there to wait for: more than an eighth of the words for allocation are used, some
+/// are and a worker waits for room, or no worker is left. (Where none are used each has room, and waits for its processor alone.)
 fn is_wanted(heap: &Heap, at_work: &AtWork) -> bool {
-    words_used(heap) > heap.geometry().alloc() / 8
-        || at_work.waiting.load(Ordering::SeqCst) > 0
+    let used = words_used(heap);
+    used > heap.geometry().alloc() / 8
+        || (used > 0 && at_work.waiting.load(Ordering::SeqCst) > 0)
         || at_work.is_done()
 }
 

@@ -186,7 +186,10 @@ fn run_all<R: Threads + Wait + Sync, G: Gate>(
         ensures reserved { IfSome result.live (λ words. words ≤ reserved_by heap.entry.now.geometry (kept result.keeper).log) }
         ensures cycle { IsNone result.live → 3 ≤ (kept result.keeper).spot.cycle }
     { run_collector(rt, heap, gate, at_work, keeper) };
-    thread::join(rt, work, collect)
+    // Where no thread can be made for the collector it has its turn after the workers, which don't wait for it for ever; the other
+    // way round it would wait for them until its cycles are spent.
+    let (swept, ended) = thread::join(rt, collect, work);
+    (ended, swept)
 }
 
 /// The job of each seat, in order.

@@ -33,7 +33,7 @@ WORK, FOLDER = sys.argv[1], sys.argv[2] if len(sys.argv) > 2 else None
 PRELOADED = f"{WORK}/refuse.so"
 COUNTS = f"{WORK}/counts"
 # The seconds after which a run counts as one that doesn't end.
-LONGEST = 120
+PATIENCE = 120
 
 PROGRAMS = ("henri", "henri_race", "hk_assign", "hk_ceiling", "hk_chart", "hk_edf", "hk_openings", "hk_replay")
 
@@ -74,7 +74,7 @@ class Form:
             how["env"] = {**os.environ, **more, "COUNTS": COUNTS, "LD_PRELOAD": PRELOADED}
         words = [path_of(self.program), *self.words]
         try:
-            done = subprocess.run(words, input=self.text if text is None else text, stdout=subprocess.PIPE, stderr=subprocess.DEVNULL, timeout=LONGEST, **how)
+            done = subprocess.run(words, input=self.text if text is None else text, stdout=subprocess.PIPE, stderr=subprocess.DEVNULL, timeout=PATIENCE, **how)
         except subprocess.TimeoutExpired:
             return "not ended", b""
         return done.returncode, done.stdout

@@ -2,8 +2,7 @@
 # Tries the built program henri_race beyond its tests. Four parts, each with a closing line:
 # texts: each sheet of bench/race is run so many times, and bench/explain.py looks for an order of the heap calls that explains each text;
 # spoiled: some of these texts are spoiled, each in ways that no order can explain, and the checker has to refuse every one;
-# room: eight tasks that do nothing but allocate, for so many seconds, on the smallest heap by the rule of docs/THREADS.md, and for
-# comparison on one that is too small;
+# room: eight tasks that do nothing but allocate, for so many seconds, on the smallest heap by the rules of docs/RACE.md;
 # worn: a task of so many jobs, with how many cycles its collector began, as the first word of the heap showed it from outside.
 # The program is the one that `rt run` or `rt ci` leaves. Ends with 0 where everything was as it has to be.
 # Words: the path of the program (crates/henri_race/out/henri_race), the runs of each sheet (1,000), how many texts of each sheet are
@@ -162,8 +161,6 @@ if "room" in parts:
         )
         if bad:
             break
-    status, text, _ = race(allocating(100, 16))
-    print(f"room: for comparison alloc 16: status {status}, {text.count('full ')} of {WORKERS} tasks full")
 
 
 # WORN

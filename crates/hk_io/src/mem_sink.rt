@@ -3,8 +3,8 @@ ghost use Rattle.std.specs.Prelude.{◌≡◌, ◌-◌, ◌^◌, ◌<◌, ◌≤
 ghost use Rattle.std.specs.Io.KnownBytes.{WriteAppends};
 ghost use Rattle.hk_io.specs.Faults.{risen, HasCause};
 
-use crate::{Failed, Memory, Sink};
-use std::alloc::Global;
+use crate::{Failed, Sink};
+use std::alloc::{AllocError, Global};
 use std::marker::Model;
 
 /// A sink into a `Vec`, with room for so many bytes. Calls are numbered from 0. The number and the count of faults
@@ -32,7 +32,7 @@ impl Model for MemSink {
 impl MemSink {
     /// A sink with room for so many bytes, of which the calls with these numbers fail. It takes memory for all its
     /// room at once.
-    pub fn new(alloc: Global, room: usize, fails: Vec<u64>) -> Result<MemSink, Memory>
+    pub fn new(alloc: Global, room: usize, fails: Vec<u64>) -> Result<MemSink, AllocError>
         ensures taken { IfOk result (λ sink. sink.taken ≡ []) }
         ensures room { IfOk result (λ sink. sink.room ≡ room) }
         ensures fails { IfOk result (λ sink. sink.fails ≡ fails.items) }

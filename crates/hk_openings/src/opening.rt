@@ -29,12 +29,6 @@ impl From<Memory> for Unopened {
     }
 }
 
-impl From<hk_plan::Memory> for Unopened {
-    fn from(_error: hk_plan::Memory) -> Unopened {
-        Unopened::Memory
-    }
-}
-
 /// What is opened.
 #[derive(Clone, Copy, Debug, PartialEq, Eq)]
 pub enum Opening {

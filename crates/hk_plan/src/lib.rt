@@ -8,7 +8,8 @@ ghost use Rattle.hk_plan.specs.Bounds.{ResponseBounds};
 ghost use Rattle.hk_plan.specs.JobBounds.{ResponseBoundsJobs};
 ghost use Rattle.hk_plan.specs.LeastTask.{LeastTaskIsPlain};
 
-use std::alloc::{AllocError, AllocFailed, Global};
+use hk_words::Memory;
+use std::alloc::Global;
 use std::marker::Model;
 
 /// A piece of work: the task that it belongs to, where a lesser number goes first; the moment at which it becomes
@@ -30,22 +31,6 @@ pub struct Ready {
     pub arrival: u64,
     pub deadline: u64,
     pub done: u64,
-}
-
-/// No memory was found.
-#[derive(Clone, Copy, Debug, PartialEq, Eq)]
-pub struct Memory;
-
-impl From<AllocError> for Memory {
-    fn from(_error: AllocError) -> Memory {
-        Memory
-    }
-}
-
-impl<T: Drop> From<AllocFailed<T>> for Memory {
-    fn from(_error: AllocFailed<T>) -> Memory {
-        Memory
-    }
 }
 
 /// The schedule of some rows as far as ticks were given.

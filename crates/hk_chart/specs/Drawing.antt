@@ -39,7 +39,7 @@ height_of tasks = 30 * tasks + 60
 abbrev pub name_at : List Task → (place : ℕ) → List ℕ
 name_at tasks place = take MAX_NAME (task_at tasks place).name
 
--- RECTANGLES: a line as thick as the lane, from the first tick to behind the last one, with the colour of its lane
+-- RECTANGLES: a line ten units thick in the middle strip of its lane, from the first tick to behind the last one, with the colour of its lane
 
 abbrev pub bar_start : (high : ℕ) → Lane → List ℕ
 bar_start high (lane.Task place) = if nat_lt place high then codes "<path class=\"high\" d=\"M" else codes "<path class=\"low\" d=\"M"

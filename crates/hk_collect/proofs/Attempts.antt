@@ -10,7 +10,7 @@ use Rattle.hk_core.specs.declared.spot.Line.{Line}
 use Rattle.hk_core.specs.declared.spot.Line.TheVariants as line
 use Rattle.hk_core.specs.declared.spot.Stage.TheVariants as stage
 use Rattle.hk_core.specs.Collect as table
-use Rattle.hk_core.specs.Collect.{last_cycle, is_reference, is_old, spot_took, took_at_line}
+use Rattle.hk_core.specs.Collect.{last_cycle, is_old, spot_took, took_at_line}
 use Rattle.hk_core.specs.Lines as l
 use Rattle.hk_core.specs.Step.{reference_size, reserved_fits}
 use Rattle.hk_collect.proofs.spots.SpotLoads.{took_at}

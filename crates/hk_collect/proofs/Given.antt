@@ -19,14 +19,13 @@ use Rattle.hk_model.proofs.Updates.{upd_same}
 use Rattle.hk_core.specs.declared.event.Event.{Event}
 use Rattle.hk_core.specs.declared.event.Event.TheVariants as event
 use Rattle.hk_core.specs.declared.flight.Flight.{Flight}
-use Rattle.hk_core.specs.declared.spot.Spot.{Spot}
 use Rattle.hk_core.specs.declared.spot.Line.{Line}
 use Rattle.hk_core.specs.declared.spot.Line.TheVariants as line
 use Rattle.hk_core.specs.declared.spot.Stage.{Stage}
 use Rattle.hk_core.specs.declared.spot.Stage.TheVariants as stage
 use Rattle.hk_core.specs.Event as fires
 use Rattle.hk_core.specs.Event.{fired, fired_if, old_of}
-use Rattle.hk_core.specs.State.{State, flight_of}
+use Rattle.hk_core.specs.State.{State}
 use Rattle.hk_core.specs.Step as table
 use Rattle.hk_core.specs.Step.{reference_size, event_of, took_of, found_by, event_by, next, history_after}
 use Rattle.hk_core.specs.Collect as collector

@@ -17,7 +17,7 @@ use Rattle.hk_core.specs.Event.{fired_if, learnt}
 use Rattle.hk_core.specs.State.{State, opening, opening_spot}
 use Rattle.hk_core.specs.Step.{reference_size}
 use Rattle.hk_core.specs.Collect as table
-use Rattle.hk_core.specs.Collect.{current_space, old_space, event_at_line, took_at_line, work_at_line, next_collected, work_by_collector, moved_number, moved_to}
+use Rattle.hk_core.specs.Collect.{current_space, old_space, event_at_line, took_at_line, work_at_line, work_by_collector, moved_number, moved_to}
 use Rattle.hk_core.specs.View.{words_of, decoded, names_of, contents_of, flight_at, begun_at}
 use Rattle.hk_core.specs.Lines as l
 use Rattle.hk_core.specs.Colours.{spaces_of, shades_of}

@@ -26,7 +26,7 @@ use Rattle.hk_core.specs.Event.{fired_if}
 use Rattle.hk_core.specs.State.{State}
 use Rattle.hk_core.specs.Begin.{refusal, accepted, begun_or, after_begin}
 use Rattle.hk_core.specs.Step as table
-use Rattle.hk_core.specs.Step.{next, event_by, new_place, side_of, reserved_fits}
+use Rattle.hk_core.specs.Step.{next, event_by, new_place, reserved_fits}
 use Rattle.hk_core.specs.View.{Words, words_of, decoded, names_of, flight_at}
 use Rattle.hk_core.specs.Flights as f
 use Rattle.hk_core.specs.Lines as l

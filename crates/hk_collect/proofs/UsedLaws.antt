@@ -11,13 +11,12 @@ use Rattle.hk_model.specs.Heap.{opening_of}
 use Rattle.hk_model.specs.History.{History, bearer}
 use Rattle.hk_model.proofs.Histories.{bearer_is_last, length-numbers_born}
 use Rattle.hk_core.specs.Collect as collects
-use Rattle.hk_core.specs.Collect.{next_collected, work_by_collector}
+use Rattle.hk_core.specs.Collect.{work_by_collector}
 use Rattle.hk_core.specs.Flights as f
-use Rattle.hk_core.specs.Flights.{Hand, to_reserve, hand_of_flight}
+use Rattle.hk_core.specs.Flights.{to_reserve}
 use Rattle.hk_core.specs.Run.{Action, Running, begin, step, collect, act, run, run_from_opening}
 use Rattle.hk_core.specs.State.{State, opening, flight_of}
 use Rattle.hk_core.specs.Step as table
-use Rattle.hk_core.specs.Step.{reference_size, next, history_after}
 use Rattle.hk_core.specs.View.{words_of, decoded, raw, word_if, names_of, flight_at}
 use Rattle.hk_core.specs.Colours.{spaces_of, shades_of, is_within}
 use Rattle.hk_core.specs.Lawful.{Lawful, hands_of}

@@ -17,12 +17,11 @@ use Rattle.hk_core.specs.declared.spot.Line.TheVariants as line
 use Rattle.hk_core.specs.declared.spot.Stage.{Stage}
 use Rattle.hk_core.specs.declared.spot.Stage.TheVariants as stage
 use Rattle.hk_core.specs.Collect as collects
-use Rattle.hk_core.specs.Collect.{next_collected, work_by_collector}
 use Rattle.hk_core.specs.Flights as f
-use Rattle.hk_core.specs.Flights.{Hand, to_reserve, hand_of_flight}
+use Rattle.hk_core.specs.Flights.{to_reserve, hand_of_flight}
 use Rattle.hk_core.specs.Lines as l
 use Rattle.hk_core.specs.Step as table
-use Rattle.hk_core.specs.Step.{reference_size, next, history_after}
+use Rattle.hk_core.specs.Step.{reference_size}
 
 module _ (g : Geometry) (x : Flight) where
   -- an event that adds to W1 is that of a claim in hand that has still to reserve

@@ -19,7 +19,7 @@ use Rattle.hk_core.specs.declared.spot.Line.TheVariants as line
 use Rattle.hk_core.specs.declared.spot.Stage.{Stage}
 use Rattle.hk_core.specs.declared.spot.Stage.TheVariants as stage
 use Rattle.hk_core.specs.Collect as table
-use Rattle.hk_core.specs.Collect.{last_cycle, moved_number, moved_from, after_register, after_frame, after_cell, after_pass, is_reference}
+use Rattle.hk_core.specs.Collect.{last_cycle, moved_number, moved_from, after_register, after_pass, is_reference}
 use Rattle.hk_core.specs.Event.{learnt}
 use Rattle.hk_core.specs.State.{State}
 use Rattle.hk_core.specs.Step.{reference_size, reserved_fits}

@@ -17,7 +17,7 @@ use Rattle.hk_core.specs.declared.event.Event.TheVariants as event
 use Rattle.hk_core.specs.declared.spot.Spot.{Spot}
 use Rattle.hk_core.specs.declared.spot.Line.TheVariants as line
 use Rattle.hk_core.specs.Collect as table
-use Rattle.hk_core.specs.Collect.{last_cycle, next_list, next_collected, work_by_collector, event_by_collector, found_by_collector}
+use Rattle.hk_core.specs.Collect.{last_cycle, next_collected, work_by_collector, event_by_collector, found_by_collector}
 use Rattle.hk_core.specs.Event.{fired_if}
 use Rattle.hk_core.specs.State.{State, opening, opening_spot, flight_of}
 use Rattle.hk_core.specs.Step.{event_by, effect_of, found_by, next, history_after}

@@ -14,7 +14,7 @@ use Rattle.hk_core.specs.declared.outcome.Fault.{Fault}
 use Rattle.hk_core.specs.State.{State, IsSized, flight_of, idle}
 use Rattle.hk_core.specs.Step as table
 use Rattle.hk_words.specs.Bounds.{places_of}
-use Rattle.hk_core.specs.Step.{outcome_at, took_of, effect_of, found_by, answer_by, next, history_after}
+use Rattle.hk_core.specs.Step.{outcome_at, took_of, effect_of, found_by, next, history_after}
 use Rattle.hk_core.specs.Begin.{refusal, first_flight, after_begin}
 use Rattle.hk_core.specs.Collect.{next_collected}
 use Rattle.hk_core.specs.Run.{Action, Running, begin, step, collect, act, run, may_begin, is_idle, is_busy, registers_fit}

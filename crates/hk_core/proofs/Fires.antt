@@ -10,7 +10,7 @@ use Rattle.hk_words.proofs.RowLaws.{index_below}
 use Rattle.hk_words.proofs.PackingLaws.{header_enters, header_fits, frame_enters, frame_fits, w0_raises, w0_fits}
 use Rattle.hk_core.specs.declared.event.Event.{Event}
 use Rattle.hk_core.specs.declared.event.Event.TheVariants as event
-use Rattle.hk_core.specs.Event.{CanFire, AmountFits, old_of}
+use Rattle.hk_core.specs.Event.{CanFire, AmountFits}
 use Rattle.hk_core.specs.Event as events
 use Rattle.hk_core.specs.View.{raw, decoded, words_of}
 use Rattle.hk_core.proofs.Columns.{old_at, raw_header, raw_frame, raw_w0, raw_w1}

@@ -14,7 +14,7 @@ use Rattle.hk_core.specs.State.{State, idle, flight_of}
 use Rattle.hk_core.specs.Begin.{refusal, first_flight, accepted, after_begin, begun_or}
 use Rattle.hk_core.specs.Step as table
 use Rattle.hk_words.specs.Bounds.{places_of}
-use Rattle.hk_core.specs.Step.{outcome_at, took_of, step_of, found_by, answer_by, next}
+use Rattle.hk_core.specs.Step.{took_of, step_of, found_by, answer_by, next}
 use Rattle.hk_core.specs.Places.{GoesOn, Ends, KeepsOthers}
 use Rattle.hk_core.specs.View.{flight_at}
 use Rattle.hk_core.proofs.Next.{flight_at-next}

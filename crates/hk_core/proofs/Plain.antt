@@ -13,7 +13,7 @@ use Rattle.hk_core.specs.declared.event.Event.TheVariants as event
 use Rattle.hk_core.specs.declared.flight.Flight.{Flight}
 use Rattle.hk_core.specs.State.{State, idle}
 use Rattle.hk_core.specs.Step as table
-use Rattle.hk_core.specs.Step.{number_cell, next, history_after}
+use Rattle.hk_core.specs.Step.{number_cell}
 use Rattle.hk_core.specs.View.{words_of, names_of, contents_of, flight_at, begun_at}
 use Rattle.hk_core.specs.Flights as f
 use Rattle.hk_core.specs.Colours.{shades_of, held_by}

@@ -14,7 +14,7 @@ use Rattle.hk_core.specs.declared.spot.Spot.{Spot}
 use Rattle.hk_core.specs.Event.{learnt, old_of}
 use Rattle.hk_core.specs.State.{State, idle}
 use Rattle.hk_core.specs.Step as table
-use Rattle.hk_core.specs.Step.{number_cell, event_of, took_of, effect_of, next, history_after}
+use Rattle.hk_core.specs.Step.{event_of, took_of, effect_of}
 use Rattle.hk_core.specs.View.{Words, Names, Contents, decoded, words_of, names_of, contents_of, flight_at, begun_at}
 use Rattle.hk_core.specs.Flights as f
 use Rattle.hk_core.specs.Colours.{shades_of}
@@ -23,12 +23,12 @@ use Rattle.hk_core.proofs.Columns.{raw_w0, raw_header, raw_space, words_some}
 use Rattle.hk_core.proofs.Next.{DoesPlace, StepsTo, steps_to_silent}
 use Rattle.hk_core.proofs.kinds.Seats.{FlightsFacts, moved_on, kept_means}
 use Rattle.hk_core.proofs.kinds.Enter as enter
-use Rattle.hk_core.proofs.kinds.Enter.{EntersObject, entering_words, object_of, get_enters, put_enters}
+use Rattle.hk_core.proofs.kinds.Enter.{EntersObject, entering_words, object_of}
 use Rattle.hk_core.proofs.kinds.Leave as leave
 use Rattle.hk_core.proofs.kinds.Leave.{EndsInObject, LeavesAndGoesOn, leaving_words}
 use Rattle.hk_core.proofs.kinds.LoadCycle.{LoadsCycle, loaded_on, load_cycle}
 use Rattle.hk_core.proofs.kinds.Frame as frame
-use Rattle.hk_core.proofs.kinds.Frame.{EntersFrame, EndsInFrame, entering_frame_words, leaving_frame_words, move_enters, move_leaves}
+use Rattle.hk_core.proofs.kinds.Frame.{EntersFrame, EndsInFrame, entering_frame_words, leaving_frame_words}
 use Rattle.hk_core.proofs.kinds.Words.{words-load, words-enter_object, words-leave_object, words-enter_frame, words-leave_frame, room_in_object, some_in_object}
 
 -- WHAT A PLACE SHOWS

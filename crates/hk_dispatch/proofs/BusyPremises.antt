@@ -9,7 +9,7 @@ use Rattle.hk_rta.proofs.Steps.{starts_grow}
 use Rattle.hk_plan.specs.declared.Ready.{Ready}
 use Rattle.hk_plan.proofs.Sums.{total, total-le, sum_is_total}
 use Rattle.hk_sheet.specs.declared.sheet.Sheet.{Sheet}
-use Rattle.hk_admit.specs.Analysis.{attempt_events, load_of, base, events_in, most_owed}
+use Rattle.hk_admit.specs.Analysis.{load_of, base, events_in}
 use Rattle.hk_admit.specs.Analysis as analysis
 use Rattle.hk_dispatch.specs.Tasks.{no_high, high_at}
 use Rattle.hk_dispatch.specs.Session.{state, IsMoment, IsSession}

@@ -8,7 +8,7 @@ use Rattle.hk_collect.specs.Runs.{in_attempt}
 use Rattle.hk_plan.specs.declared.Ready.{Ready}
 use Rattle.hk_sheet.specs.declared.sheet.Sheet.{Sheet}
 use Rattle.hk_sheet.specs.Valid.{IsSheet}
-use Rattle.hk_admit.specs.Analysis.{largest_low, attempt_events, base}
+use Rattle.hk_admit.specs.Analysis.{largest_low, base}
 use Rattle.hk_admit.specs.Analysis as analysis
 use Rattle.hk_dispatch.specs.Tasks.{IsLowSeat, high_at}
 use Rattle.hk_dispatch.specs.Moment.{Moment, core_of, course_at}

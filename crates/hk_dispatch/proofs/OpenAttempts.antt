@@ -12,7 +12,7 @@ use Rattle.hk_model.specs.Lasting.{MakesAtMost}
 use Rattle.hk_core.specs.declared.outcome.Fault.{Fault}
 use Rattle.hk_core.specs.declared.spot.Spot.{Spot}
 use Rattle.hk_core.specs.State as machine
-use Rattle.hk_core.specs.State.{State, IsSized, flight_of}
+use Rattle.hk_core.specs.State.{State}
 use Rattle.hk_core.specs.Begin.{refusal, after_begin}
 use Rattle.hk_core.specs.Lawful.{Lawful}
 use Rattle.hk_core.specs.Run.{Running, begin, step, act, is_busy, may_begin}

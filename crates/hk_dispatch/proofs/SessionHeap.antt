@@ -12,7 +12,7 @@ use Rattle.hk_core.specs.declared.outcome.Fault.{Fault}
 use Rattle.hk_core.specs.declared.spot.Spot.{Spot}
 use Rattle.hk_core.specs.declared.spot.Work.TheVariants.{Worn}
 use Rattle.hk_core.specs.State as machine
-use Rattle.hk_core.specs.State.{State, IsSized, flight_of}
+use Rattle.hk_core.specs.State.{State, flight_of}
 use Rattle.hk_core.specs.Step.{next, history_after}
 use Rattle.hk_core.specs.Begin.{refusal, after_begin}
 use Rattle.hk_core.specs.Collect.{next_collected, work_by_collector}

@@ -1,5 +1,5 @@
 -- From what the parts of the program answer to what its top call answers.
-use Rattle.std.proofs.Common.{◌≡◌, ◌≢◌, ℕ, ◌≤◌, ◌⊎◌, inl, inr, true, false, Bool, ◌==◌, List, [], ◌∷◌, length, Option, None, Some, Result, Ok, Err, refl, sym, ◌∙◌, ap, subst, arith, String, Global}
+use Rattle.std.proofs.Common.{◌≡◌, ◌≢◌, ℕ, ◌⊎◌, inl, inr, true, false, Bool, ◌==◌, List, [], ◌∷◌, length, Option, None, Some, Result, Ok, Err, refl, sym, ◌∙◌, ap, subst, arith, String, Global}
 use Rattle.std.proofs.lemmas.Bool.Decides.{nat_tests}
 use Rattle.std.specs.Prelude.{IfSome, IfOk, MatchResult, OnOk, OnErr}
 use Rattle.std.specs.Io.KnownBytes.{Appends}
@@ -13,7 +13,6 @@ use Rattle.hk_io.specs.Faults.{HasCause}
 use Rattle.hk_sheet.specs.declared.sheet.Sheet.{Sheet}
 use Rattle.hk_sheet.specs.Faults.{sizes_of}
 use Rattle.hk_table.specs.declared.heap.Heap.{Heap}
-use Rattle.hk_table.specs.Ends.{run_of}
 use Rattle.hk_front.specs.Words.{Puts}
 use Rattle.hk_front.specs.Input.{IsSheetOf, IsUnread}
 use Rattle.hk_front.specs.Endings.{HasText, EndsBy}
@@ -21,8 +20,8 @@ use Rattle.hk_front.proofs.EndLemmas.{ends_written}
 use Rattle.hk_front.proofs.OneInput.{one_sheet, none_read}
 use Rattle.hk_race.specs.declared.competing.Raced.{Raced}
 use Rattle.hk_race.specs.declared.tool.RaceEnd.{RaceEnd}
-use Rattle.hk_race.specs.Raced.{IsRace, has_full}
-use Rattle.hk_race.specs.Race.{usage_line, long_task_line, status_by, status_of, IsTooLong, IsRaceOf, IsTold, BytesCallFor, UsageCallsFor, CallsFor, Writes, WritesPrefix, EndsRace, HasRaced, EndsAsCalled}
+use Rattle.hk_race.specs.Raced.{IsRace}
+use Rattle.hk_race.specs.Race.{usage_line, long_task_line, status_by, IsTooLong, IsRaceOf, IsTold, BytesCallFor, CallsFor, Writes, WritesPrefix, EndsRace, HasRaced, EndsAsCalled}
 use Rattle.hk_race.specs.Tasks.{task_at, is_long, HasNoLong, IsFirstLong}
 
 -- the three facts of a text that was put

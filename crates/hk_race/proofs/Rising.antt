@@ -1,5 +1,5 @@
 -- The words that are reserved never grow fewer while seats act: none of their events but an addition is about W1.
-use Rattle.std.proofs.Common.{◌≡◌, ℕ, zero, suc, ◌≤◌, Bool, true, false, List, [], ◌∷◌, ◌++◌, refl, sym, ◌∙◌, ap, subst, arith, Option, Some, None, max}
+use Rattle.std.proofs.Common.{◌≡◌, ℕ, zero, suc, ◌≤◌, Bool, true, false, List, [], ◌∷◌, ◌++◌, refl, sym, ap, subst, arith, Option, Some, None, max}
 use Rattle.std.specs.Prelude.{nat_eq, not, ◌&&◌, slice_index, slice_set, if◌then◌else◌}
 use Rattle.hk_words.specs.declared.geometry.Geometry.{Geometry}
 use Rattle.hk_words.specs.declared.call.Call.{Call}
@@ -18,9 +18,9 @@ use Rattle.hk_core.specs.Collect.{event_by_collector, next_collected}
 use Rattle.hk_core.specs.Run.{Action, begin, step, collect, Running, may_begin, is_busy, act, run, run_from_opening}
 use Rattle.hk_core.specs.State.{State, flight_of}
 use Rattle.hk_core.specs.Step as table
-use Rattle.hk_core.specs.Step.{next, history_after}
+use Rattle.hk_core.specs.Step.{next}
 use Rattle.hk_collect.specs.Works.{FindsLiveOver}
-use Rattle.hk_table.specs.Actions.{Begins, is_collect, collects}
+use Rattle.hk_table.specs.Actions.{is_collect, collects}
 use Rattle.hk_table.proofs.Keeps.{run_more}
 
 -- A WORD OF THE ROW

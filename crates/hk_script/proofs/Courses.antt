@@ -1,5 +1,5 @@
 -- A walk of a script follows what a job does that goes through the script's tree.
-use Rattle.std.proofs.Common.{◌≡◌, ℕ, suc, zero, ◌+◌, ◌-◌, ◌<◌, ◌≤◌, Bool, true, false, cond, List, [], ◌∷◌, ◌++◌, length, drop, get_or, Result, Ok, Err, Option, Some, None, refl, sym, ap, ◌∙◌, subst, arith, inl, inr}
+use Rattle.std.proofs.Common.{◌≡◌, ℕ, suc, zero, ◌+◌, ◌-◌, ◌<◌, ◌≤◌, Bool, true, false, cond, List, [], ◌∷◌, ◌++◌, length, drop, Ok, Option, Some, refl, sym, ap, ◌∙◌, subst, arith, inl, inr}
 use Rattle.std.specs.Prelude.{slice_get, slice_index, slice_set, nat_lt, replicate, unwrap_or}
 use Rattle.std.proofs.lemmas.Bool.{cases_lt}
 use Rattle.std.proofs.lemmas.Bool.Decides.{nat_tests}
@@ -10,7 +10,6 @@ use Rattle.hk_script.specs.declared.beyond.Beyond.{Beyond}
 use Rattle.hk_script.specs.declared.blocks.Open.{Open}
 use Rattle.hk_script.specs.declared.blocks.Part.{Part}
 use Rattle.hk_script.specs.declared.blocks.Part.TheVariants as part
-use Rattle.hk_script.specs.declared.error.Fault.{Fault}
 use Rattle.hk_script.specs.declared.error.Fault.TheVariants as fault
 use Rattle.hk_script.specs.declared.linking.Around.{Around}
 use Rattle.hk_script.specs.declared.linking.Link.{Link}
@@ -30,9 +29,9 @@ use Rattle.hk_script.specs.Walks.{IsStop, link_at, at, after_set, holds, turned,
 use Rattle.hk_script.specs.Trees.{Tree, Nothing, Does, When, Chooses, Repeats, IsPlain, IsTree, layout, IsTreeOf}
 use Rattle.hk_script.specs.Courses.{Course, Done, Wants, followed_by, turns_of, wanting, with, does, Follows}
 use Rattle.hk_script.proofs.Arguments.{ok_is, passed_or}
-use Rattle.hk_script.proofs.Linked.{all_around, ways_at, ways_more, ways_end}
+use Rattle.hk_script.proofs.Linked.{ways_at, ways_more, ways_end}
 use Rattle.hk_script.proofs.Stops.{get_here, get_past, nothing_around, link_is, first_stops}
-use Rattle.hk_script.proofs.Potential.{opened_by, follows_at, around_is, index_other, index_same}
+use Rattle.hk_script.proofs.Potential.{opened_by, follows_at, around_is, index_same}
 
 -- ---- courses
 

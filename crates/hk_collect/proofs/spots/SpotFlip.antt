@@ -15,11 +15,11 @@ use Rattle.hk_core.specs.Counts.{count_below}
 use Rattle.hk_core.specs.Collect.{next_list, last_cycle, rest_took}
 use Rattle.hk_core.specs.View.{Words, Names, Contents, reference_at}
 use Rattle.hk_core.specs.Flights as f
-use Rattle.hk_core.specs.Flights.{Hand, no_claim, to_reserve, to_link}
+use Rattle.hk_core.specs.Flights.{Hand, to_reserve}
 use Rattle.hk_core.specs.Lines as l
 use Rattle.hk_core.specs.Colours.{Spaces, InCurrent, InOld, spaces_of, Shades, shades_of, held_by, kept_by, white_by, grey_by, black_by, black_frame_by, is_fresh, is_within, IsGood}
 use Rattle.hk_core.specs.Facts as fact
-use Rattle.hk_core.specs.Facts.{HasNoHeader, IsUnread, IsOwn, IsMoved, FoundRoom, IsRecent, IsSettled}
+use Rattle.hk_core.specs.Facts.{IsUnread, IsSettled}
 use Rattle.hk_core.specs.Lawful.{Facts, FactsOf, hands_of}
 use Rattle.hk_core.proofs.Counts.{count_bounded}
 use Rattle.hk_core.proofs.kinds.LoadRead.{ColoursMean, colours_mean, some_words}

@@ -13,7 +13,7 @@ use Rattle.hk_core.specs.Flights.{Hand}
 use Rattle.hk_core.specs.Lines as l
 use Rattle.hk_core.specs.Colours.{Spaces, spaces_of, Shades, shades_of}
 use Rattle.hk_core.specs.Facts as fact
-use Rattle.hk_core.specs.Facts.{HoldsRange, HoldsClaim, IsMoved}
+use Rattle.hk_core.specs.Facts.{IsMoved}
 use Rattle.hk_core.specs.Lawful.{Facts, FactsOf, hands_of}
 use Rattle.hk_collect.proofs.spots.SpotClear.{ClearingLine, reset_line}
 use Rattle.hk_collect.proofs.spots.SpotSweepLines.{sweep_spot, range_moved}

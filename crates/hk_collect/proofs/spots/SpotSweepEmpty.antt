@@ -21,7 +21,7 @@ use Rattle.hk_core.specs.Flights.{Hand}
 use Rattle.hk_core.specs.Lines as l
 use Rattle.hk_core.specs.Colours.{Spaces, spaces_of, Shades, shades_of, held_by, kept_by, white_by, is_fresh, is_within}
 use Rattle.hk_core.specs.Facts as fact
-use Rattle.hk_core.specs.Facts.{HasNoHeader, IsUnread, IsOwn, IsMoved, IsSettled}
+use Rattle.hk_core.specs.Facts.{HasNoHeader, IsSettled}
 use Rattle.hk_core.specs.Lawful.{Facts, FactsOf, hands_of}
 use Rattle.hk_core.proofs.Update.{upd_cases}
 use Rattle.hk_core.proofs.kinds.NewHeader.{object_through}

@@ -20,7 +20,7 @@ use Rattle.hk_core.specs.Flights.{Hand}
 use Rattle.hk_core.specs.Lines as l
 use Rattle.hk_core.specs.Colours.{Spaces, InOld, spaces_of, Shades, shades_of, held_by, kept_by, is_fresh, Covers, IsGood, IsNullOrGood, IsNullOrKept, NamesNoWhite}
 use Rattle.hk_core.specs.Facts as fact
-use Rattle.hk_core.specs.Facts.{IsSettled, IsMoved}
+use Rattle.hk_core.specs.Facts.{IsSettled}
 use Rattle.hk_core.specs.Lawful.{Facts, FactsOf, hands_of}
 use Rattle.hk_core.proofs.kinds.LoadRead.{ColoursMean, colours_mean, kept_number, settled_black, shown_birth, some_words}
 use Rattle.hk_core.proofs.kinds.Seats.{IsKept, kept_parts}

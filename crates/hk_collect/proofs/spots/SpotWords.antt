@@ -12,7 +12,7 @@ use Rattle.hk_words.proofs.RowLaws.{index_below}
 use Rattle.hk_model.specs.View.{upd}
 use Rattle.hk_core.specs.declared.event.Event.{Event}
 use Rattle.hk_core.specs.declared.event.Event.TheVariants as event
-use Rattle.hk_core.specs.Event.{CanFire, AmountFits, fired, learnt, old_of}
+use Rattle.hk_core.specs.Event.{CanFire, AmountFits, fired, learnt}
 use Rattle.hk_core.specs.Event as events
 use Rattle.hk_core.specs.View.{words_of, raw, decoded}
 use Rattle.hk_core.proofs.Columns.{fired_at, old_at, raw-w0, raw-header, raw-frame, raw_w1, raw_mark, raw_header, raw_frame}

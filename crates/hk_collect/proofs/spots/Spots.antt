@@ -22,7 +22,7 @@ use Rattle.hk_core.specs.Flights.{Hand, hand_of_flight}
 use Rattle.hk_core.specs.Lines as l
 use Rattle.hk_core.specs.Colours.{Spaces, spaces_of, Shades, shades_of, held_by, kept_by}
 use Rattle.hk_core.specs.Facts as fact
-use Rattle.hk_core.specs.Facts.{FrameBehind, ObjectBehind, IsSettled}
+use Rattle.hk_core.specs.Facts.{IsSettled}
 use Rattle.hk_core.specs.Lawful.{Facts, FactsOf, hands_of}
 use Rattle.hk_core.proofs.Update.{upd_cases}
 use Rattle.hk_core.proofs.Shared.{never}

@@ -22,7 +22,6 @@ use Rattle.hk_core.specs.Flights as f
 use Rattle.hk_core.specs.Flights.{Hand, hand_of_flight}
 use Rattle.hk_core.specs.Colours.{Spaces, spaces_of, Shades, shades_of, IsGood, IsNullOrGood, NamesNoWhite}
 use Rattle.hk_core.specs.Facts as fact
-use Rattle.hk_core.specs.Facts.{IsSettled}
 use Rattle.hk_core.specs.Lawful.{Facts, FactsOf, hands_of, Lawful}
 use Rattle.hk_core.specs.State.{State}
 use Rattle.hk_core.proofs.Update.{each_upd}

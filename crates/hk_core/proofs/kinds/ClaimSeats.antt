@@ -16,10 +16,9 @@ use Rattle.hk_core.specs.declared.spot.Line.{Line}
 use Rattle.hk_core.specs.Step.{claims}
 use Rattle.hk_core.specs.View.{Words, Names, Contents}
 use Rattle.hk_core.specs.Flights as f
-use Rattle.hk_core.specs.Flights.{Hand, no_claim, to_reserve, to_link, hand_of_flight}
+use Rattle.hk_core.specs.Flights.{no_claim, hand_of_flight}
 use Rattle.hk_core.specs.Colours.{spaces_of, shades_of, IsGood, IsNullOrGood, NamesNoWhite}
 use Rattle.hk_core.specs.Facts as fact
-use Rattle.hk_core.specs.Facts.{IsSettled}
 use Rattle.hk_core.specs.Lawful.{Facts, FactsOf, hands_of}
 use Rattle.hk_core.proofs.Update.{upd_own}
 use Rattle.hk_core.proofs.kinds.WriteCell.{ShadesMean, shades_mean}

@@ -6,7 +6,7 @@ use Rattle.hk_words.specs.declared.call.Reply.TheVariants as reply
 use Rattle.hk_words.specs.Geometry.{tasks}
 use Rattle.hk_model.specs.View.{upd2, View, view_of}
 use Rattle.hk_model.specs.Heap as heap
-use Rattle.hk_model.specs.Heap.{Heap, IsHeap, opening_of}
+use Rattle.hk_model.specs.Heap.{IsHeap, opening_of}
 use Rattle.hk_model.specs.History.{Entry, History, Legal, is_birth, after, after_entry}
 use Rattle.hk_model.proofs.Heaps.{IsHeap-opening}
 use Rattle.hk_model.proofs.Effects.{view_of-move, view_of-clear}

@@ -18,7 +18,7 @@ use Rattle.hk_core.specs.Flights.{Hand}
 use Rattle.hk_core.specs.Lines as l
 use Rattle.hk_core.specs.Colours.{Spaces, Shades, InOld, InCurrent, Apart, IsGood, IsNullOrGood, IsKeptBirth, IsNullOrKept}
 use Rattle.hk_core.specs.Facts as fact
-use Rattle.hk_core.specs.Facts.{HoldsRange, IsMoved}
+use Rattle.hk_core.specs.Facts.{HoldsRange}
 use Rattle.hk_core.specs.Lawful.{Facts}
 use Rattle.hk_core.proofs.Update.{upd_cases}
 

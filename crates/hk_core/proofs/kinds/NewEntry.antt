@@ -18,7 +18,7 @@ use Rattle.hk_core.specs.Flights.{IsNewInStep}
 use Rattle.hk_core.specs.Lines.{is_marking}
 use Rattle.hk_core.specs.Colours.{Shades, spaces_of, shades_of, held_by, kept_by, is_fresh}
 use Rattle.hk_core.specs.Facts as fact
-use Rattle.hk_core.specs.Facts.{IsOwn, FoundRoom, IsRecent, IsSettled}
+use Rattle.hk_core.specs.Facts.{IsOwn, IsSettled}
 use Rattle.hk_core.specs.Lawful.{FactsOf, hands_of}
 use Rattle.hk_core.proofs.Counts.{count_kept, any_kept}
 use Rattle.hk_core.proofs.Columns.{raw_entry}

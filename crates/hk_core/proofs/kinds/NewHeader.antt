@@ -25,7 +25,7 @@ use Rattle.hk_core.specs.Flights.{Hand, IsNewInStep}
 use Rattle.hk_core.specs.Lines as l
 use Rattle.hk_core.specs.Colours.{Spaces, spaces_of, Shades, shades_of, held_by, kept_by, grey_by, black_by, white_by, is_within, IsGood, IsNullOrGood, IsNullOrKept, NamesNoWhite}
 use Rattle.hk_core.specs.Facts as fact
-use Rattle.hk_core.specs.Facts.{HasNoHeader, IsUnread, IsOwn, IsMoved, FoundRoom, IsRecent, IsSettled, ObjectBehind}
+use Rattle.hk_core.specs.Facts.{IsOwn, FoundRoom, IsRecent, IsSettled}
 use Rattle.hk_core.specs.Lawful.{Facts, FactsOf, hands_of}
 use Rattle.hk_core.proofs.Update.{upd_own}
 use Rattle.hk_core.proofs.Counts.{count_kept, count_some}

@@ -25,7 +25,6 @@ use Rattle.hk_core.specs.Flights as f
 use Rattle.hk_core.specs.Flights.{hand_of_flight, IsNewInStep, no_claim}
 use Rattle.hk_core.specs.Colours.{Shades, spaces_of, shades_of}
 use Rattle.hk_core.specs.Facts as fact
-use Rattle.hk_core.specs.Facts.{IsFormed, IsSettled}
 use Rattle.hk_core.specs.Lawful.{FactsOf, hands_of}
 use Rattle.hk_core.proofs.Counts.{count_kept, count_more, count_room}
 use Rattle.hk_core.proofs.kinds.Seats.{FlightsFacts, facts_of_flight, hands_upd, shades_upd, idle_facts, idle_makes_nothing}

@@ -19,10 +19,10 @@ use Rattle.hk_core.specs.Step.{full_to_all, new_place, side_of}
 use Rattle.hk_core.specs.Counts.{count_below}
 use Rattle.hk_core.specs.View.{Words, Names, Contents}
 use Rattle.hk_core.specs.Flights as f
-use Rattle.hk_core.specs.Flights.{Hand, IsNewInStep}
+use Rattle.hk_core.specs.Flights.{Hand}
 use Rattle.hk_core.specs.Colours.{Spaces, spaces_of, Shades, shades_of, Apart}
 use Rattle.hk_core.specs.Facts as fact
-use Rattle.hk_core.specs.Facts.{IsOwn, IsUnread, FoundRoom, IsRecent, IsSettled}
+use Rattle.hk_core.specs.Facts.{IsUnread, FoundRoom, IsRecent, IsSettled}
 use Rattle.hk_core.specs.Lawful.{Facts, FactsOf, hands_of}
 use Rattle.hk_core.proofs.Counts.{count_less}
 use Rattle.hk_core.proofs.kinds.Seats.{FlightsFacts, flights_upd, pass_upd, hands_upd, shades_upd}

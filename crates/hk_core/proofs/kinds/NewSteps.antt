@@ -25,7 +25,7 @@ use Rattle.hk_core.specs.Step.{event_of, took_of, effect_of, full_to, full_to_al
 use Rattle.hk_core.specs.View.{Words, words_of, names_of, contents_of, flight_at, begun_at}
 use Rattle.hk_core.specs.Flights as f
 use Rattle.hk_core.specs.Facts as fact
-use Rattle.hk_core.specs.Facts.{IsOwn, FoundRoom}
+use Rattle.hk_core.specs.Facts.{FoundRoom}
 use Rattle.hk_core.specs.Lawful.{FactsOf, Lawful}
 use Rattle.hk_core.proofs.kinds.Seats.{moved_on}
 use Rattle.hk_core.proofs.kinds.Frame.{EntersFrame, EndsInFrame, entering_frame_words, leaving_frame_words, enter_frame, leave_frame, new_enters_frame, new_leaves_frame}

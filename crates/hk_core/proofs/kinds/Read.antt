@@ -21,7 +21,7 @@ use Rattle.hk_core.specs.Begin.{copied}
 use Rattle.hk_core.specs.Step.{number_cell}
 use Rattle.hk_core.specs.View.{Words, Names, Contents, shown, names_of, contents_of}
 use Rattle.hk_core.specs.Flights as f
-use Rattle.hk_core.specs.Flights.{Hand, no_claim, hand_of_flight}
+use Rattle.hk_core.specs.Flights.{Hand, hand_of_flight}
 use Rattle.hk_core.specs.Colours.{Spaces, spaces_of, Shades, shades_of, IsNullOrKept, IsKeptBirth}
 use Rattle.hk_core.specs.Facts as fact
 use Rattle.hk_core.specs.Lawful.{Facts, FactsOf, hands_of}

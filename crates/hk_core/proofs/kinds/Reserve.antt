@@ -20,7 +20,7 @@ use Rattle.hk_core.specs.Flights.{Hand, no_claim, to_reserve, to_link}
 use Rattle.hk_core.specs.Lines as l
 use Rattle.hk_core.specs.Colours.{Spaces, Shades}
 use Rattle.hk_core.specs.Facts as fact
-use Rattle.hk_core.specs.Facts.{IsMoved, IsSettled, HoldsClaim, HoldsRange}
+use Rattle.hk_core.specs.Facts.{IsSettled, HoldsClaim, HoldsRange}
 use Rattle.hk_core.specs.Lawful.{Facts}
 use Rattle.hk_core.proofs.Waiting.{linking_else, reserving_not_linking}
 use Rattle.hk_core.proofs.Update.{upd_cases}

@@ -25,7 +25,7 @@ use Rattle.hk_core.specs.Event.{fired_if, learnt}
 use Rattle.hk_core.specs.Step.{reference_size, claims, claim, reserve, load_event, load_took, load_entry_of, store_event, store_took, store_entry, event_at, event_of, took_at, took_of, effect_at, effect_of}
 use Rattle.hk_core.specs.View.{Words, Names, Contents, refs_at, nums_at, size_at, names_of, words_of, decoded}
 use Rattle.hk_core.specs.Flights as f
-use Rattle.hk_core.specs.Flights.{Hand, no_claim, to_reserve, to_link, hand_of_flight}
+use Rattle.hk_core.specs.Flights.{no_claim, to_reserve, hand_of_flight}
 use Rattle.hk_core.specs.Colours.{spaces_of, Shades, shades_of, Covers, IsGood}
 use Rattle.hk_core.specs.Facts.{HoldsClaim}
 use Rattle.hk_core.specs.Lawful.{Facts, FactsOf, hands_of}

@@ -22,7 +22,7 @@ use Rattle.hk_core.specs.State.{idle}
 use Rattle.hk_core.specs.Counts.{any_below}
 use Rattle.hk_core.specs.View.{Words, Names, Contents, shown}
 use Rattle.hk_core.specs.Flights as f
-use Rattle.hk_core.specs.Flights.{Hand, no_claim, to_reserve, to_link, hand_of_flight}
+use Rattle.hk_core.specs.Flights.{no_claim, to_reserve, to_link, hand_of_flight}
 use Rattle.hk_core.specs.Lines.{is_marking, hand_of_spot}
 use Rattle.hk_core.specs.Colours.{Shades, shades_of, held_by, kept_by, is_fresh, Apart, IsGood, IsNullOrGood, NamesNoWhite}
 use Rattle.hk_core.specs.Facts as fact

@@ -15,7 +15,7 @@ use Rattle.hk_core.specs.Flights as f
 use Rattle.hk_core.specs.Flights.{Hand}
 use Rattle.hk_core.specs.Colours.{Spaces, spaces_of, Shades, shades_of, IsNullOrGood, IsNullOrKept, NamesNoWhite, IsNullOrMarked}
 use Rattle.hk_core.specs.Facts as fact
-use Rattle.hk_core.specs.Facts.{IsSettled, FrameBehind}
+use Rattle.hk_core.specs.Facts.{IsSettled}
 use Rattle.hk_core.specs.Lawful.{Facts, FactsOf, hands_of}
 use Rattle.hk_core.proofs.Update.{upd_cases, upd2_cases}
 use Rattle.hk_core.proofs.kinds.Seats.{FlightFacts, FlightsFacts, NewsFacts, CallsFacts, Changes, facts_of_flight, facts_of_flights, news_upd, settled_upd, pass_upd, counted_kept, versions_kept, frames_counted_kept, frame_versions_kept}

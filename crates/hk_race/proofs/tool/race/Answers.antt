@@ -1,5 +1,5 @@
 -- What the parts answer is what the program answers.
-use Rattle.std.proofs.Common.{Err, None, refl, sym, ap, ◌∙◌, inl, inr}
+use Rattle.std.proofs.Common.{Err, None, refl, sym, ap, ◌∙◌, inl}
 use Rattle.hk_io.specs.declared.Status.TheVariants as status
 use Rattle.hk_front.specs.Refusals.{long_line}
 use Rattle.hk_front.specs.Input.{too_long}

@@ -1,48 +1,14 @@
 -- What follows for a sheet that can be read.
-use Rattle.std.proofs.Common.{◌≡◌, refl, subst, ℕ, ◌+◌, ◌%◌, ◌≤◌, Bool, true, false, not, ◌||◌, nat_lt, ◌==◌, ltb, eqb, Option, Some, None, List, map, length, All, if◌then◌else◌, arith}
-use Rattle.std.proofs.lemmas.Bool.Decides.{nat_tests}
+use Rattle.std.proofs.Common.{◌≡◌, subst, ℕ, ◌≤◌, List, map, All, arith}
 use Rattle.std.proofs.lemmas.List.Elements.{All-from_recursion, All-weaker, All-map}
 use Rattle.std.proofs.lemmas.Nat.{mul-le}
 use Rattle.hk_rta.specs.Demand.{IsTimed, IsLoad}
-use Rattle.hk_words.specs.declared.geometry.GeoError.{GeoError}
-use Rattle.hk_words.specs.declared.geometry.GeoError.TheVariants.{Odd, Small, Large, Reserve, Tasks, Board, Registers}
-use Rattle.hk_words.specs.Geometry.{Sizes, first_error}
 use Rattle.hk_sheet.specs.declared.sheet.HeapKeys.{HeapKeys}
 use Rattle.hk_sheet.specs.declared.sheet.High.{High}
 use Rattle.hk_sheet.specs.declared.sheet.Sheet.{Sheet}
-use Rattle.hk_sheet.specs.Faults.{sizes_of}
 use Rattle.hk_sheet.specs.Valid.{IsHigh, IsSheet}
 use Rattle.hk_admit.specs.Analysis.{timings_of, load_of, loads, attempt_events}
 use Rattle.hk_admit.specs.Ranges.{MOST_ATTEMPT, IsInRange}
-
--- the fifth test of a chain that ends without an error has failed
-fifth : (a b c d t : Bool) (rest : Option GeoError) → (if a then Some Odd else if b then Some Small else if c then Some Large else if d then Some Reserve else if t then Some Tasks else rest) ≡ None → t ≡ false
-fifth true b c d t rest h = absurd (cc)
-fifth false true c d t rest h = absurd (cc)
-fifth false false true d t rest h = absurd (cc)
-fifth false false false true t rest h = absurd (cc)
-fifth false false false false true rest h = absurd (cc)
-fifth false false false false false rest h = refl
-
-few_of : (n : ℕ) → (eqb n 0 || ltb 31 n) ≡ false → n ≤ 31
-few_of n h = grind (arith, nat_tests)
-
-few_in : (fields : ℕ) (s : Sizes) → first_error fields s ≡ None → s.high + s.low ≤ 31
-few_in fields s h =
-    few_of (s.high + s.low) (
-    fifth (not (s.live % 2 == 0) || not (s.alloc % 2 == 0))
-    (nat_lt s.live (1 + s.refs + s.nums) || nat_lt s.alloc 16)
-    (nat_lt 65536 s.live || nat_lt 65536 s.alloc)
-    (nat_lt s.alloc s.reserve)
-    (s.high + s.low == 0 || nat_lt 31 (s.high + s.low))
-    (if s.refs + s.nums == 0 || nat_lt fields (s.refs + s.nums) then Some Board
-    else if nat_lt s.registers 2 || nat_lt 32 s.registers then Some Registers
-    else None)
-    h)
-
--- there are at most 31 tasks
-pub few_tasks : (sheet : Sheet) → IsSheet sheet → length sheet.high + length sheet.low ≤ 31
-few_tasks sheet readable = let few = few_in sheet.heap.fields (sizes_of sheet) readable.geometry in omega arith
 
 -- the times and the words of each high task are in range
 in_range : (ticks : ℕ) (heap : HeapKeys) (task : High) → IsHigh ticks heap task → IsInRange task

@@ -30,10 +30,6 @@ swap_mapped f xs i j a b =
     ∙ sym (map-set f (set xs i (get_or xs j 0)) j (get_or xs i 0))
     ∙ ap (map f) (swap_is xs i j 0 a b)
 
-length_swap : (xs : List ℕ) (i j : ℕ) → i < length xs → j < length xs → length (swap xs i j) ≡ length xs
-length_swap xs i j a b =
-    ap length (sym (swap_is xs i j 0 a b)) ∙ length-set (set xs i (get_or xs j 0)) j (get_or xs i 0) ∙ length-set xs i (get_or xs j 0)
-
 -- what stands at the first place then
 swap_first : (xs : List ℕ) (i j : ℕ) → i < length xs → j < length xs → slice_index (swap xs i j) i ≡ slice_index xs j
 swap_first xs i j a b = ap (λ (l : List ℕ). slice_index l i) (sym (swap_is xs i j 0 a b)) ∙ by (cases_eq i j)
@@ -96,9 +92,6 @@ at_first old now standing order same is = record {
 module _ (old now : List High) (standing order : List ℕ) (done : ℕ) (are : AreStanding old now standing order done) where
   pub standing_length : length standing ≡ length old
   standing_length = order_length (length old) standing are.is_order
-
-  pub now_length : length now ≡ length old
-  now_length = ap length are.tasks ∙ length-map standing (high_at old) ∙ standing_length
 
   -- the next task of the order stands somewhere
   pub stands : IsOrder (length old) order → done < length old → Contains standing (slice_index order done)

@@ -7,7 +7,7 @@ use Rattle.hk_rta.specs.declared.Timing.{Timing}
 use Rattle.hk_rta.specs.Demand.{cost_at}
 use Rattle.std.specs.Prelude.{◌||◌, nat_lt, nat_le, false}
 use Rattle.std.proofs.lemmas.Bool.{or_parts, ltb-false}
-use Rattle.hk_ceiling.specs.Order.{last_of, AreInOrder, overlaps_with, overlaps, is_wrong, NoneWrong}
+use Rattle.hk_ceiling.specs.Order.{last_of, AreInOrder, overlaps_with, overlaps, NoneWrong}
 
 -- the last section of the task below n: a given earlier one is it, or comes before it
 record LastOf (sections : List TaskSection) (task n p : ℕ) : Type 0 where
@@ -62,9 +62,3 @@ in_order timings sections none = record { follow = λ q lt. by_last q (last_of s
     by_last : (q : ℕ) (o : Option ℕ) → overlaps_with sections q o ≡ false → MatchOption o (Unit {0}) (λ p. (section_at sections p).start + (section_at sections p).len ≤ (section_at sections q).start)
     by_last q None e = tt
     by_last q (Some p) e = ltb-false (section_at sections q).start ((section_at sections p).start + (section_at sections p).len) e
-
-pub none_more : (timings : List Timing) (sections : List TaskSection) (n : ℕ) → NoneWrong timings sections n → is_wrong timings sections n ≡ false → NoneWrong timings sections (n + 1)
-none_more timings sections n none here q lt = elim (cases_eq q n) [
-  | inl same ↦ ap (λ x. is_wrong timings sections x) same ∙ here
-  | inr other ↦ none q (omega (arith, lt, other))
-]

@@ -123,10 +123,6 @@ module _ (choice : List Ready → ℕ) (jobs : Jobs) where
   abbrev pub gets_it : ℕ → ℕ → ℕ → Bool
   gets_it t i j = is_some_at (alone_turn choice jobs (alone_had choice jobs t) t) i && is_some_at (earliest jobs (alone_had choice jobs t) t i) j
 
-  one_more : (t i j : ℕ) → gets_it t i j ≡ true → alone_had choice jobs (suc t) i j ≡ alone_had choice jobs t i j + 1
-  unfolding alone_had
-  one_more t i j e = rw e refl
-
   pub none_more : (t i j : ℕ) → gets_it t i j ≡ false → alone_had choice jobs (suc t) i j ≡ alone_had choice jobs t i j
   unfolding alone_had
   none_more t i j e = rw e (omega arith)

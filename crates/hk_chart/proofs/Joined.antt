@@ -1,11 +1,11 @@
 -- Texts that are handed to a sink one behind another.
-use Rattle.std.proofs.Common.{◌≡◌, ℕ, suc, ◌+◌, ◌<◌, ◌≤◌, List, [], ◌∷◌, ◌++◌, length, take, drop, get_or, Option, sym, ap, ◌∙◌, subst, arith, append-nil, take-append-drop, flat_map, append_assoc}
+use Rattle.std.proofs.Common.{◌≡◌, ℕ, suc, ◌+◌, ◌<◌, List, [], ◌∷◌, ◌++◌, length, take, drop, get_or, Option, sym, ap, ◌∙◌, subst, arith, append-nil, take-append-drop, flat_map, append_assoc}
 use Rattle.std.proofs.lemmas.List.{take_all, drop_all}
 use Rattle.std.specs.Io.KnownBytes.{Appends}
 use Rattle.std.proofs.lemmas.List.Concat.{flat_map-append}
 use Rattle.std.proofs.Math.Seq.{take-suc}
 use Rattle.hk_io.specs.Bytes.{AppendsPrefix, AppendsFront}
-use Rattle.hk_io.proofs.BytesLemmas.{AppendsFront-none, AppendsPrefix-append, AppendsFront-trans, AppendsPrefix-behind, AppendsFront-behind, Appends-all, AppendsPrefix-rest}
+use Rattle.hk_io.proofs.BytesLemmas.{AppendsPrefix-append, AppendsFront-trans, AppendsPrefix-behind, AppendsFront-behind, Appends-all, AppendsPrefix-rest}
 
 module _ (a b : Option (List ℕ)) (waiting line rest : List ℕ) where
   -- what is a first part of the first part of a text is a first part of the text
@@ -57,14 +57,6 @@ module _ {X : Type 0} (f : X → List ℕ) (xs : List X) where
         subst (λ x. AppendsPrefix a c (waited ++ x)) (texts_whole (i + 1))
         (prefix_of_first a c waited (first_texts (i + 1)) (flat_map f (drop (i + 1) xs))
         (subst (λ x. AppendsPrefix a c (waited ++ x)) (texts_more i d text within is) (prefix_of_both a b c waited waiting (first_texts i) text first second)))
-
-  -- no text was added yet
-  pub no_front : (a : Option (List ℕ)) (waited : List ℕ) → AppendsFront a a (waited ++ []) waited
-  no_front a waited = subst (λ x. AppendsFront a a x waited) (sym (append-nil waited)) (AppendsFront-none a waited)
-
-  -- all were added
-  pub all_texts : (i : ℕ) → length xs ≤ i → first_texts i ≡ flat_map f xs
-  all_texts i all = ap (flat_map f) (take_all i xs all)
 
 module _ (a b c : Option (List ℕ)) (waited text shown : List ℕ) (same : shown ≡ text) (first : Appends a b waited) where
   -- what waited was taken, and a text behind it

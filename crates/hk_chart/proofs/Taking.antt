@@ -1,8 +1,7 @@
 -- Bytes that are taken one after another.
-use Rattle.std.proofs.Common.{◌≡◌, ℕ, zero, suc, ◌+◌, ◌<◌, ◌≤◌, List, [], ◌∷◌, ◌++◌, length, drop, get_or, Option, Some, None, Result, Ok, Err, refl, sym, ap, ◌∙◌, subst, arith, append_assoc}
+use Rattle.std.proofs.Common.{◌≡◌, ℕ, zero, suc, ◌+◌, ◌<◌, List, [], ◌∷◌, ◌++◌, length, drop, get_or, Option, Some, None, Result, Ok, Err, refl, ap, ◌∙◌, subst, arith, append_assoc}
 use Rattle.std.specs.Prelude.{IfOk}
 use Rattle.std.proofs.KnownBytes.{Consumes-trans}
-use Rattle.std.proofs.lemmas.List.{drop_all}
 use Rattle.std.specs.Io.KnownBytes.{Consumes, IsAtEnd}
 use Rattle.hk_chart.specs.declared.chart.Chart.{Chart}
 use Rattle.hk_chart.specs.declared.reader.Reader.{Reader}
@@ -63,19 +62,11 @@ module _ (w : Window) where
     pub stopped : (why : Stop) → after_byte w r (get_or piece i 0) ≡ Err why → (rest : List ℕ) → read_on w first (piece ++ rest) ≡ Err why
     stopped why at rest = at_byte rest ∙ stops r why (get_or piece i 0) (drop (i + 1) piece ++ rest) at
 
-  -- all of them
-  pub all_taken : (first r : Reader) (piece : List ℕ) (i : ℕ) → length piece ≤ i
-      → ((rest : List ℕ) → read_on w first (piece ++ rest) ≡ read_on w r (drop i piece ++ rest)) → (rest : List ℕ) → read_on w first (piece ++ rest) ≡ read_on w r rest
-  all_taken first r piece i all so_far rest = so_far rest ∙ ap (λ (l : List ℕ). read_on w r (l ++ rest)) (drop_all i piece all)
-
   -- what was read so far
   pub record Comes (before now : Option (List ℕ)) (r : Reader) : Type 0 where
     pub front : List ℕ
     pub consumed : Consumes before now front
     pub goes : (rest : List ℕ) → read_on w opening_reader (front ++ rest) ≡ read_on w r rest
-
-  pub comes_first : (before : Option (List ℕ)) (r : Reader) → r ≡ opening_reader → Consumes before before [] → Comes before before r
-  comes_first before r is none = record { front = []; consumed = none; goes = λ rest. ap (λ (x : Reader). read_on w x rest) (sym is) }
 
   pub comes_more : (before mid now : Option (List ℕ)) (r next : Reader) (piece : List ℕ) → Comes before mid r → Consumes mid now piece → HasTaken w r piece next None → Comes before now next
   comes_more before mid now r next piece so_far more taken = record {

@@ -11,7 +11,7 @@ use Rattle.hk_core.specs.Collect.{next_collected, work_by_collector}
 use Rattle.hk_core.specs.Lawful.{Lawful}
 use Rattle.hk_core.specs.Run.{Running, act}
 use Rattle.hk_collect.specs.Cycles.{IsWorked}
-use Rattle.hk_collect.specs.Measure.{NoneInFlight, WaitsForNobody}
+use Rattle.hk_collect.specs.Measure.{NoneInFlight}
 use Rattle.hk_collect.specs.Pays.{HeapKept, ObjectsWithin, IsAttemptBound, Pays, met_still}
 use Rattle.hk_collect.specs.Taken.{used_in}
 use Rattle.hk_collect.proofs.Cycles.{event_works}
@@ -56,9 +56,6 @@ module _ (rate attempt most : ℕ) (m : Moment) (met_now : Bool) (h : HeapKept r
   -- what the tick pays
   pub event_pays : Pays rate attempt (core_of m) (history_of m) m.useful m.debt met_now
   event_pays = collector_pays rate most attempt (core_of m) (history_of m) m.useful m.debt met_now h bound sizes none (omega (arith, owed)) fits goes_on
-
-  pub event_waits_for_nobody : WaitsForNobody (work_by_collector (core_of m))
-  event_waits_for_nobody = event_pays.waits_for_nobody
 
   pub heap_after_event : let n = after_event m in HeapKept rate (core_of n) (history_of n) n.useful n.debt (used_at n) (met_still (core_of m) met_now)
   unfolding after_event

@@ -1,9 +1,8 @@
 -- The courses after a tick of a task: that of its own seat is the one that the tick leads to, and the others are as they were.
-use Rattle.std.proofs.Common.{◌≡◌, ◌≢◌, ℕ, ◌<◌, Bool, true, false, length, refl, ap, length-set, get_or-set_same, get_or-set_other}
+use Rattle.std.proofs.Common.{◌≡◌, ◌≢◌, ℕ, ◌<◌, Bool, true, false, length, refl, length-set, get_or-set_same, get_or-set_other}
 use Rattle.std.specs.Prelude.{if◌then◌else◌}
 use Rattle.hk_words.specs.declared.call.Reply.{Reply}
 use Rattle.hk_script.specs.declared.walk.Walk.{Walk}
-use Rattle.hk_script.specs.Walks.{need_of}
 use Rattle.hk_sheet.specs.declared.sheet.Sheet.{Sheet}
 use Rattle.hk_dispatch.specs.declared.operation.Left.{Left}
 use Rattle.hk_dispatch.specs.declared.operation.Left.TheVariants as left
@@ -38,9 +37,6 @@ module _ (sheet : Sheet) (m : Moment) (tick seat : ℕ) where
   pub as_many_courses : length (after_task sheet m tick seat).courses ≡ length m.courses
   unfolding after_task
   as_many_courses = length-set m.courses seat course_now
-
-  pub other_need : (other : ℕ) → other ≢ seat → need_at sheet (after_task sheet m tick seat) other ≡ need_at sheet m other
-  other_need other differs = ap (λ (c : Course). need_of (task_at sheet other).script c.walk) (other_course other differs)
 
 -- past a statement, or at its end, a job has had no tick of what comes next
 pub passed_spent : (task : Task) (course : Course) (tick words : ℕ) (walk : Walk) → (passed task course tick words walk).spent ≡ 0

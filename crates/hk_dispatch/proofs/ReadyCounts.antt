@@ -51,12 +51,6 @@ none_at_first : (task : High) → ready_before task 0 ≡ 0
 unfolding ready_before
 none_at_first task = refl
 
-pub come_few : (task : High) (before tick : ℕ) → come task before tick ≤ 1
-come_few task before tick = elim (cases_Bool (is_by (ready_of task before) tick)) [
-  | inl yes' ↦ omega (arith, come_one task before tick yes')
-  | inr no' ↦ omega (arith, come_none task before tick no')
-]
-
 -- a job below the count is one
 pub below_ready : (task : High) (t job : ℕ) → job < ready_before task t → ReadyBy task t job
 below_ready task zero job lt = absurd (omega (arith, lt, none_at_first task))

@@ -1,5 +1,5 @@
 -- How the tick of a job leaves it: with a reply that fits what the job wanted, and that its walk takes.
-use Rattle.std.proofs.Common.{◌≡◌, ℕ, zero, suc, ◌+◌, ◌^◌, ◌<◌, Bool, true, false, List, inl, inr, refl, sym, ◌∙◌, ap, subst, arith, Option, Some, None}
+use Rattle.std.proofs.Common.{◌≡◌, ℕ, zero, suc, ◌+◌, ◌<◌, Bool, true, false, List, inl, inr, refl, sym, ◌∙◌, ap, subst, arith, Option, Some, None}
 use Rattle.std.specs.Prelude.{slice_get, nat_lt, ◌==◌, if◌then◌else◌}
 use Rattle.hk_words.specs.declared.call.Call.{Call}
 use Rattle.hk_words.specs.declared.call.Call.TheVariants as call
@@ -25,11 +25,11 @@ use Rattle.hk_script.specs.declared.statement.Test.TheVariants as test
 use Rattle.hk_script.specs.declared.walk.Need.{Need}
 use Rattle.hk_script.specs.declared.walk.Need.TheVariants as need
 use Rattle.hk_script.specs.declared.walk.Walk.{Walk}
-use Rattle.hk_script.specs.Walks.{moved, link_at, walk_after, IsAnswer, Answers}
+use Rattle.hk_script.specs.Walks.{moved, link_at, walk_after, IsAnswer}
 use Rattle.hk_dispatch.specs.declared.operation.Left.TheVariants as left
 use Rattle.hk_dispatch.specs.InStep.{SeatInStep, aside, under_way}
 use Rattle.hk_dispatch.specs.Ticks.{reply_in, left_in, leaves_first, leaves_on, left_by, asked}
-use Rattle.hk_dispatch.specs.TaskRuns.{Replies, LeavesBy, heard_of}
+use Rattle.hk_dispatch.specs.TaskRuns.{LeavesBy, heard_of}
 use Rattle.hk_dispatch.proofs.Courses.{by_test}
 
 -- WHAT A WALK HEARS
@@ -69,41 +69,6 @@ heard_walk s w reply.Yes = refl
 heard_walk s w reply.No = refl
 heard_walk s w reply.Nil = refl
 heard_walk s w reply.Field = refl
-
--- what it hears fits what it wanted, where a number fits 64 bits
-abbrev FitsWord : Reply → Type 0
-FitsWord r = (n : ℕ) → r ≡ reply.Num n → n < 2 ^ 64
-
-heard_unit : (r : Reply) → r ≡ reply.Unit → heard_of r ≡ reply.Unit
-heard_unit r e = ap heard_of e
-
-heard_call : (c : Call) (r : Reply) → Replies (need.Heap c) r → FitsWord r → Answers (need.Heap c) (heard_of r)
-heard_call (call.Get reg field) r h few = (h.0, few h.0 h.1, ap heard_of h.1)
-heard_call (call.New dest shape) r (inl e) few = heard_unit r e
-heard_call (call.New dest shape) r (inr e) few = ap heard_of e
-heard_call (call.Put reg field value) r h few = heard_unit r h
-heard_call (call.Load dest reg field) r h few = heard_unit r h
-heard_call (call.Store reg field from) r h few = heard_unit r h
-heard_call (call.Move dest from) r h few = heard_unit r h
-heard_call (call.Clear dest) r h few = heard_unit r h
-heard_call (call.Same a b) r h few = heard_unit r h
-heard_call (call.IsNull reg) r h few = heard_unit r h
-
-heard_answer : (r : Reply) → IsAnswer r → IsAnswer (heard_of r)
-heard_answer reply.Yes h = tt
-heard_answer reply.No h = tt
-heard_answer reply.Unit h = absurd h
-heard_answer (reply.Num n) h = absurd h
-heard_answer reply.Nil h = absurd h
-heard_answer reply.Field h = absurd h
-heard_answer reply.Full h = absurd h
-
-pub heard_fits : (n : Need) (r : Reply) → Replies n r → FitsWord r → Answers n (heard_of r)
-heard_fits (need.Heap c) r h few = heard_call c r h few
-heard_fits (need.Ask c) r h few = heard_answer r h
-heard_fits (need.Work n) r h few = heard_unit r h
-heard_fits need.Local r h few = heard_unit r h
-heard_fits (need.Out value) r h few = heard_unit r h
 
 -- HOW A TICK LEAVES A JOB
 

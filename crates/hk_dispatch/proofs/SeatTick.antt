@@ -7,7 +7,6 @@ use Rattle.hk_words.specs.declared.call.Call.TheVariants as call
 use Rattle.hk_words.specs.declared.geometry.Geometry.{Geometry}
 use Rattle.hk_words.specs.Bounds.{places_of}
 use Rattle.hk_words.specs.Calls.{RegistersFit}
-use Rattle.hk_words.specs.Geometry.{tasks}
 use Rattle.hk_model.specs.History.{is_question}
 use Rattle.hk_core.specs.State.{State, flight_of}
 use Rattle.hk_script.specs.declared.statement.Statement.{Statement}
@@ -66,12 +65,6 @@ module _ (sheet : Sheet) (m : Moment) (tick : ℕ) (may : MayGo sheet m tick) (s
   wanted_is = λ i. need_of (task_is i).script (shows.walk i)
 
   -- WHAT IT ASKS
-
-  pub seat_within : seat < tasks heap.geometry
-  seat_within = subst (λ k. seat < k) (sym (ap (λ (c : State). tasks c.geometry) heap_is ∙ may.seats)) below
-
-  pub arrival_is : run.arrival ≡ task.arrival run.job
-  arrival_is = shows.arrival ∙ (λ i. (sym task_is i).arrival (sym (shows.job) i))
 
   pub course_kept : CourseKept task (shown run 0) tick
   course_kept =

@@ -68,22 +68,3 @@ pub record AttemptFresh (sheet : Sheet) (m : Moment) (met_now : Bool) (t : ℕ) 
   pub low : in_attempt (core_of m).spot.line ≡ true → met_now ≡ false → first_low sheet (in_mid_course sheet m) ≡ None
 
 -- THE WHOLE
-
-pub record Kept (g : Geometry) (choice : List Ready → ℕ) (sheet : Sheet) (attempt t : ℕ) (m : Moment) : Type 0 where
-  pub geometry : (core_of m).geometry ≡ g
-  pub heap : HeapKept sheet.heap.rate (core_of m) (history_of m) m.useful m.debt (used_at m) (met g choice sheet t)
-  pub run : (actions : List Action) × (m.trace ≡ traced g actions)
-  pub none_late : NoneLate m.trace
-  pub objects : ObjectsWithin g (history_of m) (largest_object sheet)
-  pub worked : IsWorked g (core_of m).spot m.events
-  pub events_few : m.events ≤ t
-  pub begun : (seat : ℕ) → slice_index (core_of m).begun seat ≤ t
-  pub courses : length m.courses ≡ length (tasks_of sheet)
-  pub course : (seat : ℕ) → seat < length (tasks_of sheet) → CourseKept (task_at sheet seat) (course_at m seat) t
-  pub declared : (seat : ℕ) → seat < length sheet.high
-      → KeepsDeclared (high_at sheet seat).script (course_at m seat) (high_at sheet seat).timing.cost (high_at sheet seat).words
-  pub in_step : (seat : ℕ) → seat < length (tasks_of sheet) → SeatInStep (flight_of (core_of m).flights seat) (need_at sheet m seat) (course_at m seat).spent
-  pub one_low : OneLow sheet m
-  pub fresh_attempt : AttemptFresh sheet m (met g choice sheet t) t
-  pub account : m.events + m.debt ≡ sheet.heap.rate * m.taken + m.lost
-  pub no_debt : some_makes sheet ≡ false → m.debt ≡ 0

@@ -1,5 +1,5 @@
 -- Words of a line that are written one behind another.
-use Rattle.std.proofs.Common.{◌≡◌, ℕ, suc, ◌+◌, ◌<◌, ◌≤◌, Bool, true, false, ◌||◌, List, [], ◌∷◌, ◌++◌, length, take, drop, get_or, fold, Option, Result, OnOk, OnErr, refl, sym, ap, ◌∙◌, subst, arith, append_assoc, append-nil, take-append-drop}
+use Rattle.std.proofs.Common.{◌≡◌, ℕ, suc, ◌+◌, ◌<◌, ◌≤◌, Bool, true, false, List, [], ◌∷◌, ◌++◌, length, take, drop, get_or, fold, Option, Result, OnOk, OnErr, refl, sym, ap, ◌∙◌, subst, arith, append_assoc, append-nil, take-append-drop}
 use Rattle.std.proofs.Math.Seq.{take-suc}
 use Rattle.std.proofs.lemmas.List.{take_all, map-append}
 use Rattle.std.specs.Io.KnownBytes.{Appends}
@@ -29,10 +29,6 @@ has_begun (first ∷ rest) = true
 pub with_word_is : (so_far word : List ℕ) → with_word so_far word ≡ so_far ++ added (has_begun so_far) word
 with_word_is [] word = refl
 with_word_is (first ∷ rest) word = refl
-
-begun_more : (so_far word : List ℕ) → has_begun (with_word so_far word) ≡ (has_begun so_far || has_begun word)
-begun_more [] word = refl
-begun_more (first ∷ rest) word = refl
 
 -- the line of the first words
 abbrev pub first_words : List (Bor (List ℕ)) → ℕ → List ℕ
@@ -68,12 +64,6 @@ words_more words n d within =
     ∙ sym (fold_last [] (shown (take n words)) w.now)
     ∙ ap (fold with_word []) (sym (map-append (λ v. v.now) (take n words) (w ∷ [])) ∙ ap shown (sym (take-suc words n d within)))
     ∙ ap (first_words words) s
-
-pub begun_words : (words : List (Bor (List ℕ))) (n : ℕ) (d : Bor (List ℕ)) → n < length words
-    → has_begun (first_words words (n + 1)) ≡ (has_begun (first_words words n) || has_begun (get_or words n d).now)
-begun_words words n d within =
-    let w = (get_or words n d).now in
-    ap has_begun (sym (words_more words n d within) ∙ sym (with_word_is (first_words words n) w)) ∙ begun_more (first_words words n) w
 
 -- the line begins with its first words
 pub words_begin : (words : List (Bor (List ℕ))) (n : ℕ) → (rest : List ℕ) × (first_words words n ++ rest ≡ line (shown words))

@@ -1,23 +1,8 @@
 -- Digits and words of a line.
-use Rattle.std.proofs.Common.{◌≡◌, ℕ, ◌+◌, ◌/◌, ◌%◌, ◌^◌, ◌<◌, ◌≤◌, List, [], ◌∷◌, ◌++◌, length, sym, ap, ◌∙◌, arith, append_assoc, length-append}
+use Rattle.std.proofs.Common.{◌≡◌, ℕ, ◌+◌, ◌^◌, ◌<◌, ◌≤◌, List, [], ◌∷◌, length, arith, length-append}
 use Rattle.std.specs.Fmt.{decimal}
-use Rattle.std.proofs.lemmas.Fmt.{decimal_digit, decimal_step, length-decimal-le}
+use Rattle.std.proofs.lemmas.Fmt.{length-decimal-le}
 use Rattle.hk_io.specs.Line.{with_word, with_number, with_end}
-
--- the last digit behind the digits before it
-pub append-decimal_step : (line : List ℕ) (n : ℕ) → n < 2 ^ 64 → 10 ≤ n → (line ++ decimal (n / 10)) ++ (48 + n % 10) ∷ [] ≡ line ++ decimal n
-append-decimal_step line n fits long =
-    append_assoc line (decimal (n / 10)) ((48 + n % 10) ∷ []) ∙ ap (λ w. line ++ w) (sym (decimal_step n long fits))
-
--- a number of one digit
-pub append-decimal_digit : (line : List ℕ) (n : ℕ) → n < 10 → line ++ (48 + n % 10) ∷ [] ≡ line ++ decimal n
-append-decimal_digit line n short =
-    let same : n % 10 ≡ n = omega arith in
-    ap (λ d. line ++ (48 + d) ∷ []) same ∙ ap (λ w. line ++ w) (sym (decimal_digit n short))
-
--- one digit fewer
-pub length-decimal_step : (n : ℕ) → n < 2 ^ 64 → 10 ≤ n → length (decimal n) ≡ length (decimal (n / 10)) + 1
-length-decimal_step n fits long = ap length (decimal_step n long fits) ∙ length-append (decimal (n / 10)) ((48 + n % 10) ∷ [])
 
 -- a number of 64 bits has at most 20 digits
 pub length-decimal : (n : ℕ) → n < 2 ^ 64 → length (decimal n) ≤ 20

@@ -75,7 +75,3 @@ pick-le false x y h = omega arith
 pub pick-le-self : (b : Bool) (x : ℕ) → pick b x ≤ x
 pick-le-self true x = omega arith
 pick-le-self false x = omega arith
-
-pub pick-le-times : (b : Bool) (x c : ℕ) → x ≤ c → pick b x ≤ pick b 1 * c
-pick-le-times true x c h = omega arith
-pick-le-times false x c h = omega arith

@@ -71,10 +71,6 @@ jobs_more h sheet jobs job each is seat d below = elim (cases_lt seat (length jo
       subst (IsJobOf h sheet seat) (sym (at_last jobs job seat d last)) (subst (λ (n : ℕ). IsJobOf h sheet n job) (sym last) is)
 ]
 
--- WHAT COMES BACK
-pub parts_none : Parts [] [] []
-parts_none = record { passes_are = refl; told_are = refl; each = λ seat d p own below. absurd (omega (arith, below)) }
-
 pub parts_more : (ended : List Ended) (passes : List Pass) (all : List Progress) (one : Ended) (own : Progress) → Parts ended passes all → one.told ≡ Some own
     → Parts (ended ++ one ∷ []) (passes ++ one.pass ∷ []) (all ++ own ∷ [])
 parts_more ended passes all one own parts is =

@@ -1,5 +1,5 @@
 -- One statement of a worker is one statement of the course.
-use Rattle.std.proofs.Common.{◌≡◌, ◌⊎◌, ℕ, ◌<◌, ◌≤◌, ◌+◌, Bool, true, false, List, [], ◌∷◌, ◌++◌, length, refl, sym, ◌∙◌, ap, subst, arith, inl, inr, Option, Some, None, append-nil, is_some, is_none, zero, suc, IsSomeAnd, append_assoc, ◌-◌, ◌*◌, eq-eqb, filter}
+use Rattle.std.proofs.Common.{◌≡◌, ◌⊎◌, ℕ, ◌≤◌, ◌+◌, Bool, true, false, List, [], ◌∷◌, ◌++◌, length, refl, sym, ◌∙◌, ap, subst, arith, inl, inr, Option, Some, None, append-nil, is_some, is_none, zero, suc, IsSomeAnd, append_assoc, ◌-◌, ◌*◌, eq-eqb, filter}
 use Rattle.std.specs.Prelude.{if◌then◌else◌}
 use Rattle.hk_words.specs.declared.call.Call.{Call}
 use Rattle.hk_words.specs.declared.call.Call.TheVariants as call
@@ -180,9 +180,6 @@ goes_then start seat f g s0 s1 s2 o0 o1 o2 p q = record {
       ∙ q.goes later;
 }
 
-pub goes_none : (start : Heap) (seat : ℕ) (s : History) (o : Progress) → Goes start seat (λ c. c) s s o o
-goes_none start seat s o = record { fresh = []; more = sym (append-nil (turns start seat s)); goes = λ later. refl }
-
 -- a worker that has stopped, or is at the end of its script, stays as it is
 pub stays : (script : List Statement) (seat : ℕ) (c : Course) (n : ℕ) → stepped script seat c ≡ c → times n (stepped script seat) c ≡ c
 stays script seat c zero is = refl
@@ -306,12 +303,6 @@ goes_next_job start seat script i s0 s1 s2 o0 o1 o2 p q =
 
 pub one_more_cost : (i cost : ℕ) → (i + 1) * cost ≡ i * cost + cost
 one_more_cost i cost = omega arith
-
-pub within_cost : (i jobs cost : ℕ) → i < jobs → i * cost + cost ≤ jobs * cost
-within_cost i jobs cost l =
-    let e : jobs ≡ (i + 1) + (jobs - (i + 1)) = omega (arith, l) in
-    let d : jobs * cost ≡ ((i + 1) + (jobs - (i + 1))) * cost = ap (λ (n : ℕ). n * cost) e in
-    omega (arith, d, one_more_cost i cost)
 
 pub task_told_from : (start : Heap) (seat : ℕ) (script : List Statement) (jobs done : ℕ) (s0 seen : History) (o0 o1 : Progress) → Fresh o0 → done ≤ jobs
     → (done ≡ jobs) ⊎ (is_some o1.full ≡ true)

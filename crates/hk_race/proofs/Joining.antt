@@ -17,7 +17,7 @@ use Rattle.hk_core.specs.declared.outcome.Outcome.TheVariants.{Done, Full}
 use Rattle.hk_core.specs.declared.outcome.Fault.{Fault}
 use Rattle.hk_core.specs.declared.outcome.Fault.TheVariants as fault
 use Rattle.hk_core.specs.Begin.{most_calls, has_field}
-use Rattle.hk_core.specs.Faults.{FindsField, IsPlainFault, TellsPlain}
+use Rattle.hk_core.specs.Faults.{FindsField, TellsPlain}
 use Rattle.hk_core.specs.Replied.{outcome_of}
 use Rattle.hk_script.specs.Walks.{AnswersCall}
 use Rattle.hk_table.specs.Knows.{PassView}
@@ -106,22 +106,6 @@ tells_full g p q c words stands idle question fit called =
     let saw = called_saw g p q c (Full words) stands idle question fit called in
     let says = says_full called.entry words called.says in
     record { saw = saw.0; full = ap (λ (e : Entry). is_full e.reply) saw.1 ∙ says.0; words_are = ap (λ (e : Entry). e.number) saw.1 ∙ says.1 }
-
-pub tells_nil : (g : Geometry) (p q : PassView) (c : Call) → q ≡ p → Refuses g p c error.Nil → Tells (opening_of g) p.seat c p.seen q.seen said.Nil
-tells_nil g p q c same refuses = (ap (λ (v : PassView). v.seen) same, by_why refuses.why refuses.is refuses.plain)
-  where
-    by_why : (why : Fault) → error.Nil ≡ error_of why → IsPlainFault why (reply_of (after (opening_of g) p.seen) p.seat c) → reply_of (after (opening_of g) p.seen) p.seat c ≡ reply.Nil
-    by_why fault.Nil at plain = plain
-    by_why fault.Field at plain = absurd (cc)
-    by_why fault.Spent at plain = absurd (cc)
-
-pub tells_field : (g : Geometry) (p q : PassView) (c : Call) → q ≡ p → Refuses g p c error.Field → Tells (opening_of g) p.seat c p.seen q.seen said.Field
-tells_field g p q c same refuses = (ap (λ (v : PassView). v.seen) same, by_why refuses.why refuses.is refuses.plain)
-  where
-    by_why : (why : Fault) → error.Field ≡ error_of why → IsPlainFault why (reply_of (after (opening_of g) p.seen) p.seat c) → reply_of (after (opening_of g) p.seen) p.seat c ≡ reply.Field
-    by_why fault.Nil at plain = absurd (cc)
-    by_why fault.Field at plain = plain
-    by_why fault.Spent at plain = absurd (cc)
 
 -- a pass with calls left isn't refused for having begun too many
 pub not_spent : (g : Geometry) (p : PassView) (c : Call) → p.begun < most_calls → Refuses g p c error.Spent → ⊥

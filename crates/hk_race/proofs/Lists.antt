@@ -22,8 +22,3 @@ pub item : {A : Type 0} (xs : List A) (i : ℕ) → i < length xs → A
 item [] i below = absurd (omega (arith, below))
 item (x ∷ xs) zero below = x
 item (x ∷ xs) (suc i) below = item xs i (omega (arith, below))
-
-pub any_default : {A : Type 0} (xs : List A) (i : ℕ) (d e : A) → i < length xs → slice_index_or xs i d ≡ slice_index_or xs i e
-any_default [] i d e below = absurd (omega (arith, below))
-any_default (x ∷ xs) zero d e below = refl
-any_default (x ∷ xs) (suc i) d e below = any_default xs i d e (omega (arith, below))

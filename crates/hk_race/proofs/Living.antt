@@ -1,12 +1,12 @@
 -- What the last event of the collector answers, as its turns go on.
-use Rattle.std.proofs.Common.{◌≡◌, ℕ, suc, zero, ◌+◌, ◌<◌, ◌≤◌, List, [], ◌∷◌, ◌++◌, replicate, refl, sym, ◌∙◌, ap, subst, arith, append-nil, append_assoc, None, true, false, IsNone, IfSome, min}
+use Rattle.std.proofs.Common.{◌≡◌, ℕ, suc, zero, ◌+◌, ◌<◌, ◌≤◌, List, [], ◌∷◌, ◌++◌, replicate, refl, sym, ◌∙◌, ap, subst, arith, append-nil, append_assoc, None, false, IfSome, min}
 use Rattle.std.proofs.Math.Nat.{min-le_left}
 use Rattle.hk_words.specs.declared.geometry.Geometry.{Geometry}
 use Rattle.hk_core.specs.declared.spot.Work.{Work}
 use Rattle.hk_core.specs.declared.spot.Work.TheVariants as work
 use Rattle.hk_core.specs.Run.{Action, collect, run_from_opening}
 use Rattle.hk_collect.proofs.Running.{geometry_from_opening}
-use Rattle.hk_collect.specs.Works.{HasCauses, IsWorn, FindsLiveOver}
+use Rattle.hk_collect.specs.Works.{HasCauses, FindsLiveOver}
 use Rattle.hk_core.specs.State.{opening_spot}
 use Rattle.hk_table.specs.Knows.{KeeperView}
 use Rattle.hk_table.specs.Seats.{keeper_from}
@@ -48,17 +48,6 @@ pub live_first : (g : Geometry) → live_of g [] ≡ None
 unfolding live_of answers
 live_first g = refl
 
--- where there is no further cycle there were many
-pub worn_late : (g : Geometry) (k k' : KeeperView) (budget events : ℕ) → (run_from_opening g k'.log).core.spot ≡ k'.spot → Collected g k budget work.Worn events k' → 3 ≤ k'.spot.cycle
-worn_late g k k' budget events stands c = by_answer c.answered
-  where
-    late : HasCauses (run_from_opening g (k.log ++ c.later)).core work.Worn → 3 ≤ k'.spot.cycle
-    late causes =
-        let at : (run_from_opening g (k.log ++ c.later)).core.spot ≡ k'.spot = ap (λ l. (run_from_opening g l).core.spot) (sym c.log) ∙ stands in
-        let cycle : (run_from_opening g (k.log ++ c.later)).core.spot.cycle ≡ k'.spot.cycle = ap (λ s. s.cycle) at in
-        let worn' : IsWorn (run_from_opening g (k.log ++ c.later)).core = causes.worn.0 refl in
-        omega (arith, cycle, worn'.last)
-
     by_answer : Answers g k.log c.later budget events work.Worn → 3 ≤ k'.spot.cycle
     by_answer (useful is all says) = absurd (cc)
     by_answer (stopped other not-worn few count says last) = absurd (not-worn refl)
@@ -75,18 +64,6 @@ goes_on_unlive (work.Unlinked place) on = refl
 goes_on_unlive (work.Grey n) on = refl
 goes_on_unlive (work.LiveOver words) on = absurd (cc)
 goes_on_unlive work.Worn on = absurd (cc)
-
-pub last_late : (g : Geometry) (k k' : KeeperView) (budget events : ℕ) (answer : Work) → (run_from_opening g k'.log).core.spot ≡ k'.spot → Collected g k budget answer events k'
-    → is_last answer ≡ true → IsNone (live_in answer) → 3 ≤ k'.spot.cycle
-last_late g k k' budget events work.Useful stands c last none = absurd (cc)
-last_late g k k' budget events work.Flipped stands c last none = absurd (cc)
-last_late g k k' budget events (work.Lost n) stands c last none = absurd (cc)
-last_late g k k' budget events (work.BusyFrame seat) stands c last none = absurd (cc)
-last_late g k k' budget events (work.BusyObject n) stands c last none = absurd (cc)
-last_late g k k' budget events (work.Unlinked place) stands c last none = absurd (cc)
-last_late g k k' budget events (work.Grey n) stands c last none = absurd (cc)
-last_late g k k' budget events (work.LiveOver words) stands c last none = absurd (cc)
-last_late g k k' budget events work.Worn stands c last none = worn_late g k k' budget events stands c
 
 -- the first cycle
 pub first_cycle : (k : KeeperView) (made : ℕ) → k ≡ keeper_from made → 1 ≤ k.spot.cycle

@@ -8,7 +8,7 @@ use Rattle.hk_sheet.specs.declared.sheet.High.{High}
 use Rattle.hk_sheet.specs.declared.sheet.Low.{Low}
 use Rattle.hk_sheet.specs.declared.sheet.Sheet.{Sheet}
 use Rattle.hk_sheet.specs.Faults.{is_name}
-use Rattle.hk_sheet.specs.declared.sheet.TheConstants.{MAX_TICKS, MAX_NAME}
+use Rattle.hk_sheet.specs.declared.sheet.TheConstants.{MAX_NAME}
 use Rattle.hk_sheet.specs.Valid.{IsHigh, IsLow, IsSheet, AreArrivals}
 use Rattle.hk_race.specs.declared.desk.TheConstants.{MOST_CALLS}
 use Rattle.hk_race.specs.declared.tasks.Held.{Held}
@@ -78,9 +78,6 @@ pub record TaskFits (sheet : Sheet) (seat : ℕ) (x : Task) : Type 0 where
   pub short : is_long x ≡ false
   pub name : length x.name ≤ MAX_NAME
   pub script : RunsOn sheet.heap.registers x.script
-
-pub ticks_few : (sheet : Sheet) (ticks : ℕ) → IsSheet sheet → ticks ≡ sheet.ticks → ticks ≤ MAX_TICKS
-ticks_few sheet ticks valid is = omega (arith, is, valid.ticks.at_most)
 
 pub high_valid : (sheet : Sheet) (seat : ℕ) (task : High) → IsSheet sheet → seat < length sheet.high → ((d : High) → slice_index_or sheet.high seat d ≡ task) → IsHigh sheet.ticks sheet.heap task
 high_valid sheet seat task valid below at = subst (IsHigh sheet.ticks sheet.heap) (at task) (each_at (IsHigh sheet.ticks sheet.heap) sheet.high seat task valid.high below)

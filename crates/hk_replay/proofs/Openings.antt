@@ -22,9 +22,6 @@ heading_pieces h =
     Exactly (codes "heap") ∷ Numeral h.live ∷ Numeral h.alloc ∷ Numeral h.reserve ∷ Numeral h.high ∷ Numeral h.low
     ∷ Numeral h.refs ∷ Numeral h.nums ∷ []
 
-Spelled : List (List ℕ) → Heading → Type 0
-Spelled ws h = AllZip SpellsPiece ws (heading_pieces h)
-
 heading_by_takes : (name a b c d e f g : List ℕ) (h : Heading) → name ≡ codes "heap" → heading_by a b c d e f g ≡ Some h → AllZip SpellsPiece (name ∷ a ∷ b ∷ c ∷ d ∷ e ∷ f ∷ g ∷ []) (heading_pieces h)
 unfolding heading_by
 heading_by_takes name a b c d e f g h n is =

@@ -8,7 +8,6 @@ use Rattle.std.proofs.lemmas.Fmt.{decimal_is_IsNumeral, length-decimal-le}
 use Rattle.std.proofs.lemmas.Bool.Decides.{nat_tests}
 use Rattle.std.proofs.lemmas.List.{map-append, append-nil, take_more}
 use Rattle.std.proofs.lemmas.List.Folds.{list_all-append}
-use Rattle.std.proofs.lemmas.List.Concat.{flat_map-append}
 use Rattle.std.proofs.lemmas.List.Splits.{slice_split_at, slice_split_none}
 use Rattle.std.proofs.lemmas.List.Sums.{position_or_len_is, AllPass-from_list_all}
 use Rattle.hk_script.specs.declared.limits.Limits.{Limits}
@@ -217,10 +216,6 @@ text_spells (s ∷ more) h =
 -- the canonical text spells the script
 pub script_spelled : (limits : Limits) → AreLimits limits → (s : List Statement) → IsScript limits s → Spells limits (text_of s) s
 script_spelled limits are s h = record { lines = text_spells s (wider_each limits widest (within_widest limits are) s h.each); script = h }
-
--- one more statement
-pub text_more : (s : List Statement) (i : ℕ) (d : Statement) → i < length s → text_of (take (i + 1) s) ≡ text_of (take i s) ++ line_of (get_or s i d)
-text_more s i d lt = ap text_of (take_more s i d lt) ∙ flat_map-append line_of (take i s) (get_or s i d ∷ []) ∙ ap (λ (t : List ℕ). text_of (take i s) ++ t) (append-nil (line_of (get_or s i d)))
 
 pub whole_text : (s : List Statement) (i : ℕ) → length s ≤ i → text_of (take i s) ≡ text_of s
 whole_text s i le = ap text_of (grind (arith, common_steps))

@@ -1,10 +1,10 @@
 -- The sums of a script, up to a limit, and how many blocks are open at a place.
-use Rattle.std.proofs.Common.{◌≡◌, ◌^◌, ℕ, suc, zero, ◌+◌, ◌-◌, ◌*◌, ◌<◌, ◌≤◌, min, max, false, List, [], ◌∷◌, ◌++◌, length, map, take, drop, get_or, Result, Ok, refl, sym, ap, ◌∙◌, subst, arith, inl, inr}
-use Rattle.std.specs.Prelude.{reverse, nat_lt, nat_le}
+use Rattle.std.proofs.Common.{◌≡◌, ℕ, suc, zero, ◌+◌, ◌-◌, ◌*◌, ◌<◌, ◌≤◌, min, max, List, [], ◌∷◌, ◌++◌, length, map, take, drop, get_or, Result, Ok, refl, sym, ap, ◌∙◌, subst, arith, inl, inr}
+use Rattle.std.specs.Prelude.{reverse, nat_lt}
 use Rattle.std.specs.List.{AllByRecursion}
 use Rattle.std.proofs.lemmas.Bool.{cases_lt}
 use Rattle.std.proofs.lemmas.Bool.Decides.{nat_tests}
-use Rattle.std.proofs.lemmas.List.{take_more, reverse-append, drop_more, drop_all, length-map}
+use Rattle.std.proofs.lemmas.List.{take_more, reverse-append, drop_more, length-map}
 use Rattle.std.proofs.Math.Nat.{mul-le-mul_right}
 use Rattle.hk_script.specs.declared.beyond.Beyond.{Beyond}
 use Rattle.hk_script.specs.declared.blocks.Open.{Open}
@@ -19,7 +19,7 @@ use Rattle.hk_script.specs.declared.statement.Statement.TheVariants as statement
 use Rattle.hk_script.specs.Reading.{◌>>=◌}
 use Rattle.hk_script.specs.Spelling.{IsStatement}
 use Rattle.hk_script.specs.Blocks.{open_block, begun, parted_by, parted, ended, nest, nested, IsScript}
-use Rattle.hk_script.specs.Cost.{Ahead, beyond, nearest, outer_of, in_front, ahead, told, words_of, largest_of}
+use Rattle.hk_script.specs.Cost.{Ahead, beyond, nearest, outer_of, in_front, ahead, words_of, largest_of}
 use Rattle.hk_script.specs.Sums.{at_most_limit, room_of}
 use Rattle.hk_script.proofs.Arguments.{bind_ok, ok_is, passed_or}
 
@@ -61,12 +61,6 @@ outer_capped : (bs : List Beyond) → outer_of (map cap_beyond bs) ≡ map cap_b
 outer_capped [] = refl
 outer_capped (b ∷ bs) = refl
 
-abbrev pub made : ℕ → List Beyond → Ahead
-made h bs = record { here = h; blocks = bs }
-
-cap_cap : (n : ℕ) → cap (cap n) ≡ cap n
-cap_cap n = omega arith
-
 cap_sum : (w n : ℕ) → cap (w + cap n) ≡ cap (w + n)
 cap_sum w n = omega arith
 
@@ -105,13 +99,6 @@ begun_small p m o after e =
     let few : length o < 16 = grind (arith, nat_tests, q.0) in
     let len : length (open_block p m ∷ o) ≡ length after = ap length q.1 in
     (omega (arith, len), omega (arith, len))
-
--- how many blocks are open after a statement
-pub record Counted (s : Statement) (o after : List Open) : Type 0 where
-  pub few : length o ≤ 16 → length after ≤ 16
-
-begun_counted : (p : Part) (m : ℕ) (o after : List Open) → begun p m o ≡ Ok after → length o ≤ 16 → length after ≤ 16
-begun_counted p m o after e few = (begun_small p m o after e).1
 
 -- how many blocks a statement leaves open
 abbrev pub Leaves : Statement → ℕ → ℕ → Type 0
@@ -221,9 +208,6 @@ step_back {limits} weight s i d old new h lt e f =
     let a = ahead weight (drop (i + 1) s) in
     f ∙ ap (λ (t : Ahead). at_most_limit (in_front (weight x) x t)) e ∙ front_capped limits (weight x) x a (each_at limits s i d h.each lt) ∙ ap capped (sym (ahead_more weight s i d lt))
 
-pub start_back : (weight : Statement → ℕ) (s : List Statement) (n : ℕ) → n ≡ length s → made 0 [] ≡ capped (ahead weight (drop n s))
-start_back weight s n e = let none : drop n s ≡ [] = drop_all n s (omega arith) in sym (ap (λ (t : List Statement). capped (ahead weight t)) none)
-
 room_front : (w : ℕ) (x : Statement) (a : Ahead) → length (in_front w x a).blocks ≤ 16 → length a.blocks ≤ 16 → length a.blocks ≤ room_of x
 room_front w statement.End a all few = omega arith
 room_front w x a all few = few
@@ -238,17 +222,6 @@ room_at weight s i d old h lt e =
     let len : length old.blocks ≡ length a.blocks = ap (λ (t : Ahead). length t.blocks) e ∙ length-map a.blocks cap_beyond in
     let room = room_front (weight x) x a here next in
     omega (arith, len, room)
-
--- what is told of a sum up to the limit is told of the sum
-pub told_capped : (n : ℕ) → told (cap n) ≡ told n
-told_capped n =
-    elim (cases_lt n LIMIT) [
-      | inl lt ↦ (let same : cap n ≡ n = omega arith in ap told same)
-      | inr le ↦ (
-          let top : cap n ≡ LIMIT = omega arith in
-          let over : nat_le n (2 ^ 24) ≡ false = grind (arith, nat_tests) in
-          rw (top, over) refl)
-    ]
 
 -- one statement more at the end
 largest_push : (s : List Statement) (x : Statement) → largest_of (s ++ x ∷ []) ≡ max (words_of x) (largest_of s)

@@ -2,18 +2,17 @@
 use Rattle.std.proofs.Common.{◌≡◌, ℕ, zero, suc, ◌+◌, ◌<◌, ◌≤◌, Bool, true, false, List, [], ◌∷◌, ◌++◌, length, refl, sym, ◌∙◌, ap, subst, arith, inl, inr}
 use Rattle.std.proofs.lemmas.List.{length-append}
 use Rattle.std.proofs.lemmas.Bool.{cases_eq}
-use Rattle.std.proofs.lemmas.Bool.Decides.{nat_tests}
 use Rattle.std.specs.Prelude.{All, nat_lt, slice_index_or, if◌then◌else◌}
 use Rattle.hk_words.specs.Geometry.{tasks}
 use Rattle.hk_model.specs.Heap.{opening_of}
 use Rattle.hk_model.specs.History.{Legal}
 use Rattle.hk_model.proofs.Lists.{get_or-push_before, get_or-push_last}
-use Rattle.hk_core.specs.Run.{Action, run_from_opening}
+use Rattle.hk_core.specs.Run.{run_from_opening}
 use Rattle.hk_collect.proofs.Running.{legal_from_opening}
 use Rattle.hk_table.specs.Actions.{Begins, SeatsBelow, collects}
 use Rattle.hk_table.specs.Knows.{Closing, KeeperView}
 use Rattle.hk_table.specs.Rule.{StandsIn}
-use Rattle.hk_table.specs.Seats.{closing, longer, with_pass, the_log}
+use Rattle.hk_table.specs.Seats.{closing, the_log}
 use Rattle.hk_table.specs.Passes.{IsPassOf, known}
 use Rattle.hk_table.specs.Taken.{closings, IsLong, TakenIn, KnowsAll}
 use Rattle.hk_table.specs.Ends.{HasAllSeats, ClosedBy, log_of, run_of}
@@ -27,10 +26,6 @@ use Rattle.hk_table.specs.declared.closed.Closed.{Closed}
 pub in_middle : {A : Type 0} (P : A → Type 0) (front : List A) (x : A) (back : List A) → All P ((front ++ x ∷ []) ++ back) → P x
 in_middle P [] x back all = all 0 x (omega arith)
 in_middle P (y ∷ front) x back all = in_middle P front x back (λ k d below. all (suc k) d (omega arith))
-
-pub moved_over : {A : Type 0} (front : List A) (x : A) (back : List A) → (front ++ x ∷ []) ++ back ≡ front ++ (x ∷ back)
-moved_over [] x back = refl
-moved_over (y ∷ front) x back = ap (λ l. y ∷ l) (moved_over front x back)
 
 pub length_more : {A : Type 0} (l : List A) (x : A) → length (l ++ x ∷ []) ≡ length l + 1
 length_more l x = length-append l (x ∷ [])
@@ -62,45 +57,13 @@ all_of_closings Q done all i d below =
 
 -- A PASS IS TAKEN IN
 
-longer_first : (a b : List Action) → length a ≤ length (longer a b)
-longer_first a b = choose (nat_lt (length a) (length b)) refl
-  where
-    below : (m n : ℕ) → nat_lt m n ≡ true → m ≤ n
-    below m n e = grind (arith, nat_tests)
-
     choose : (t : Bool) → nat_lt (length a) (length b) ≡ t → length a ≤ length (if t then b else a)
     choose true e = below (length a) (length b) e
     choose false e = omega arith
 
-longer_second : (a b : List Action) → length b ≤ length (longer a b)
-longer_second a b = choose (nat_lt (length a) (length b)) refl
-  where
-    above : (m n : ℕ) → nat_lt m n ≡ false → n ≤ m
-    above m n e = grind (arith, nat_tests)
-
     choose : (t : Bool) → nat_lt (length a) (length b) ≡ t → length b ≤ length (if t then b else a)
     choose true e = omega arith
     choose false e = above (length a) (length b) e
-
-pub none_taken : (start : KeeperView) (all : List Pass) → start.closed ≡ [] → TakenIn start all all start
-none_taken start all empty = record { done = []; parts = whole all; log = refl; closed = empty; long = tt }
-  where
-    whole : (l : List Pass) → l ≡ l ++ []
-    whole [] = refl
-    whole (x ∷ l) = ap (λ m. x ∷ m) (whole l)
-
-pub one_taken : (start : KeeperView) (all left more : List Pass) (p : Pass) (k : KeeperView) → left ≡ more ++ p ∷ [] → TakenIn start all left k
-    → TakenIn start all more (with_pass k (known p))
-one_taken start all left more p k is h = record {
-  done = p ∷ h.done;
-  parts = h.parts ∙ ap (λ l. l ++ h.done) is ∙ moved_over more p h.done;
-  log = h.log;
-  closed = ap (λ l. l ++ closing (known p) ∷ []) h.closed;
-  long =
-      let a = longer_second k.longest k.log in
-      let b = longer_first (longer k.longest k.log) (known p).log in
-      omega arith;
-}
 
 -- the pass that is taken in is one of all
 pub taken_is : (P : Pass → Type 0) (start : KeeperView) (all left more : List Pass) (p : Pass) (k : KeeperView) → left ≡ more ++ p ∷ [] → TakenIn start all left k → All P all → P p

@@ -1,7 +1,7 @@
 -- The entries that a pass adds, and the steps of a seat in a list of actions.
 use Rattle.std.proofs.Common.{◌≡◌, ℕ, zero, suc, ◌+◌, Bool, true, false, List, [], ◌∷◌, ◌++◌, length, replicate, refl, sym, ◌∙◌, ap, subst, arith, append-nil, append_assoc}
 use Rattle.std.proofs.lemmas.Bool.{eqb-true}
-use Rattle.std.proofs.lemmas.List.{length-append, replicate-append-replicate}
+use Rattle.std.proofs.lemmas.List.{length-append}
 use Rattle.std.proofs.lemmas.Bool.Decides.{nat_tests}
 use Rattle.std.specs.Prelude.{nat_eq, if◌then◌else◌}
 use Rattle.hk_model.specs.History.{Entry, History, of_seat}
@@ -104,7 +104,3 @@ acts_many s (suc n) = rw (same s) (ap (λ (l : List Action). step s ∷ l) (acts
 
 pub steps_counted : (s n : ℕ) (l : List Action) → acts_of s l ≡ replicate n (step s) → steps_of s l ≡ n
 steps_counted s n l e = sym (steps_own s l) ∙ ap (steps_of s) e ∙ steps_many s n
-
-pub many_more : (m n s : ℕ) → replicate m (step s) ++ (replicate n (step s) ++ step s ∷ []) ≡ replicate (m + (n + 1)) (step s)
-many_more m n s =
-    ap (λ (l : List Action). replicate m (step s) ++ l) (replicate-append-replicate n 1 (step s)) ∙ replicate-append-replicate m (n + 1) (step s)

@@ -4,7 +4,6 @@ use Rattle.std.proofs.lemmas.List.{take_all}
 use Rattle.std.proofs.lemmas.List.Concat.{flat_map-append}
 use Rattle.std.proofs.Math.Seq.{take-suc}
 use Rattle.hk_io.specs.Bytes.{AppendsPrefix, AppendsFront}
-use Rattle.hk_io.proofs.BytesLemmas.{AppendsFront-none}
 use Rattle.hk_top.proofs.Written.{prefix_first, front_two, prefix_two}
 
 module _ {X : Type 0} (f : X → List ℕ) (xs : List X) where
@@ -34,16 +33,6 @@ module _ {X : Type 0} (f : X → List ℕ) (xs : List X) where
     more_prefix first second =
         prefix_first a c waited (first_texts (i + 1)) (flat_map f (drop (i + 1) xs)) (flat_map f xs) (texts_whole (i + 1))
         (prefix_two a b c waited waiting (first_texts i) text (first_texts (i + 1)) (texts_more i d text within is) first second)
-
-  -- an element without a text
-  pub quiet_front : (a b : Option (List ℕ)) (waited waiting : List ℕ) (i : ℕ) (d : X) → i < length xs → [] ≡ f (get_or xs i d)
-      → AppendsFront a b (waited ++ first_texts i) waiting → AppendsFront a b (waited ++ first_texts (i + 1)) waiting
-  quiet_front a b waited waiting i d within is front =
-      subst (λ x. AppendsFront a b (waited ++ x) waiting) (sym (append-nil (first_texts i)) ∙ texts_more i d [] within is) front
-
-  -- no text was added yet
-  pub no_front : (a : Option (List ℕ)) (waited : List ℕ) → AppendsFront a a (waited ++ []) waited
-  no_front a waited = subst (λ x. AppendsFront a a x waited) (sym (append-nil waited)) (AppendsFront-none a waited)
 
   -- all were added
   pub all_front : (a b : Option (List ℕ)) (waited waiting : List ℕ) (i : ℕ) → length xs ≤ i → AppendsFront a b (waited ++ first_texts i) waiting

@@ -1,25 +1,14 @@
 -- The texts of the elements that the loops of the report go over.
-use Rattle.std.proofs.Common.{◌≡◌, ℕ, zero, suc, ◌<◌, ◌≤◌, List, [], ◌∷◌, length, zip, get_or, sym, ap, ◌∙◌, arith}
+use Rattle.std.proofs.Common.{◌≡◌, ℕ, ◌<◌, ◌≤◌, List, length, zip, get_or, sym, ap, ◌∙◌, arith}
 use Rattle.std.proofs.lemmas.Slice.Zip.{get_or-zip, length-zip}
 use Rattle.hk_sheet.specs.declared.sheet.High.{High}
 use Rattle.hk_sheet.specs.declared.sheet.Low.{Low}
-use Rattle.hk_top.specs.Names.{AreNamed, AreLowNamed}
 use Rattle.hk_top.specs.Report.{line_of_response, line_of_low}
 use Rattle.hk_top.specs.Text.{high_line, low_line}
 
 -- two lists of the same length side by side
 pub zip_length : {A B : Type 0} (xs : List A) (ys : List B) → length ys ≡ length xs → length (zip xs ys) ≡ length xs
 zip_length xs ys same = let z = length-zip xs ys in omega (arith, z, same)
-
-pub named_at : (tasks : List High) (i : ℕ) (d : High) → AreNamed tasks → i < length tasks → length (get_or tasks i d).name ≤ 16
-named_at [] i d all within = absurd (omega (arith, within))
-named_at (t ∷ ts) zero d all within = all.0
-named_at (t ∷ ts) (suc i) d all within = named_at ts i d all.1 (omega (arith, within))
-
-pub low_named_at : (tasks : List Low) (i : ℕ) (d : Low) → AreLowNamed tasks → i < length tasks → length (get_or tasks i d).name ≤ 16
-low_named_at [] i d all within = absurd (omega (arith, within))
-low_named_at (t ∷ ts) zero d all within = all.0
-low_named_at (t ∷ ts) (suc i) d all within = low_named_at ts i d all.1 (omega (arith, within))
 
 pub response_at : (tasks : List High) (responses : List ℕ) (i : ℕ) (d : High) (r : ℕ) (text : List ℕ) → i < length tasks → i < length responses
     → text ≡ high_line (get_or tasks i d).name (get_or responses i r) (get_or tasks i d).timing.deadline → text ≡ line_of_response (get_or (zip tasks responses) i (d, r))

@@ -26,9 +26,6 @@ module _ (a b c : Option (List ℕ)) (waiting waiting1 line1 line2 text : List �
 pub front_alone : (a b : Option (List ℕ)) (waiting text rest : List ℕ) → waiting ≡ [] → AppendsFront a b (waiting ++ text) rest → AppendsFront a b text rest
 front_alone a b waiting text rest none front = subst (λ x. AppendsFront a b (x ++ text) rest) none front
 
-pub prefix_alone : (a b : Option (List ℕ)) (waiting text : List ℕ) → waiting ≡ [] → AppendsPrefix a b (waiting ++ text) → AppendsPrefix a b text
-prefix_alone a b waiting text none prefix = subst (λ x. AppendsPrefix a b (x ++ text)) none prefix
-
 -- what was added behind what waits
 pub front_more : (a b : Option (List ℕ)) (waiting waiting1 bytes rest text : List ℕ) → AppendsFront a b waiting waiting1 → rest ≡ waiting1 ++ bytes → text ≡ bytes → AppendsFront a b (waiting ++ text) rest
 front_more a b waiting waiting1 bytes rest text front is same =

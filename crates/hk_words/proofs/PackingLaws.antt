@@ -1,9 +1,9 @@
 -- The laws of the packed words, for the proofs of the crates above.
-use Rattle.std.proofs.Common.{◌≡◌, ℕ, ◌+◌, ◌-◌, ◌^◌, ◌<◌, arith}
+use Rattle.std.proofs.Common.{ℕ, ◌+◌, ◌-◌, ◌^◌, ◌<◌, arith}
 use Rattle.hk_words.specs.Layout.{number_bits, refs_bits, nums_bits, accessors_bits, place_bits, blackened_bits, version_bits, words_bits, objects_bits, cycle_bits, entering, leaving, raise_by}
-use Rattle.hk_words.specs.Layout.{NamesObject, IsReference, pack_reference, reference_number, reference_refs, reference_nums}
+use Rattle.hk_words.specs.Layout.{IsReference, pack_reference}
 use Rattle.hk_words.specs.Layout.{IsHeader, pack_header, header_accessors, header_place, header_version, header_moved}
-use Rattle.hk_words.specs.Layout.{IsFrame, pack_frame, frame_accessors, frame_cycle, frame_version, frame_blackened}
+use Rattle.hk_words.specs.Layout.{IsFrame, frame_accessors, frame_cycle, frame_version, frame_blackened}
 use Rattle.hk_words.specs.Layout.{IsW0, pack_w0, w0_words, w0_objects, w0_cycle}
 
 -- References
@@ -11,25 +11,10 @@ use Rattle.hk_words.specs.Layout.{IsW0, pack_w0, w0_words, w0_objects, w0_cycle}
 pub reference_unpacks : (number refs nums : ℕ) → number + 1 < 2 ^ number_bits → refs < 2 ^ refs_bits → nums < 2 ^ nums_bits → IsReference (pack_reference number refs nums) number refs nums
 reference_unpacks number refs nums a b c = record { number = omega arith; refs = omega arith; nums = omega arith }
 
-pub reference_names : (number refs nums : ℕ) → number + 1 < 2 ^ number_bits → NamesObject (pack_reference number refs nums)
-reference_names number refs nums a = omega arith
-
-pub reference_repacks : (word : ℕ) → NamesObject word → word < 2 ^ (number_bits + refs_bits + nums_bits) → pack_reference (reference_number word) (reference_refs word) (reference_nums word) ≡ word
-reference_repacks word a b = omega arith
-
-pub reference_fits : (number refs nums : ℕ) → number + 1 < 2 ^ number_bits → refs < 2 ^ refs_bits → nums < 2 ^ nums_bits → pack_reference number refs nums < 2 ^ (number_bits + refs_bits + nums_bits)
-reference_fits number refs nums a b c = omega arith
-
-pub same_reference : (word other : ℕ) → NamesObject word → NamesObject other → word < 2 ^ (number_bits + refs_bits + nums_bits) → other < 2 ^ (number_bits + refs_bits + nums_bits) → IsReference word (reference_number other) (reference_refs other) (reference_nums other) → word ≡ other
-same_reference word other a b c d e = omega arith
-
 -- Headers
 
 pub header_unpacks : (accessors place version : ℕ) → accessors < 2 ^ accessors_bits → place < 2 ^ place_bits → IsHeader (pack_header accessors place version) accessors place version
 header_unpacks accessors place version a b = record { accessors = omega arith; place = omega arith; version = omega arith }
-
-pub header_repacks : (word : ℕ) → pack_header (header_accessors word) (header_place word) (header_version word) ≡ word
-header_repacks word = omega arith
 
 pub header_enters : (word : ℕ) → header_accessors word + 1 < 2 ^ accessors_bits → IsHeader (word + entering) (header_accessors word + 1) (header_place word) (header_version word + 1)
 header_enters word a = record { accessors = omega arith; place = omega arith; version = omega arith }
@@ -40,22 +25,10 @@ header_leaves word a = record { accessors = omega arith; place = omega arith; ve
 pub header_moves : (word place : ℕ) → place < 2 ^ place_bits → IsHeader (header_moved word place) (header_accessors word) place (header_version word)
 header_moves word place a = record { accessors = omega arith; place = omega arith; version = omega arith }
 
-pub same_header : (word other : ℕ) → IsHeader word (header_accessors other) (header_place other) (header_version other) → word ≡ other
-same_header word other e = omega arith
-
 pub header_fits : (word : ℕ) → header_version word < 2 ^ version_bits → word < 2 ^ 64
 header_fits word a = omega arith
 
-pub version_fits : (word : ℕ) → word < 2 ^ 64 → header_version word < 2 ^ version_bits
-version_fits word a = omega arith
-
 -- Frame words
-
-pub frame_unpacks : (accessors cycle version : ℕ) → accessors < 2 ^ accessors_bits → cycle < 2 ^ blackened_bits → IsFrame (pack_frame accessors cycle version) accessors cycle version
-frame_unpacks accessors cycle version a b = record { accessors = omega arith; cycle = omega arith; version = omega arith }
-
-pub frame_repacks : (word : ℕ) → pack_frame (frame_accessors word) (frame_cycle word) (frame_version word) ≡ word
-frame_repacks word = omega arith
 
 pub frame_enters : (word : ℕ) → frame_accessors word + 1 < 2 ^ accessors_bits → IsFrame (word + entering) (frame_accessors word + 1) (frame_cycle word) (frame_version word + 1)
 frame_enters word a = record { accessors = omega arith; cycle = omega arith; version = omega arith }
@@ -66,9 +39,6 @@ frame_leaves word a = record { accessors = omega arith; cycle = omega arith; ver
 pub frame_blackens : (word cycle : ℕ) → cycle < 2 ^ blackened_bits → IsFrame (frame_blackened word cycle) (frame_accessors word) cycle (frame_version word)
 frame_blackens word cycle a = record { accessors = omega arith; cycle = omega arith; version = omega arith }
 
-pub same_frame : (word other : ℕ) → IsFrame word (frame_accessors other) (frame_cycle other) (frame_version other) → word ≡ other
-same_frame word other e = omega arith
-
 pub frame_fits : (word : ℕ) → frame_version word < 2 ^ version_bits → word < 2 ^ 64
 frame_fits word a = omega arith
 
@@ -77,14 +47,8 @@ frame_fits word a = omega arith
 pub w0_unpacks : (words objects cycle : ℕ) → words < 2 ^ words_bits → objects < 2 ^ objects_bits → IsW0 (pack_w0 words objects cycle) words objects cycle
 w0_unpacks words objects cycle a b = record { words = omega arith; objects = omega arith; cycle = omega arith }
 
-pub w0_repacks : (word : ℕ) → pack_w0 (w0_words word) (w0_objects word) (w0_cycle word) ≡ word
-w0_repacks word = omega arith
-
 pub w0_raises : (word words : ℕ) → w0_words word + words < 2 ^ words_bits → w0_objects word + 1 < 2 ^ objects_bits → IsW0 (word + raise_by words) (w0_words word + words) (w0_objects word + 1) (w0_cycle word)
 w0_raises word words a b = record { words = omega arith; objects = omega arith; cycle = omega arith }
-
-pub same_w0 : (word other : ℕ) → IsW0 word (w0_words other) (w0_objects other) (w0_cycle other) → word ≡ other
-same_w0 word other e = omega arith
 
 pub w0_fits : (word : ℕ) → w0_cycle word < 2 ^ cycle_bits → word < 2 ^ 64
 w0_fits word a = omega arith

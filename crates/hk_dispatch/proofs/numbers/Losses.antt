@@ -39,9 +39,6 @@ module _ (attempt : ℕ) (fresh debt liable lost came waiting news : ℕ → ℕ
     pub none_waits : waiting (suc t) ≡ 0
     pub pays : lost (suc t) + liable (suc t) ≤ lost t + liable t
 
-  by_sum : (a b n : ℕ) → a + b ≤ n → (a + b) * attempt ≤ n * attempt
-  by_sum a b n le = mul-le-mul_right attempt le
-
   pub high_keeps : (t : ℕ) → HighTick t → Charged t → Charged (suc t)
   high_keeps t h c =
       let a = ap (λ n. (n + news (suc t)) * attempt) h.comes.more in

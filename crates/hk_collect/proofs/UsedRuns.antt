@@ -81,7 +81,6 @@ module _ (c : State) (history at_flip : History) (raised : ℕ → Bool) (late :
   -- A STEP OF A SEAT
 
   module _ (s : ℕ) (below : s < tasks c.geometry) (flying : 1 ≤ (flight_at c s).place) where
-
     longer : next_birth c.geometry history ≤ next_birth c.geometry (history_after c s history)
     longer = next_later c history at_flip o.young o.lawful o.uses s below flying
 

@@ -10,6 +10,8 @@ mod packing;
 mod row;
 mod shape;
 mod sizes;
+#[cfg(test)]
+mod tests;
 
 pub use bounds::{MOST_PLACES, cycle_events, frame_events, object_events};
 pub use call::{Call, Reply, call_laws};

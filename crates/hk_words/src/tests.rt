@@ -1,0 +1,7 @@
+//! What the words of the heap are, by tables.
+mod bounds;
+mod call;
+mod geometry;
+mod packing;
+mod row;
+mod shape;

@@ -26,6 +26,10 @@ pub mod RowOfStore
 pub mod Linked
 pub mod Actions
 pub mod Seven
+pub mod OnePiece
+pub mod ShortRows
+pub mod LinkRows
+pub mod NewRows
 pub mod Unused
 pub mod Room
 pub mod RefusedPlain

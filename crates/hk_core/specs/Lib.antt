@@ -23,3 +23,8 @@ pub mod Fresh
 pub mod Faults
 pub mod Laws
 pub mod Promise
+pub mod Whole
+pub mod Passing
+pub mod WholeRows
+pub mod LinkRows
+pub mod NewRows

@@ -10,10 +10,14 @@ mod opening;
 mod outcome;
 mod promise;
 mod spot;
+mod spotted;
 mod starting;
 #[cfg(test)]
 mod tests;
 mod took;
+mod whole;
+mod whole_links;
+mod whole_new;
 
 pub use event::Event;
 pub use flight::{Flight, reference_size, reserved_fits};

@@ -1,7 +1,7 @@
 ghost use Rattle.std.specs.Prelude.{◌≡◌, ◌↔◌, ℕ, ◌<◌, ◌≤◌, [], length, IsTrue, true, false, IfNone, IfOk, MatchResult, slice_index};
-ghost use Rattle.hk_words.specs.Geometry.{tasks};
+ghost use Rattle.hk_words.specs.Geometry.{tasks, numbers};
 ghost use Rattle.hk_words.specs.Layout.{w0_words, w0_cycle};
-ghost use Rattle.hk_words.specs.Row.{W0, W1, IsRegister, word_of};
+ghost use Rattle.hk_words.specs.Row.{W0, W1, IsRegister, IsEntry, IsPlace, word_of, header_at, mark_at, frame_at, register_at, entry_at, space_at};
 ghost use Rattle.hk_words.specs.Calls.{RegistersFit};
 ghost use Rattle.hk_words.specs.declared.call.Call.TheVariants.{Same, IsNull};
 ghost use Rattle.hk_model.specs.Heap.{opening_of};
@@ -30,11 +30,11 @@ use std::marker::Model;
 /// collector is.
 #[derive(Drop)]
 pub struct Core {
-    geometry: Geometry,
-    row: Vec<u64>,
-    flights: Vec<Flight>,
-    begun: Vec<u32>,
-    spot: Spot,
+    pub(crate) geometry: Geometry,
+    pub(crate) row: Vec<u64>,
+    pub(crate) flights: Vec<Flight>,
+    pub(crate) begun: Vec<u32>,
+    pub(crate) spot: Spot,
 }
 
 impl Model for Core {
@@ -108,9 +108,57 @@ impl Core {
         self.spot = spot;
     }
 
+    /// The index of the header of a number.
+    pub fn header_at(&self, number: u32) -> u32
+        requires { number < numbers self.now.geometry }
+        ensures { result ≡ header_at self.now.geometry number }
+    {
+        self.geometry.header_at(number)
+    }
+
+    /// The index of the mark of a number.
+    pub fn mark_at(&self, number: u32) -> u32
+        requires { number < numbers self.now.geometry }
+        ensures { result ≡ mark_at self.now.geometry number }
+    {
+        self.geometry.mark_at(number)
+    }
+
+    /// The index of the frame word of a seat.
+    pub fn frame_at(&self, seat: u8) -> u32
+        requires { seat < tasks self.now.geometry }
+        ensures { result ≡ frame_at self.now.geometry seat }
+    {
+        self.geometry.frame_at(seat)
+    }
+
+    /// The index of a register of a seat.
+    pub fn register_at(&self, seat: u8, reg: u8) -> u32
+        requires { IsRegister self.now.geometry seat reg }
+        ensures { result ≡ register_at self.now.geometry seat reg }
+    {
+        self.geometry.register_at(seat, reg)
+    }
+
+    /// The index of an entry of one of the two lists of free numbers.
+    pub fn entry_at(&self, list: u8, entry: u32) -> u32
+        requires { IsEntry self.now.geometry list entry }
+        ensures { result ≡ entry_at self.now.geometry list entry }
+    {
+        self.geometry.entry_at(list, entry)
+    }
+
+    /// The index of the word at a place of the two spaces.
+    pub fn space_at(&self, place: u32) -> u32
+        requires { IsPlace self.now.geometry place }
+        ensures { result ≡ space_at self.now.geometry place }
+    {
+        self.geometry.space_at(place)
+    }
+
     /// The reference in a register of a seat, 0 where it is null.
     #[tactic(auto, unfolding(crate::specs::Begin::register_word))]
-    fn register(&self, seat: u8, reg: u8) -> u64
+    pub(crate) fn register(&self, seat: u8, reg: u8) -> u64
         requires { IsRegister self.now.geometry seat reg }
         ensures { result ≡ register_word self.now seat reg }
     {

@@ -237,7 +237,7 @@ impl Flight {
     }
 
     /// The words used leave too few for an object of the shape, to this seat: a low one leaves the reserve.
-    fn full_to(g: &Geometry, seat: u8, shape: Shape, w0: u64) -> bool
+    pub(crate) fn full_to(g: &Geometry, seat: u8, shape: Shape, w0: u64) -> bool
         ensures { result ≡ full_to g.now seat shape w0 }
     {
         let limit = if seat < g.high() {
@@ -249,7 +249,7 @@ impl Flight {
     }
 
     /// The words used leave too few for an object of the shape, to any seat.
-    fn full_to_all(g: &Geometry, shape: Shape, w0: u64) -> bool
+    pub(crate) fn full_to_all(g: &Geometry, shape: Shape, w0: u64) -> bool
         ensures { result ≡ full_to_all g.now shape w0 }
     {
         w0_words(w0) + shape.words() > g.alloc()

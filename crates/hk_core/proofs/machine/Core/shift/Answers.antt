@@ -1,0 +1,42 @@
+use Rattle.std.proofs.Common.{ℕ, List, refl, sym, subst, ◌∙◌, ap}
+use Rattle.hk_words.specs.declared.call.Call.TheVariants.{Move}
+use Rattle.hk_core.specs.State.{State}
+use Rattle.hk_core.specs.Lawful.{Lawful}
+use Rattle.hk_core.specs.Whole.{whole_history}
+use Rattle.hk_core.specs.WholeRows.{move_row}
+use Rattle.hk_core.proofs.ShortRows.{whole_move_row, move_fits}
+use Rattle.hk_core.proofs.OnePiece.{can_pass_all, left, whole_answers, whole_lawful, whole_refused}
+use Rattle.hk_core.proofs.machine.Core.shift.Goals as goal
+
+pub returns-in-Some-clause-state : goal.returns-in-Some-clause-state
+returns-in-Some-clause-state c = whole_refused c.args.self.now c.args.seat (Move c.args.dest c.args.from) c.in-Some.fault (sym (c.in-Some.ensures.shift c.args.dest c.args.from))
+
+pub returns-in-Some-clause-lawful : goal.returns-in-Some-clause-lawful
+returns-in-Some-clause-lawful c = λ history h.
+    subst (λ (d : State). Lawful d (whole_history c.args.self.now c.args.seat (Move c.args.dest c.args.from) history)) (sym (returns-in-Some-clause-state c))
+    (whole_lawful c.args.self.now c.args.seat (Move c.args.dest c.args.from) history 2 c.requires.seat c.requires.idle refl c.requires.registers refl h)
+
+pub shift_through-requires-clause-fits : goal.shift_through-requires-clause-fits
+shift_through-requires-clause-fits c =
+    rw c.register-item.ensures (move_fits c.args.self.now c.args.seat c.args.dest c.args.from (can_pass_all c.args.self.now c.args.seat (Move c.args.dest c.args.from) c.requires.lawful.0 c.requires.seat c.requires.idle refl c.requires.registers (sym (c.in_default.ensures.shift c.args.dest c.args.from)) c.requires.lawful.1))
+
+pub returns-clause-state : goal.returns-clause-state
+returns-clause-state c =
+    let now = c.args.self.now in
+    left c.args.self.now c.args.seat (Move c.args.dest c.args.from) c.requires.lawful.0 c.requires.seat c.requires.idle refl c.requires.registers (sym (c.in_default.ensures.shift c.args.dest c.args.from)) c.requires.lawful.1
+    2 refl _ _
+    (c.shift_through.ensures
+    ∙ ap (λ (r : ℕ). record now { row = move_row now.geometry now.row c.args.seat c.args.dest r }) c.register-item.ensures
+    ∙ ap (λ (l : List ℕ). record now { row = l }) (sym (whole_move_row c.args.self.now c.args.seat c.args.dest c.args.from)))
+    c.close.ensures
+
+pub returns-clause-answer : goal.returns-clause-answer
+returns-clause-answer c = record {
+  begun = sym (c.in_default.ensures.shift c.args.dest c.args.from);
+  ended = whole_answers c.args.self.now c.args.seat (Move c.args.dest c.args.from) c.requires.lawful.0 c.requires.seat c.requires.idle refl c.requires.registers (sym (c.in_default.ensures.shift c.args.dest c.args.from)) c.requires.lawful.1 2 refl;
+}
+
+pub returns-clause-lawful : goal.returns-clause-lawful
+returns-clause-lawful c = λ history h.
+    subst (λ (d : State). Lawful d (whole_history c.args.self.now c.args.seat (Move c.args.dest c.args.from) history)) (sym (returns-clause-state c))
+    (whole_lawful c.args.self.now c.args.seat (Move c.args.dest c.args.from) history 2 c.requires.seat c.requires.idle refl c.requires.registers refl h)

@@ -8,7 +8,7 @@ ghost use Rattle.hk_admit.specs.Ranges.{IsInRange};
 
 use crate::declared::name_of;
 use crate::refused::Refused;
-use hk_rta::{Timing, response};
+use hk_rta::{Timing, next_response};
 use hk_sheet::{High, Ticks};
 use std::alloc::{AllocError, Global};
 
@@ -27,8 +27,8 @@ pub(crate) fn responses(alloc: Global, tasks: &[High]) -> Result<Ticks, Refused>
 {
     let timings = timings(alloc, tasks)?;
     let mut items = Vec::new(alloc);
-    for (place, task) in tasks.iter().enumerate() {
-        match response(&timings, place) {
+    for task in tasks {
+        match next_response(&timings, &items) {
             Some(ticks) => items.push(ticks)?,
             None => return Err(Refused::Response(name_of(alloc, &task.name)?)),
         }

@@ -2,10 +2,10 @@
 //! memory.
 #![tactic(auto)]
 
-ghost use Rattle.std.specs.Prelude.{◌≡◌, ℕ, ◌+◌, ◌*◌, ◌<◌, ◌≤◌, ◌^◌, ◌-◌, length, min, All, MatchOption, IfSome, IsNone, IsTrue, ◌↔◌};
+ghost use Rattle.std.specs.Prelude.{◌≡◌, ℕ, ◌+◌, ◌*◌, ◌<◌, ◌≤◌, ◌^◌, ◌-◌, length, min, slice_index, All, MatchOption, IfSome, IsNone, IsTrue, ◌↔◌};
 ghost use Rattle.hk_rta.specs.Busy.{Busy, IsOverfull};
-ghost use Rattle.hk_rta.specs.Demand.{IsTimed, IsLoad, demand, work_in, deadline_at};
-ghost use Rattle.hk_rta.specs.Response.{Response, IsLate};
+ghost use Rattle.hk_rta.specs.Demand.{IsTimed, IsLoad, starts_in, demand, work_in, deadline_at};
+ghost use Rattle.hk_rta.specs.Response.{Solves, Response, IsLate};
 
 /// The most tasks, and the most loads, that an analysis takes.
 pub const MAX_TASKS: usize = 31;
@@ -51,9 +51,44 @@ pub fn response(tasks: &[Timing], i: usize) -> Option<u64>
     ensures in_time { IfSome result (λ r. r ≤ deadline_at tasks.now i) }
     ensures none { IsNone result ↔ IsLate tasks.now i }
 {
+    response_from(tasks, i, 0)
+}
+
+/// The response time of the task that comes right after those whose response times are `earlier`: as [`response`] has it,
+/// and found sooner. Without their jitters, it is at least that of the task before and its own cost, so the search begins
+/// there.
+pub fn next_response(tasks: &[Timing], earlier: &[u64]) -> Option<u64>
+    requires within { length earlier.now < length tasks.now }
+    requires few { length tasks.now ≤ 31 }
+    requires timed { All IsTimed tasks.now }
+    requires each { (j : ℕ) → j < length earlier.now → Response tasks.now j (slice_index earlier.now j) }
+    requires in_time { (j : ℕ) → j < length earlier.now → slice_index earlier.now j ≤ deadline_at tasks.now j }
+    ensures found { IfSome result (λ r. Response tasks.now (length earlier.now) r) }
+    ensures in_time { IfSome result (λ r. r ≤ deadline_at tasks.now (length earlier.now)) }
+    ensures none { IsNone result ↔ IsLate tasks.now (length earlier.now) }
+{
+    let i = earlier.len();
+    let least = match earlier.last() {
+        Some(ticks) => ticks - tasks[i - 1].jitter + tasks[i].cost,
+        None => 0,
+    };
+    response_from(tasks, i, least)
+}
+
+/// The response time of task `i`, as [`response`] has it, where each length that solves its equation is known to be at
+/// least `least`: the search begins there.
+pub fn response_from(tasks: &[Timing], i: usize, least: u64) -> Option<u64>
+    requires within { i < length tasks.now }
+    requires few { length tasks.now ≤ 31 }
+    requires timed { All IsTimed tasks.now }
+    requires least { (r : ℕ) → Solves tasks.now i r → least ≤ r }
+    ensures found { IfSome result (λ r. Response tasks.now i r) }
+    ensures in_time { IfSome result (λ r. r ≤ deadline_at tasks.now i) }
+    ensures none { IsNone result ↔ IsLate tasks.now i }
+{
     let task = tasks[i];
     let longest = task.deadline.checked_sub(task.jitter)?;
-    let mut length = task.cost;
+    let mut length = task.cost.max(least);
     while length <= longest {
         let needed = task.cost + demand(&tasks[..i], length);
         if needed == length {
@@ -76,7 +111,7 @@ pub fn busy(loads: &[Load], base: u64, cap: u64) -> Option<u64>
     ensures in_time { IfSome result (λ x. x ≤ cap) }
     ensures none { IsNone result ↔ IsOverfull loads.now base cap }
 {
-    let mut length = 1;
+    let mut length = base.max(1);
     while length <= cap {
         let needed = base.saturating_add(work(loads, length));
         if needed <= length {
@@ -97,7 +132,7 @@ fn demand(tasks: &[Timing], window: u64) -> u64
 {
     let mut sum = 0;
     for task in tasks {
-        sum += (window + task.jitter).div_ceil(task.period) * task.cost;
+        sum += starts(window + task.jitter, task.period) * task.cost;
     }
     sum
 }
@@ -110,10 +145,23 @@ fn work(loads: &[Load], window: u64) -> u64
 {
     let mut sum: u64 = 0;
     for load in loads {
-        let arrivals = (window + load.jitter).div_ceil(load.period);
+        let arrivals = starts(window + load.jitter, load.period);
         sum = sum.saturating_add(arrivals * load.work);
     }
     sum
+}
+
+/// How often a period can begin in a window. It divides only where that can be more than once, since a division takes
+/// long.
+fn starts(window: u64, period: u64) -> u64
+    requires { 1 ≤ period }
+    ensures { result ≡ starts_in window period }
+{
+    if window <= period {
+        window.min(1)
+    } else {
+        window.div_ceil(period)
+    }
 }
 
 #[cfg(test)]
@@ -139,13 +187,9 @@ mod tests {
         (1..=MAX_TICKS).contains(&load.period) && load.jitter <= MAX_TICKS && load.work <= MAX_WORK
     }
 
-    /// The response time of the last task of a list of (cost, period, deadline, jitter).
-    fn last(
-        rt: &impl Abort,
-        alloc: Global,
-        tasks: &[(u64, u64, u64, u64)],
-    ) -> Result<Option<u64>, AllocError> {
-        let tasks: Vec<Timing> = tasks
+    /// The tasks of a list of (cost, period, deadline, jitter).
+    fn timings(alloc: Global, tasks: &[(u64, u64, u64, u64)]) -> Result<Vec<Timing>, AllocError> {
+        tasks
             .iter()
             .map(|(cost, period, deadline, jitter)| Timing {
                 cost: *cost,
@@ -153,10 +197,56 @@ mod tests {
                 deadline: *deadline,
                 jitter: *jitter,
             })
-            .collect(alloc)?;
+            .collect(alloc)
+    }
+
+    /// The response time of the last task of such a list.
+    fn last(
+        rt: &impl Abort,
+        alloc: Global,
+        tasks: &[(u64, u64, u64, u64)],
+    ) -> Result<Option<u64>, AllocError> {
+        let tasks = timings(alloc, tasks)?;
         assert!(rt; !tasks.is_empty() && tasks.len() <= MAX_TASKS);
         assert!(rt; tasks.iter().all(is_timed));
         Ok(response(&tasks, tasks.len() - 1))
+    }
+
+    /// The response times of such a list, each found after those before it, up to the first task that has none.
+    fn one_by_one(
+        rt: &impl Abort,
+        alloc: Global,
+        tasks: &[(u64, u64, u64, u64)],
+    ) -> Result<Vec<u64>, AllocError> {
+        let tasks = timings(alloc, tasks)?;
+        assert!(rt; tasks.len() <= MAX_TASKS);
+        assert!(rt; tasks.iter().all(is_timed));
+        let mut times = Vec::new(alloc);
+        for _ in 0..tasks.len() {
+            match next_response(&tasks, &times) {
+                Some(ticks) => times.push(ticks)?,
+                None => break,
+            }
+        }
+        Ok(times)
+    }
+
+    /// The response time of the last task of such a list, looked for from a length that is at most its own.
+    fn last_from(
+        rt: &impl Abort,
+        alloc: Global,
+        tasks: &[(u64, u64, u64, u64)],
+        least: u64,
+    ) -> Result<Option<u64>, AllocError> {
+        let tasks = timings(alloc, tasks)?;
+        assert!(rt; !tasks.is_empty() && tasks.len() <= MAX_TASKS);
+        assert!(rt; tasks.iter().all(is_timed));
+        let i = tasks.len() - 1;
+        let Some(ticks) = response(&tasks, i) else {
+            return Ok(None);
+        };
+        assert!(rt; least <= ticks - tasks[i].jitter);
+        Ok(response_from(&tasks, i, least))
     }
 
     /// The busy period of a list of (period, jitter, work).
@@ -250,6 +340,76 @@ mod tests {
         ];
         for (tasks, want) in cases {
             assert_eq!(rt; last(&rt, rt.alloc(), tasks)?, want, "at {tasks:?}");
+        }
+        Ok(())
+    }
+
+    #[test]
+    fn responses_one_by_one(rt: HostRuntime) -> Result<(), Fail> {
+        const BIG: u64 = 16_777_216;
+        let cases: [(&[(u64, u64, u64, u64)], &[u64]); 9] = [
+            (&[], &[]),
+            (&[(1, 4, 4, 0), (2, 6, 6, 0), (3, 12, 12, 0)], &[1, 3, 10]),
+            (&[(1, 4, 4, 0), (2, 6, 6, 0), (3, 12, 9, 0)], &[1, 3]),
+            // the periods 2, 3 and 7 leave one tick in 42, the last one, and with 43 one in 1806
+            (
+                &[
+                    (1, 2, 2, 0),
+                    (1, 3, 3, 0),
+                    (1, 7, 7, 0),
+                    (1, 99, 99, 0),
+                    (1, 99, 99, 0),
+                ],
+                &[1, 2, 6, 42, 84],
+            ),
+            (
+                &[
+                    (1, 2, 2, 0),
+                    (1, 3, 3, 0),
+                    (1, 7, 7, 0),
+                    (1, 43, 43, 0),
+                    (1, BIG, BIG, 0),
+                    (1, BIG, BIG, 0),
+                    (1, BIG, 5417, 0),
+                ],
+                &[1, 2, 6, 42, 1806, 3612],
+            ),
+            // the jitter of the task before is no part of its length
+            (&[(1, 100, 100, 90), (1, 100, 100, 0)], &[91, 2]),
+            (&[(1, 4, 4, 3), (2, 6, 6, 0), (3, 12, 12, 0)], &[4, 4, 11]),
+            // 3, 6, 9, 10, 12 for the third
+            (&[(1, 4, 4, 0), (2, 6, 6, 3), (3, 12, 12, 0)], &[1, 6, 12]),
+            // the greatest numbers
+            (&[(BIG, BIG, BIG, 0), (BIG, BIG, BIG, 0)], &[BIG]),
+        ];
+        for (tasks, want) in cases {
+            let times = one_by_one(&rt, rt.alloc(), tasks)?;
+            assert_eq!(rt; &times[..], want, "at {tasks:?}");
+        }
+        Ok(())
+    }
+
+    #[test]
+    fn responses_from_a_length(rt: HostRuntime) -> Result<(), Fail> {
+        let three = &[(3, 7, 7, 0), (3, 12, 12, 0), (5, 20, 20, 0)];
+        let late = &[(1, 4, 4, 0), (2, 6, 6, 3)];
+        let cases: [(&[(u64, u64, u64, u64)], u64, u64); 7] = [
+            // below the cost, on the way (5, 11, 14, 17, 20), between two of these, and at the end
+            (three, 0, 20),
+            (three, 14, 20),
+            (three, 15, 20),
+            (three, 20, 20),
+            // the length without the jitter
+            (late, 0, 6),
+            (late, 2, 6),
+            (late, 3, 6),
+        ];
+        for (tasks, least, want) in cases {
+            assert_eq!(rt;
+                last_from(&rt, rt.alloc(), tasks, least)?,
+                Some(want),
+                "at {tasks:?} {least}"
+            );
         }
         Ok(())
     }

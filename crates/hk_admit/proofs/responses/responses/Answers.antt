@@ -1,4 +1,4 @@
-use Rattle.std.proofs.Common.{◌∙◌, sym, refl, subst, ◌≤◌, List, All, slice_index, arith}
+use Rattle.std.proofs.Common.{◌≡◌, ◌∙◌, sym, refl, subst, ◌≤◌, List, All, length, slice_index, arith}
 use Rattle.hk_rta.specs.declared.Timing.{Timing}
 use Rattle.hk_rta.specs.Demand.{IsTimed, deadline_at}
 use Rattle.hk_rta.specs.Response.{Response, IsLate}
@@ -6,13 +6,15 @@ use Rattle.hk_admit.proofs.Readable.{all_timed}
 use Rattle.hk_admit.proofs.Parted.{late_at}
 use Rattle.hk_admit.proofs.responses.responses.Goals as goal
 
-pub response-requires-clause-timed : goal.response-requires-clause-timed
-response-requires-clause-timed c =
+pub next_response-requires-clause-timed : goal.next_response-requires-clause-timed
+next_response-requires-clause-timed c =
     subst (All IsTimed) (sym (c.deref.ensures.value ∙ c.in_ok-timings.ensures)) (all_timed c.args.tasks.now c.requires.tasks)
 
 pub returns-in-None : goal.returns-in-None
 returns-in-None c =
-    late_at c.args.tasks.now c.loop-place.items.items c.loop-place.place c.index-tasks-place.result _ (omega arith) c.index-tasks-place.is c.in_ok-name_of-in-None.ensures
-    (subst (λ (tasks : List Timing). IsLate tasks c.loop-place.place) (c.deref.ensures.value ∙ c.in_ok-timings.ensures) (c.in-None.ensures.none.0 refl))
-    (λ j before. subst (λ (tasks : List Timing). Response tasks j (slice_index c.loop-place.items.items j)) c.in_ok-timings.ensures (c.loop-place.invariant.each j before))
-    (λ j before. subst (λ (tasks : List Timing). slice_index c.loop-place.items.items j ≤ deadline_at tasks j) c.in_ok-timings.ensures (c.loop-place.invariant.in_time j before))
+    let so_far : length c.deref-in-loop-task.result.now ≡ c.loop-task.task-index =
+    omega (arith, c.deref-in-loop-task.ensures.len, c.loop-task.invariant.whole) in
+    late_at c.args.tasks.now c.loop-task.items.items c.loop-task.task-index c.task-item.result _ (omega arith) c.task-item.is c.in_ok-name_of-in-None.ensures
+    (subst (λ (tasks : List Timing). IsLate tasks c.loop-task.task-index) (c.deref.ensures.value ∙ c.in_ok-timings.ensures) (subst (IsLate c.deref.result.now) so_far (c.in-None.ensures.none.0 refl)))
+    (λ j before. subst (λ (tasks : List Timing). Response tasks j (slice_index c.loop-task.items.items j)) c.in_ok-timings.ensures (c.loop-task.invariant.each j before))
+    (λ j before. subst (λ (tasks : List Timing). slice_index c.loop-task.items.items j ≤ deadline_at tasks j) c.in_ok-timings.ensures (c.loop-task.invariant.in_time j before))

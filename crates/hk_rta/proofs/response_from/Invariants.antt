@@ -1,7 +1,7 @@
 use Rattle.std.proofs.Common.{ℕ, ◌+◌, ◌-◌, ◌<◌, ◌≤◌, take}
 use Rattle.hk_rta.specs.Demand.{demand, cost_at}
 use Rattle.hk_rta.specs.Response.{Solves}
-use Rattle.hk_rta.proofs.response.Given as goal
+use Rattle.hk_rta.proofs.response_from.Given as goal
 
 abbrev pub invariant-loop-length : goal.invariant-loop-length
 invariant-loop-length l = record {

@@ -62,6 +62,7 @@ pub mod InTime
 pub mod Whole
 pub mod Replied
 pub mod Looking
+pub mod RosterRows
 pub mod RosterAfter
 pub mod ShownAfter
 pub mod OneTask

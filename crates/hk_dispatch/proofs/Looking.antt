@@ -1,5 +1,5 @@
 -- What the roster finds as it looks through the tasks, seat by seat.
-use Rattle.std.proofs.Common.{◌≡◌, ℕ, zero, suc, ◌+◌, ◌<◌, ◌≤◌, Bool, true, false, List, [], ◌∷◌, ◌++◌, length, refl, sym, ◌∙◌, ap, subst, arith, inl, inr, Option, Some, None, get_or, set, take, length-set, ◌-◌}
+use Rattle.std.proofs.Common.{◌≡◌, ℕ, zero, suc, ◌+◌, ◌<◌, ◌≤◌, Bool, true, false, List, [], ◌∷◌, ◌++◌, length, refl, sym, ◌∙◌, ap, subst, arith, inl, inr, Option, Some, None, get_or, set, take, drop, length-set, ◌-◌}
 use Rattle.std.proofs.Math.Seq.{take-suc-set}
 use Rattle.std.proofs.lemmas.List.{append-nil}
 use Rattle.std.proofs.lemmas.Bool.{cases_lt, lt-ltb, le-ltb, leb-true, lt-leb, le-leb}
@@ -46,15 +46,17 @@ module _ (high : List High) (runs : List TaskRun) (tick : ℕ) where
   -- what was found below a seat
   pub record Looked (n : ℕ) (r : Roster) : Type 0 where
     pub size : length r.rows ≡ 31
+    pub none_gone : r.gone ≡ 0
     pub few : r.count ≤ n
     pub rows : take r.count r.rows ≡ rows_below due_row n
     pub low : LowSoFar n r.low
     pub later : (seat ready : ℕ) → seat < n → (run_at seat).ready ≡ Some ready → tick < ready → r.stale_from ≤ ready
 
-  pub looked_first : (r : Roster) → length r.rows ≡ 31 → r.count ≡ 0 → r.low ≡ None → Looked 0 r
+  pub looked_first : (r : Roster) → length r.rows ≡ 31 → r.count ≡ 0 → r.gone ≡ 0 → r.low ≡ None → Looked 0 r
   unfolding rows_below
-  looked_first r size none no_low = record {
+  looked_first r size none none_gone no_low = record {
     size = size;
+    none_gone = none_gone;
     few = omega (arith, none);
     rows = ap (λ k. take k r.rows) none;
     low = subst (LowSoFar 0) (sym no_low) (λ k from lt. absurd (omega (arith, lt)));
@@ -76,9 +78,10 @@ module _ (high : List High) (runs : List TaskRun) (tick : ℕ) where
 
   -- a task whose job isn't ready
   pub looked_waits : (n : ℕ) (r s : Roster) → is_due n ≡ false → ((ready : ℕ) → (run_at n).ready ≡ Some ready → s.stale_from ≤ ready) → s.stale_from ≤ r.stale_from
-      → s.rows ≡ r.rows → s.count ≡ r.count → s.low ≡ r.low → Looked n r → Looked (n + 1) s
-  looked_waits n r s not own fewer rows count low h = subst (λ k. Looked k s) (let e : suc n ≡ n + 1 = omega arith in e) (record {
+      → s.rows ≡ r.rows → s.count ≡ r.count → s.gone ≡ r.gone → s.low ≡ r.low → Looked n r → Looked (n + 1) s
+  looked_waits n r s not own fewer rows count gone low h = subst (λ k. Looked k s) (let e : suc n ≡ n + 1 = omega arith in e) (record {
     size = ap length rows ∙ h.size;
+    none_gone = gone ∙ h.none_gone;
     few = let few = h.few in omega (arith, few, count);
     rows = ap (λ (xs : List Ready). take s.count xs) rows ∙ ap (λ k. take k r.rows) count ∙ h.rows ∙ sym (no_row_due n (and_false _ _ not));
     low = subst (LowSoFar (suc n)) (sym low) (low_later n r.low (λ from none. not) h.low);
@@ -103,10 +106,11 @@ module _ (high : List High) (runs : List TaskRun) (tick : ℕ) where
 
   -- a high one
   pub looked_high : (n : ℕ) (r s : Roster) → n < 31 → n < length high → is_due n ≡ true → s.rows ≡ set r.rows r.count (row_by n (run_at n) (get_or high n no_high).timing.deadline)
-      → s.count ≡ r.count + 1 → s.low ≡ r.low → s.stale_from ≡ r.stale_from → Looked n r → Looked (n + 1) s
+      → s.count ≡ r.count + 1 → s.gone ≡ r.gone → s.low ≡ r.low → s.stale_from ≡ r.stale_from → Looked n r → Looked (n + 1) s
   unfolding rows_below
-  looked_high n r s small is_high due rows count low stale h = subst (λ k. Looked k s) (let e : suc n ≡ n + 1 = omega arith in e) (record {
+  looked_high n r s small is_high due rows count gone low stale h = subst (λ k. Looked k s) (let e : suc n ≡ n + 1 = omega arith in e) (record {
     size = ap length rows ∙ length-set r.rows r.count _ ∙ h.size;
+    none_gone = gone ∙ h.none_gone;
     few = let few = h.few in omega (arith, few, count);
     rows =
         let row = row_by n (run_at n) (get_or high n no_high).timing.deadline in
@@ -121,9 +125,10 @@ module _ (high : List High) (runs : List TaskRun) (tick : ℕ) where
 
   -- a low one: the first is kept
   pub looked_low : (n : ℕ) (r s : Roster) → length high ≤ n → is_due n ≡ true → (r.low ≡ None → s.low ≡ Some n) → ((x : ℕ) → r.low ≡ Some x → s.low ≡ Some x)
-      → s.rows ≡ r.rows → s.count ≡ r.count → s.stale_from ≡ r.stale_from → Looked n r → Looked (n + 1) s
-  looked_low n r s is_low due first kept rows count stale h = subst (λ k. Looked k s) (let e : suc n ≡ n + 1 = omega arith in e) (record {
+      → s.rows ≡ r.rows → s.count ≡ r.count → s.gone ≡ r.gone → s.stale_from ≡ r.stale_from → Looked n r → Looked (n + 1) s
+  looked_low n r s is_low due first kept rows count gone stale h = subst (λ k. Looked k s) (let e : suc n ≡ n + 1 = omega arith in e) (record {
     size = ap length rows ∙ h.size;
+    none_gone = gone ∙ h.none_gone;
     few = let few = h.few in omega (arith, few, count);
     rows = ap (λ (xs : List Ready). take s.count xs) rows ∙ ap (λ k. take k r.rows) count ∙ h.rows ∙ sym (no_row_due n (rw (le-ltb n (length high) is_low) refl));
     low = by_low r.low refl h.low;
@@ -205,7 +210,10 @@ module _ (sheet : Sheet) (m : Moment) (runs : List TaskRun) (tick : ℕ) (h : Sh
   pub looked_all : (r : Roster) → length sheet.high ≤ length runs → Looked sheet.high runs tick (length runs) r → ShowsReady sheet m tick r
   unfolding ready_rows
   looked_all r first l = record {
-    rows = l.rows ∙ beyond (length runs - length sheet.high) (length runs) (omega (arith, first)) ∙ rows_same (due_row sheet.high runs tick) (ready_row sheet m tick) (length sheet.high) row_is;
+    rows =
+        let none = l.none_gone in
+        let whole : r.count - r.gone ≡ r.count = omega (arith, none) in
+        (λ i. take (whole i) (drop (none i) r.rows)) ∙ l.rows ∙ beyond (length runs - length sheet.high) (length runs) (omega (arith, first)) ∙ rows_same (due_row sheet.high runs tick) (ready_row sheet m tick) (length sheet.high) row_is;
     low = low_is r.low l.low;
     later = λ seat ready below is after. l.later seat ready (let e = h.all in omega (arith, below, e)) ((shows_at seat below).ready ∙ is) after;
   }

@@ -2,8 +2,8 @@
 use Rattle.std.proofs.Common.{◌≡◌, ◌≢◌, ℕ, suc, ◌+◌, ◌<◌, Bool, true, false, List, length, refl, sym, ◌∙◌, ap, subst, arith, inl, inr, Option, Some, None, get_or, set, length-set, get_or-set_same, get_or-set_other}
 use Rattle.std.proofs.lemmas.Bool.{cases_eq}
 use Rattle.std.specs.Prelude.{nat_lt, ◌&&◌, slice_index_or, if◌then◌else◌}
-use Rattle.hk_plan.specs.declared.Ready.{Ready}
-use Rattle.hk_plan.specs.AloneBy.{no_ready, ready_at}
+use Rattle.std.specs.Option.{is_some}
+use Rattle.hk_plan.specs.AloneBy.{ready_at}
 use Rattle.hk_script.specs.Walks.{need_of, walk_after}
 use Rattle.hk_sheet.specs.declared.sheet.Sheet.{Sheet}
 use Rattle.hk_dispatch.specs.declared.operation.Left.{Left}
@@ -16,11 +16,11 @@ use Rattle.hk_dispatch.specs.Moment.{Course, Moment, no_course, course_at}
 use Rattle.hk_dispatch.specs.Turns.{is_operation, ready_rows, in_mid_course, first_low}
 use Rattle.hk_dispatch.specs.Ticks.{is_over, next_job, course_after, after_task}
 use Rattle.hk_dispatch.specs.Told.{end_of, ended}
-use Rattle.hk_dispatch.specs.Opened.{ShowsCourses, ShowsReady, OnlyLow, roster_after}
+use Rattle.hk_dispatch.specs.Opened.{ShowsCourses, roster_after, HighWent, ShowsReady, OnlyLow}
 use Rattle.hk_dispatch.specs.TaskRuns.{ShowsCourse}
 use Rattle.hk_dispatch.proofs.Courses.{left_now, words_now, course_now, own_course, other_course}
 use Rattle.hk_dispatch.proofs.FirstLow.{first_low_law}
-use Rattle.hk_dispatch.proofs.RosterAfter.{first_low_same, roster_waits, roster_gone}
+use Rattle.hk_dispatch.proofs.RosterAfter.{first_low_same, due_sooner, roster_waits, roster_counts, roster_goes}
 
 -- whether an operation is in mid-course, by the courses
 mid_by : (sheet : Sheet) (m n : Moment) (seat : ℕ) → course_at n seat ≡ course_at m seat → in_mid_course sheet n seat ≡ in_mid_course sheet m seat
@@ -93,17 +93,19 @@ module _ (sheet : Sheet) (m : Moment) (tick seat : ℕ) where
   }
 
   -- the roster, where the seat is a high one
-  pub high_roster : (r : Roster) (e : Option End) (place : ℕ) (rows : List Ready) (h : ShowsReady sheet m tick r) → seat < length m.courses → e ≡ end_now
-      → place < r.count → place < length (ready_rows sheet m tick) → (ready_at (ready_rows sheet m tick) place).task ≡ seat
-      → rows ≡ set (roster_after e r).rows place (record (get_or (roster_after e r).rows place no_ready) { done = (course_at n seat).had })
-      → suc tick < (roster_after e r).stale_from → ShowsReady sheet n (suc tick) (record (roster_after e r) { rows = rows })
-  high_roster r (Some end) place rows h below is first within task changed fresh = absurd (omega (arith, fresh))
-  high_roster r None place rows h below is first within task changed fresh =
-      roster_gone sheet m n tick r h fresh (λ other b. jobs_stay below (sym is) other) place seat within task (λ other high differs. had_stay other differs) first rows changed
+  pub high_roster : (r after : Roster) (e : Option End) (place : ℕ) (run : TaskRun) → ShowsReady sheet m tick r → seat < length m.courses → e ≡ end_now
+      → place < length (ready_rows sheet m tick) → (ready_at (ready_rows sheet m tick) place).task ≡ seat → ShowsCourse (task_at sheet seat) (course_at n seat) run
+      → HighWent place run (is_some e) r after → suc tick < after.stale_from → ShowsReady sheet n (suc tick) after
+  high_roster r after None place run h below is within task shows went fresh =
+      roster_counts sheet m n tick r h (let due = went.due in omega (arith, due, fresh)) place seat within task (λ other differs. other_course sheet m tick seat other differs) run shows after
+      (jobs_stay below (sym is) seat) went
+  high_roster r after (Some end) place run h below is within task shows went fresh =
+      roster_goes sheet m n tick r h (let due = went.due in let sooner = due_sooner run.ready r.stale_from in omega (arith, due, sooner, fresh)) place seat within task
+      (λ other differs. other_course sheet m tick seat other differs) run shows after went fresh
 
   -- and where it is a low one
   pub low_roster : (r : Roster) (e : Option End) (h : ShowsReady sheet m tick r) → seat < length m.courses → e ≡ end_now → IsLowSeat sheet seat
-      → suc tick < (roster_after e r).stale_from → ShowsReady sheet n (suc tick) (roster_after e r)
+      → suc tick < (roster_after (is_some e) r).stale_from → ShowsReady sheet n (suc tick) (roster_after (is_some e) r)
   low_roster r (Some end) h below is low fresh = absurd (omega (arith, fresh))
   low_roster r None h below is low fresh =
       roster_waits sheet m n tick r h fresh (λ other b. jobs_stay below (sym is) other)

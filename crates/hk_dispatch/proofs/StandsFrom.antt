@@ -25,7 +25,7 @@ use Rattle.hk_dispatch.specs.Ticks.{after_turn}
 use Rattle.hk_dispatch.specs.Told.{told_turn, told_by, told}
 use Rattle.hk_dispatch.specs.Session.{after_tick, state}
 use Rattle.hk_dispatch.specs.TaskRuns.{ShowsCourse}
-use Rattle.hk_dispatch.specs.Opened.{ShowsStart, ShowsCourses, Shows, Fit, Stands, Before, Went}
+use Rattle.hk_dispatch.specs.Opened.{ShowsStart, ShowsCourses, HasRoom, Shows, Fit, Stands, Before, Went}
 use Rattle.hk_dispatch.proofs.FirstLow.{first_low_law}
 use Rattle.hk_dispatch.proofs.Runs.{geometry_at, lawful_at}
 use Rattle.hk_dispatch.proofs.SessionJobs.{jobs_kept, one_low}
@@ -62,13 +62,13 @@ module _ (g : Geometry) (sheet : Sheet) where
     each = λ seat d below. subst (λ (c : Course). ShowsCourse (task_at sheet seat) c (slice_index_or runs seat d)) (sym (course_first seat)) (h.each seat d below);
   }
 
-  pub shows_first : (s : Stand) → s.heap ≡ machine.opening g → ShowsStart sheet s.tasks.items → s.roster.count ≤ 31 → s.roster.stale_from ≡ 0 → s.in_mid_course ≡ None
+  pub shows_first : (s : Stand) → s.heap ≡ machine.opening g → ShowsStart sheet s.tasks.items → HasRoom s.roster → s.roster.stale_from ≡ 0 → s.in_mid_course ≡ None
       → s.debt ≡ 0 → s.flips ≡ 0 → s.events ≡ 0 → s.idle ≡ 0 → s.over ≡ None → Shows sheet (opening g sheet) 0 s
   unfolding opening
-  shows_first s heap runs count stale mid debt flips events idle over = record {
+  shows_first s heap runs room stale mid debt flips events idle over = record {
     heap_is = heap ∙ core_first;
     courses = courses_first s.tasks.items runs;
-    roster_fits = count;
+    roster_room = room;
     roster_is = λ fresh. absurd (omega (arith, fresh, stale));
     in_mid_is = λ none. mid ∙ sym no_mid;
     debt_is = debt;

@@ -1,5 +1,5 @@
 -- Who gets a tick, by the roster and by the fields that show the moment.
-use Rattle.std.proofs.Common.{◌≡◌, ℕ, zero, suc, ◌+◌, ◌^◌, ◌<◌, ◌≤◌, Bool, true, false, List, [], ◌∷◌, ◌++◌, length, Option, Some, None, refl, sym, ◌∙◌, ap, subst, arith, inl, inr, get_or, take}
+use Rattle.std.proofs.Common.{◌≡◌, ℕ, zero, suc, ◌+◌, ◌^◌, ◌<◌, ◌≤◌, Bool, true, false, List, [], ◌∷◌, ◌++◌, length, Option, Some, None, refl, sym, ◌∙◌, ap, subst, arith, inl, inr, get_or}
 use Rattle.std.proofs.lemmas.Bool.{lt-ltb, le-ltb, eqb-true}
 use Rattle.std.specs.Prelude.{map, nat_lt, ◌==◌, if◌then◌else◌}
 use Rattle.std.specs.List.{AllByRecursion}
@@ -18,7 +18,7 @@ use Rattle.hk_dispatch.specs.Moment.{Moment, core_of, course_at}
 use Rattle.hk_dispatch.specs.Rows.{TasksRise}
 use Rattle.hk_dispatch.specs.Turns.{Turn, to_task, to_collector, to_nobody, arrived, ready_rows, first_low, in_mid_course, or_else, turn}
 use Rattle.hk_dispatch.specs.Rules.{ready_now, FirstLowIs, NoLow}
-use Rattle.hk_dispatch.specs.Opened.{MayLook, ShowsCourses, ShowsReady, Before, AtTurn, OnlyLow}
+use Rattle.hk_dispatch.specs.Opened.{MayLook, ShowsCourses, rows_of, HasRoom, ShowsReady, Before, AtTurn, OnlyLow}
 use Rattle.hk_dispatch.proofs.FirstLow.{first_low_law}
 use Rattle.hk_dispatch.proofs.Sheets.{count_tasks}
 use Rattle.hk_dispatch.proofs.TurnFacts.{rows_rise_law}
@@ -92,14 +92,14 @@ module _ (sheet : Sheet) (m : Moment) (t : ℕ) (s : Stand) (b : Before sheet m 
   courses_seen runs f = subst (λ (rs : List TaskRun). ShowsCourses sheet m rs) (sym f) b.shows.courses
 
   -- after the look
-  pub looked : (r : Roster) → r.count ≤ 31 → ShowsReady sheet m t r → AtTurn sheet m t (record s { roster = r })
-  looked r count ready = record {
+  pub looked : (r : Roster) → HasRoom r → ShowsReady sheet m t r → AtTurn sheet m t (record s { roster = r })
+  looked r room ready = record {
     before = record {
       may = b.may;
       shows = record {
         heap_is = b.shows.heap_is;
         courses = b.shows.courses;
-        roster_fits = count;
+        roster_room = room;
         roster_is = λ fresh. ready;
         in_mid_is = b.shows.in_mid_is;
         debt_is = b.shows.debt_is;
@@ -152,10 +152,10 @@ module _ (choice : List Ready → ℕ) (sheet : Sheet) (m : Moment) (t : ℕ) (s
   abbrev second : Turn
   second = or_else (first_low sheet (in_mid_course sheet m)) third
 
-  pub rows_rise : (rows : List Ready) → rows ≡ take s.roster.count s.roster.rows → TasksRise rows
+  pub rows_rise : (rows : List Ready) → rows ≡ rows_of s.roster → TasksRise rows
   rows_rise rows are = subst TasksRise (sym (are ∙ h.ready.rows)) (rows_rise_law sheet m t)
 
-  pub high_turn : (rows : List Ready) → rows ≡ take s.roster.count s.roster.rows → 0 < length rows → (place : ℕ) → place ≡ choice rows
+  pub high_turn : (rows : List Ready) → rows ≡ rows_of s.roster → 0 < length rows → (place : ℕ) → place ≡ choice rows
       → to_task (ready_at (ready_rows sheet m t) place).task ≡ turn choice sheet m t
   unfolding turn
   high_turn rows are some place is =
@@ -163,7 +163,7 @@ module _ (choice : List Ready → ℕ) (sheet : Sheet) (m : Moment) (t : ℕ) (s
       ap (λ k. to_task (ready_at (ready_rows sheet m t) k).task) (is ∙ ap choice same)
       ∙ sym (ap (λ o. or_else o second) (chosen_some choice (ready_rows sheet m t) (subst (λ (xs : List Ready). 0 < length xs) same some)))
 
-  module _ (rows : List Ready) (are : rows ≡ take s.roster.count s.roster.rows) (none : length rows ≡ 0) where
+  module _ (rows : List Ready) (are : rows ≡ rows_of s.roster) (none : length rows ≡ 0) where
     second_turn : second ≡ turn choice sheet m t
     unfolding turn
     second_turn = sym (ap (λ o. or_else o second) (chosen_none choice (ready_rows sheet m t) (ap length (sym (are ∙ h.ready.rows)) ∙ none)))

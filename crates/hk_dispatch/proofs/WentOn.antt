@@ -1,28 +1,29 @@
 -- What a tick leaves: of nobody, of the collector, and of a task.
-use Rattle.std.proofs.Common.{◌≡◌, ℕ, suc, ◌+◌, ◌^◌, ◌<◌, ◌≤◌, Bool, true, false, List, length, refl, sym, ◌∙◌, ap, subst, arith, Option, Some, None, get_or, set, take, length-take}
+use Rattle.std.proofs.Common.{◌≡◌, ℕ, suc, ◌+◌, ◌^◌, ◌<◌, ◌≤◌, Bool, true, false, List, length, refl, sym, ◌∙◌, ap, subst, arith, Option, Some, None}
 use Rattle.std.specs.Bool.{then_some}
+use Rattle.std.specs.Option.{is_some}
 use Rattle.std.specs.Prelude.{if◌then◌else◌}
 use Rattle.hk_core.specs.declared.spot.Work.{Work}
 use Rattle.hk_core.specs.Collect.{next_collected, work_by_collector}
 use Rattle.hk_collect.specs.Pays.{lost_in, debt_after}
 use Rattle.hk_collect.specs.Used.{is_flip}
 use Rattle.hk_plan.specs.declared.Ready.{Ready}
-use Rattle.hk_plan.specs.AloneBy.{no_ready, ready_at}
+use Rattle.hk_plan.specs.AloneBy.{ready_at}
 use Rattle.hk_sheet.specs.declared.sheet.Sheet.{Sheet}
 use Rattle.hk_dispatch.specs.declared.roster.Roster.{Roster}
 use Rattle.hk_dispatch.specs.declared.run.Done.{Done}
 use Rattle.hk_dispatch.specs.declared.run.TaskRun.{TaskRun}
 use Rattle.hk_dispatch.specs.declared.stand.Stand.{Stand}
-use Rattle.hk_dispatch.specs.declared.tick.End.{End}
 use Rattle.hk_dispatch.specs.declared.tick.Tick.{Tick}
 use Rattle.hk_dispatch.specs.declared.tick.Tick.TheVariants as tick
 use Rattle.hk_dispatch.specs.declared.tick.Who.TheVariants as who
-use Rattle.hk_dispatch.specs.Tasks.{IsLowSeat, tasks_of}
+use Rattle.hk_dispatch.specs.Tasks.{IsLowSeat, tasks_of, task_at}
 use Rattle.hk_dispatch.specs.Moment.{Moment, core_of, course_at}
 use Rattle.hk_dispatch.specs.Turns.{to_task, to_collector, to_nobody, ready_rows, first_low, in_mid_course}
 use Rattle.hk_dispatch.specs.Ticks.{over_in, after_task, after_event}
 use Rattle.hk_dispatch.specs.Told.{who_is, told_event}
-use Rattle.hk_dispatch.specs.Opened.{ShowsCourses, ShowsReady, Shows, Fit, AtTurn, OnlyLow, Gave, roster_after, Went}
+use Rattle.hk_dispatch.specs.TaskRuns.{ShowsCourse}
+use Rattle.hk_dispatch.specs.Opened.{ShowsCourses, rows_of, HasRoom, roster_after, HighWent, ShowsReady, Shows, Fit, AtTurn, OnlyLow, Gave, Went}
 use Rattle.hk_dispatch.proofs.CollectorTick.{core_collected}
 use Rattle.hk_dispatch.proofs.RosterAfter.{row_is_high}
 use Rattle.hk_dispatch.proofs.Sheets.{count_tasks}
@@ -48,7 +49,7 @@ module _ (sheet : Sheet) (m : Moment) (t : ℕ) (s : Stand) (h : AtTurn sheet m 
         shows = record {
           heap_is = shown.heap_is;
           courses = courses_wait sheet m n refl s.tasks.items shown.courses;
-          roster_fits = shown.roster_fits;
+          roster_room = shown.roster_room;
           roster_is = λ fresh. roster_wait sheet m n refl t s.roster h.ready fresh;
           in_mid_is = λ none. shown.in_mid_is none ∙ mid_wait sheet m n refl;
           debt_is = shown.debt_is;
@@ -96,7 +97,7 @@ module _ (sheet : Sheet) (m : Moment) (t : ℕ) (s : Stand) (h : AtTurn sheet m 
           shows = record {
             heap_is = c.heap ∙ ap next_collected shown.heap_is ∙ sym (core_collected m);
             courses = courses_wait sheet m n refl u.tasks.items (subst (λ (xs : List TaskRun). ShowsCourses sheet m xs) (sym (c.tasks)) shown.courses);
-            roster_fits = subst (λ (r : Roster). r.count ≤ 31) (sym (c.roster)) shown.roster_fits;
+            roster_room = subst HasRoom (sym (c.roster)) shown.roster_room;
             roster_is = λ fresh. subst (λ (r : Roster). ShowsReady sheet n (suc t) r) (sym (c.roster)) (roster_wait sheet m n refl t s.roster h.ready (subst (λ (r : Roster). suc t < r.stale_from) c.roster fresh));
             in_mid_is = λ none. c.in_mid ∙ shown.in_mid_is h.before.may.going ∙ mid_wait sheet m n refl;
             debt_is = c.debt ∙ (λ i. debt_after (work_now i) (shown.debt_is i));
@@ -122,7 +123,7 @@ module _ (sheet : Sheet) (m : Moment) (t : ℕ) (s : Stand) (h : AtTurn sheet m 
     known = subst (λ k. seat < k) (sym (h.before.may.jobs.courses)) below
 
     -- what the tick gave, where it went to that seat; the roster and the low operation are as its caller leaves them
-    module _ (v : Stand) (gave : Gave sheet m t seat v done) (keeps : v ≡ record s { heap = v.heap; tasks = v.tasks; debt = v.debt; roster = roster_after done.end s.roster }) where
+    module _ (v : Stand) (gave : Gave sheet m t seat v done) (keeps : v ≡ record s { heap = v.heap; tasks = v.tasks; debt = v.debt }) where
       fit_after : (roster : Roster) (mid : Option ℕ) → Fit (suc t) (record v { roster = roster; in_mid_course = mid })
       fit_after roster mid =
           let debt = gave.debt_few in
@@ -134,15 +135,15 @@ module _ (sheet : Sheet) (m : Moment) (t : ℕ) (s : Stand) (h : AtTurn sheet m 
           let i = ap (λ (x : Stand). x.idle) keeps in
           record { debt_few = omega (arith, debt); flips_few = omega (arith, flips, f); events_few = omega (arith, events, e); idle_few = omega (arith, idle, i) }
 
-      went : (roster : Roster) (mid : Option ℕ) → roster.count ≤ 31 → (suc t < roster.stale_from → ShowsReady sheet after (suc t) roster) → mid ≡ first_low sheet (in_mid_course sheet after)
+      went : (roster : Roster) (mid : Option ℕ) → HasRoom roster → (suc t < roster.stale_from → ShowsReady sheet after (suc t) roster) → mid ≡ first_low sheet (in_mid_course sheet after)
           → Went sheet m t (to_task seat) (record v { roster = roster; in_mid_course = mid }) (tick.Ran (who_is sheet seat) done.out done.end)
       unfolding after_task
-      went roster mid count ready low = record {
+      went roster mid room ready low = record {
         answer_is = λ i. tick.Ran (who_is sheet seat) (gave.out_is i) (gave.end_is i);
         shows = record {
           heap_is = gave.heap_is;
           courses = gave.courses;
-          roster_fits = count;
+          roster_room = room;
           roster_is = ready;
           in_mid_is = λ none. low;
           debt_is = gave.debt_is;
@@ -154,59 +155,47 @@ module _ (sheet : Sheet) (m : Moment) (t : ℕ) (s : Stand) (h : AtTurn sheet m 
         fit = fit_after roster mid;
       }
 
-      roster_now : v.roster ≡ roster_after done.end s.roster
-      roster_now = ap (λ (x : Stand). x.roster) keeps
-
-      count_now : v.roster.count ≤ 31
-      count_now = subst (λ (r : Roster). r.count ≤ 31) (sym roster_now) (by_end done.end)
-        where
-          by_end : (e : Option End) → (roster_after e s.roster).count ≤ 31
-          by_end None = shown.roster_fits
-          by_end (Some end) = shown.roster_fits
-
-      module _ (answer : Tick) (answer_is : answer ≡ tick.Ran (who_is sheet seat) done.out done.end) where
+      module _ (answer : Tick) (answer_is : answer ≡ tick.Ran (who_is sheet seat) done.out done.end) (ended : Bool) (ended_is : ended ≡ is_some done.end) (roster : Roster) where
         -- a low one
-        pub low_went : IsLowSeat sheet seat → OnlyLow sheet m seat → (mid : Option ℕ) → mid ≡ (if done.mid_course then Some seat else None)
-            → Went sheet m t (to_task seat) (record v { in_mid_course = mid }) answer
-        low_went low only mid mid_is = subst (λ (a : Tick). Went sheet m t (to_task seat) (record v { in_mid_course = mid }) a) (sym answer_is) (went v.roster mid count_now
+        pub low_went : roster ≡ roster_after ended v.roster → IsLowSeat sheet seat → OnlyLow sheet m seat → (mid : Option ℕ) → mid ≡ (if done.mid_course then Some seat else None)
+            → Went sheet m t (to_task seat) (record v { roster = roster; in_mid_course = mid }) answer
+        low_went roster_is low only mid mid_is =
+            let roster_now : roster ≡ roster_after (is_some done.end) s.roster = roster_is ∙ (λ i. roster_after (ended_is i) (keeps i).roster) in
+            subst (λ (a : Tick). Went sheet m t (to_task seat) (record v { roster = roster; in_mid_course = mid }) a) (sym answer_is) (went roster mid (subst HasRoom (sym roster_now) (room_after (is_some done.end)))
             (λ fresh. subst (λ (r : Roster). ShowsReady sheet after (suc t) r) (sym roster_now)
             (low_roster sheet m t seat s.roster done.end h.ready known gave.end_is low (subst (λ (r : Roster). suc t < r.stale_from) roster_now fresh)))
             (mid_is ∙ ap (λ b. if b then Some seat else None) gave.mid_course_is ∙ low_mid sheet m t seat low only))
+          where
+            room_after : (b : Bool) → HasRoom (roster_after b s.roster)
+            room_after false = shown.roster_room
+            room_after true = record { gone = (shown.roster_room).gone; few = (shown.roster_room).few }
 
         -- a high one, of the row at a place
-        module _ (place had : ℕ) (high : seat < length sheet.high) (first : place < s.roster.count) (within : place < length (ready_rows sheet m t))
-            (task : (ready_at (ready_rows sheet m t) place).task ≡ seat) (had_is : had ≡ (course_at after seat).had) (roster : Roster)
-            (roster_is : roster ≡ record v.roster { rows = set v.roster.rows place (record (get_or v.roster.rows place no_ready) { done = had }) }) where
-          rows_now : roster.rows ≡ set (roster_after done.end s.roster).rows place (record (get_or (roster_after done.end s.roster).rows place no_ready) { done = (course_at after seat).had })
-          rows_now = ap (λ (r : Roster). r.rows) roster_is ∙ (λ i. set (roster_now i).rows place (record (get_or (roster_now i).rows place no_ready) { done = had_is i }))
-
-          roster_then : roster ≡ record (roster_after done.end s.roster) { rows = roster.rows }
-          roster_then = λ i. record { rows = roster.rows; count = (ap (λ (r : Roster). r.count) roster_is ∙ ap (λ (r : Roster). r.count) roster_now) i; low = (ap (λ (r : Roster). r.low) roster_is ∙ ap (λ (r : Roster). r.low) roster_now) i; stale_from = (ap (λ (r : Roster). r.stale_from) roster_is ∙ ap (λ (r : Roster). r.stale_from) roster_now) i }
-
-          pub high_went : Went sheet m t (to_task (ready_at (ready_rows sheet m t) place).task) (record v { roster = roster }) answer
-          high_went = subst (λ k. Went sheet m t (to_task k) (record v { roster = roster }) answer) (sym task)
-              (subst (λ (a : Tick). Went sheet m t (to_task seat) (record v { roster = roster }) a) (sym answer_is) (went roster v.in_mid_course (subst (λ k. k ≤ 31) (sym (ap (λ (r : Roster). r.count) roster_is)) count_now)
-              (λ fresh. subst (λ (r : Roster). ShowsReady sheet after (suc t) r) (sym roster_then)
-              (high_roster sheet m t seat s.roster done.end place roster.rows h.ready known gave.end_is first within task rows_now (subst (λ (r : Roster). suc t < r.stale_from) roster_then fresh)))
+        module _ (place : ℕ) (high : seat < length sheet.high) (within : place < length (ready_rows sheet m t)) (task : (ready_at (ready_rows sheet m t) place).task ≡ seat)
+            (run : TaskRun) (shows : ShowsCourse (task_at sheet seat) (course_at after seat) run) where
+          pub high_went : HighWent place run ended v.roster roster → Went sheet m t (to_task (ready_at (ready_rows sheet m t) place).task) (record v { roster = roster }) answer
+          high_went w =
+              let now : HighWent place run (is_some done.end) s.roster roster = subst (λ (b : Bool). HighWent place run b s.roster roster) ended_is
+              (subst (λ (r : Roster). HighWent place run ended r roster) (ap (λ (x : Stand). x.roster) keeps) w) in
+              subst (λ k. Went sheet m t (to_task k) (record v { roster = roster }) answer) (sym task)
+              (subst (λ (a : Tick). Went sheet m t (to_task seat) (record v { roster = roster }) a) (sym answer_is) (went roster v.in_mid_course w.room
+              (λ fresh. high_roster sheet m t seat s.roster roster done.end place run h.ready known gave.end_is within task shows now fresh)
               (ap (λ (x : Stand). x.in_mid_course) keeps ∙ shown.in_mid_is h.before.may.going ∙ high_mid sheet m t seat high)))
 
   -- THE ROW AT A PLACE
   module _ (place : ℕ) where
-    pub row_within : place < length (take s.roster.count s.roster.rows) → place < length (ready_rows sheet m t)
+    pub row_within : place < length (rows_of s.roster) → place < length (ready_rows sheet m t)
     row_within within = subst (λ (xs : List Ready). place < length xs) h.ready.rows within
 
-    module _ (rows : List Ready) (rows_are : rows ≡ take s.roster.count s.roster.rows) where
+    module _ (rows : List Ready) (rows_are : rows ≡ rows_of s.roster) where
       pub row_task : (ready_at (ready_rows sheet m t) place).task ≡ (ready_at rows place).task
       row_task = ap (λ (xs : List Ready). (ready_at xs place).task) (sym (rows_are ∙ h.ready.rows))
 
-    pub row_below : place < length (take s.roster.count s.roster.rows) → (rows : List Ready) → rows ≡ take s.roster.count s.roster.rows → (ready_at rows place).task < length (tasks_of sheet)
+    pub row_below : place < length (rows_of s.roster) → (rows : List Ready) → rows ≡ rows_of s.roster → (ready_at rows place).task < length (tasks_of sheet)
     row_below within rows rows_are =
         let high = row_is_high sheet m t place (row_within within) in
         let task = row_task rows rows_are in
         omega (arith, high, task, count_tasks sheet)
-
-pub row_first : (s : Stand) (place : ℕ) → place < length (take s.roster.count s.roster.rows) → place < s.roster.count
-row_first s place within = let e = length-take s.roster.count s.roster.rows in grind (arith, within, e)
 
 -- a count, where a test may add one
 pub counted : (count : ℕ) (test : Bool) → count + (if test then 1 else 0) ≡ (if test then count + 1 else count)

@@ -1,9 +1,11 @@
 -- A session as contracts see it, and how its fields show where it stands.
-use Rattle.std.specs.Prelude.{◌≡◌, ℕ, suc, ◌*◌, ◌^◌, ◌<◌, ◌≤◌, true, List, length, slice_index_or, take, Option, Some, None}
+use Rattle.std.specs.Prelude.{◌≡◌, ℕ, suc, ◌*◌, ◌^◌, ◌<◌, ◌≤◌, min, Bool, true, false, List, length, slice_index_or, slice_set, Option, Some, None}
+use Rattle.std.specs.List.{remove, slice_range}
 use Rattle.hk_words.specs.declared.geometry.Geometry.{Geometry}
 use Rattle.hk_words.specs.Geometry.{HasSizes, tasks}
 use Rattle.hk_core.specs.State.{IsSized}
 use Rattle.hk_plan.specs.declared.Ready.{Ready}
+use Rattle.hk_plan.specs.AloneBy.{ready_at}
 use Rattle.hk_sheet.specs.declared.sheet.High.{High}
 use Rattle.hk_sheet.specs.declared.sheet.Sheet.{Sheet}
 use Rattle.hk_sheet.specs.Faults.{sizes_of}
@@ -12,7 +14,6 @@ use Rattle.hk_dispatch.specs.declared.run.TaskRun.{TaskRun}
 use Rattle.hk_dispatch.specs.declared.roster.Roster.{Roster}
 use Rattle.hk_dispatch.specs.declared.run.Done.{Done}
 use Rattle.hk_dispatch.specs.declared.stand.Stand.{Stand}
-use Rattle.hk_dispatch.specs.declared.tick.End.{End}
 use Rattle.hk_dispatch.specs.declared.tick.Tick.{Tick}
 use Rattle.hk_dispatch.specs.Tasks.{IsLowSeat, tasks_of, no_high, task_at}
 use Rattle.hk_dispatch.specs.Moment.{Moment, no_course, core_of, course_at, need_at}
@@ -58,13 +59,49 @@ pub record MayLook (high : List High) (runs : List TaskRun) (tick : ℕ) : Type 
   pub arrival : (seat : ℕ) (d : TaskRun) (ready : ℕ) → seat < length runs → (slice_index_or runs seat d).ready ≡ Some ready → arrived (slice_index_or runs seat d).arrival ≤ ready
   pub early : tick < 2 ^ 24
 
+-- the rows that stand in a roster: of those that were found, all but the first ones, which are gone
+abbrev pub rows_of : Roster → List Ready
+rows_of roster = slice_range roster.rows roster.gone roster.count
+
+-- no more are gone than were found, and those are at most 31
+pub record HasRoom (roster : Roster) : Type 0 where
+  pub gone : roster.gone ≤ roster.count
+  pub few : roster.count ≤ 31
+
 -- the roster has the rows of the high jobs that are ready at a tick and the first low task with a ready job, and knows when
 -- the next look is due
 pub record ShowsReady (sheet : Sheet) (m : Moment) (tick : ℕ) (roster : Roster) : Type 0 where
-  pub rows : take roster.count roster.rows ≡ ready_rows sheet m tick
+  pub rows : rows_of roster ≡ ready_rows sheet m tick
   pub low : roster.low ≡ first_low sheet (λ seat. is_ready (task_at sheet seat) (course_at m seat) tick)
   pub later : (seat ready : ℕ) → seat < length (tasks_of sheet) → (task_at sheet seat).ready (course_at m seat).job ≡ Some ready
       → tick < ready → roster.stale_from ≤ ready
+
+-- where a tick ended a low job, the tasks are looked through at the next one
+abbrev pub roster_after : (ended : Bool) → Roster → Roster
+roster_after false roster = roster
+roster_after true roster = record roster { stale_from = 0 }
+
+-- where a tick ended the high job of a row, the row is gone; else the row counts the ticks that the job has had
+abbrev pub rows_after : (ended : Bool) → (place had : ℕ) → List Ready → List Ready
+rows_after false place had rows = slice_set rows place (record (ready_at rows place) { done = had })
+rows_after true place had rows = remove rows place
+
+-- a look is due no later than a job becomes ready, where there is that job
+abbrev pub due_by : (next : Option ℕ) → (due : ℕ) → ℕ
+due_by None due = due
+due_by (Some ready) due = min due ready
+
+-- and where the tick ended the high job, a look is due no later than its task's next job becomes ready
+abbrev pub due_after : (ended : Bool) → (next : Option ℕ) → (due : ℕ) → ℕ
+due_after false next due = due
+due_after true next due = due_by next due
+
+-- the high job of a row had a tick, after which its task stands so
+pub record HighWent (place : ℕ) (run : TaskRun) (ended : Bool) (before after : Roster) : Type 0 where
+  pub room : HasRoom after
+  pub rows : rows_of after ≡ rows_after ended place run.had (rows_of before)
+  pub low : after.low ≡ before.low
+  pub due : after.stale_from ≡ due_after ended run.ready before.stale_from
 
 -- THE WHOLE
 
@@ -72,7 +109,7 @@ pub record ShowsReady (sheet : Sheet) (m : Moment) (tick : ℕ) (roster : Roster
 pub record Shows (sheet : Sheet) (m : Moment) (tick : ℕ) (s : Stand) : Type 0 where
   pub heap_is : s.heap ≡ core_of m
   pub courses : ShowsCourses sheet m s.tasks.items
-  pub roster_fits : s.roster.count ≤ 31
+  pub roster_room : HasRoom s.roster
   pub roster_is : tick < s.roster.stale_from → ShowsReady sheet m tick s.roster
   pub in_mid_is : m.over ≡ None → s.in_mid_course ≡ first_low sheet (in_mid_course sheet m)
   pub debt_is : s.debt ≡ m.debt
@@ -132,11 +169,6 @@ pub record Gave (sheet : Sheet) (m : Moment) (tick seat : ℕ) (s : Stand) (done
   pub out_is : done.out ≡ out_of (need_at sheet m seat)
   pub end_is : done.end ≡ end_of (task_at sheet seat) (course_at m seat).job (course_at m seat).walk tick (left_by (core_of m) seat (course_at m seat).spent (need_at sheet m seat))
   pub mid_course_is : done.mid_course ≡ in_mid_course sheet (after_task sheet m tick seat) seat
-
--- where a tick ended a job, the roster is looked through at the next one
-abbrev pub roster_after : Option End → Roster → Roster
-roster_after None roster = roster
-roster_after (Some end) roster = record roster { stale_from = 0 }
 
 -- somebody had the tick: what it answers, and what it left
 pub record Went (sheet : Sheet) (m : Moment) (tick : ℕ) (turn : Turn) (s : Stand) (answer : Tick) : Type 0 where

@@ -1,5 +1,5 @@
 //! Where a session stands, and what a tick does: the five rules.
-ghost use Rattle.std.specs.Prelude.{◌≡◌, ℕ, ◌<◌, length, take, IfOk};
+ghost use Rattle.std.specs.Prelude.{◌≡◌, ℕ, ◌<◌, length, IfOk};
 ghost use Rattle.hk_words.specs.Geometry.{HasSizes};
 ghost use Rattle.hk_plan.specs.AloneBy.{ready_at};
 ghost use Rattle.hk_sheet.specs.declared.sheet.Sheet.{Sheet};
@@ -8,7 +8,7 @@ ghost use Rattle.hk_sheet.specs.Valid.{IsSheet};
 ghost use Rattle.hk_dispatch.specs.Tasks.{IsLowSeat, tasks_of};
 ghost use Rattle.hk_dispatch.specs.Moment.{Moment, opening};
 ghost use Rattle.hk_dispatch.specs.Turns.{to_task, to_collector, to_nobody, ready_rows, turn};
-ghost use Rattle.hk_dispatch.specs.Opened.{Shows, Fit, Before, AtTurn, OnlyLow, Gave, roster_after, Went};
+ghost use Rattle.hk_dispatch.specs.Opened.{Shows, Fit, Before, AtTurn, OnlyLow, Gave, rows_of, Went};
 
 use crate::events::{flips_in, lost_in, next_event, over_in, told_event};
 use crate::pick::Pick;
@@ -97,12 +97,13 @@ impl Stand {
     /// Gives a tick to the ready high job of a row.
     fn high_tick(&mut self, sheet: &Sheet, place: usize, tick: u64) -> Tick
         requires at { (m : Moment) × AtTurn sheet.now m tick self.old }
-        requires place { place < length (take self.old.roster.count self.old.roster.rows) }
+        requires place { place < length (rows_of self.old.roster) }
         ensures { (m : Moment) → AtTurn sheet.now m tick self.old → Went sheet.now m tick (to_task (ready_at (ready_rows sheet.now m tick) place).task) self.new result }
     {
         let seat = self.roster.rows()[place].task;
         let done = self.give(sheet, seat, tick);
-        self.roster.give(place, self.tasks[seat as usize].had);
+        let run = &self.tasks[seat as usize];
+        self.roster.high_went(place, run, done.end.is_some());
         tell(sheet, seat, done)
     }
 
@@ -113,6 +114,7 @@ impl Stand {
         ensures { (m : Moment) → AtTurn sheet.now m tick self.old → OnlyLow sheet.now m seat → Went sheet.now m tick (to_task seat) self.new result }
     {
         let done = self.give(sheet, seat, tick);
+        self.roster.low_went(done.end.is_some());
         self.in_mid_course = done.mid_course.then_some(seat);
         tell(sheet, seat, done)
     }
@@ -122,14 +124,11 @@ impl Stand {
         requires at { (m : Moment) × Before sheet.now m tick self.old }
         requires seat { seat < length (tasks_of sheet.now) }
         ensures gave { (m : Moment) → Before sheet.now m tick self.old → Gave sheet.now m tick seat self.new result }
-        ensures keeps { self.new ≡ record self.old { heap = self.new.heap; tasks = self.new.tasks; debt = self.new.debt; roster = roster_after result.end self.old.roster } }
+        ensures keeps { self.new ≡ record self.old { heap = self.new.heap; tasks = self.new.tasks; debt = self.new.debt } }
     {
         let task = task_at(sheet, seat);
         let done = self.tasks[seat as usize].tick(&mut self.heap, task, seat, tick);
         self.debt += sheet.heap.rate * u64::from(done.words);
-        if done.end.is_some() {
-            self.roster.end();
-        }
         done
     }
 

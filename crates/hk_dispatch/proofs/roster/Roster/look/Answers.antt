@@ -12,13 +12,13 @@ use Rattle.hk_dispatch.proofs.roster.Roster.look.Goals.{then-ready-tick, else-re
 pub loop-seat-init : goal.loop-seat-init
 loop-seat-init c =
     let size : length c.args.self.now.rows ≡ 31 = search rules in
-    looked_first c.args.high.now c.args.tasks.now c.args.tick _ size refl refl
+    looked_first c.args.high.now c.args.tasks.now c.args.tick _ size refl refl refl
 
 pub loop-seat-preserved-in_default : goal.loop-seat-preserved-in_default
 loop-seat-preserved-in_default c =
     let l = c.loop-seat in
     let none = not_by (get_or c.args.tasks.now l.seat no_run).ready c.args.tick c.in_default.not-Some in
-    looked_waits c.args.high.now c.args.tasks.now c.args.tick l.seat l.self l.self none (λ ready e. absurd (c.in_default.not-Some ready e)) (omega arith) refl refl refl l.invariant
+    looked_waits c.args.high.now c.args.tasks.now c.args.tick l.seat l.self l.self none (λ ready e. absurd (c.in_default.not-Some ready e)) (omega arith) refl refl refl refl l.invariant
 
 pub add-requires-clause-fits : goal.add-requires-clause-fits
 add-requires-clause-fits c =
@@ -44,25 +44,35 @@ loop-seat-preserved c =
           let same : c.in-Some.ready ≡ ready = let k : ◌≡◌ {A = Option ℕ} (Some c.in-Some.ready) (Some ready) = sym c.in-Some.is ∙ e in cc in
           let is = ap (λ (s : Roster). s.stale_from) w.self-is in let least = w.min-self.ensures in omega (arith, same, is, least))
           (let is = ap (λ (s : Roster). s.stale_from) w.self-is in let least = w.min-self.ensures in omega (arith, is, least))
-          (ap (λ (s : Roster). s.rows) w.self-is) (ap (λ (s : Roster). s.count) w.self-is) (ap (λ (s : Roster). s.low) w.self-is) l.invariant
+          (ap (λ (s : Roster). s.rows) w.self-is) (ap (λ (s : Roster). s.count) w.self-is) (ap (λ (s : Roster). s.gone) w.self-is) (ap (λ (s : Roster). s.low) w.self-is) l.invariant
       | else-ready-tick+then-seat-high w ↦
           let due = by_now (get_or runs l.seat no_run).ready tick c.in-Some.ready c.in-Some.is w.if-ready-tick.false in
           let is = w.self-is ∙ w.add.ensures in
           let same : ◌≡◌ {A = High} (get_or high l.seat w.index-high-seat.result) (get_or high l.seat no_high) = get_or_default high l.seat w.index-high-seat.result no_high w.if-seat-high.true in
           looked_high high runs tick l.seat l.self c.if-ready-tick.self (let few = c.requires.few in let lt = c.loop-seat-test.true in omega (arith, few, lt)) w.if-seat-high.true due
           (ap (λ (s : Roster). s.rows) is ∙ ap (λ (h : High). set l.self.rows l.self.count (row_by l.seat (get_or runs l.seat no_run) h.timing.deadline)) same)
-          (ap (λ (s : Roster). s.count) is) (ap (λ (s : Roster). s.low) is) (ap (λ (s : Roster). s.stale_from) is) l.invariant
+          (ap (λ (s : Roster). s.count) is) (ap (λ (s : Roster). s.gone) is) (ap (λ (s : Roster). s.low) is) (ap (λ (s : Roster). s.stale_from) is) l.invariant
       | else-ready-tick+else-seat-high+then-is_none w ↦
           let due = by_now (get_or runs l.seat no_run).ready tick c.in-Some.ready c.in-Some.is w.if-ready-tick.false in
           looked_low high runs tick l.seat l.self c.if-ready-tick.self w.if-seat-high.false due
           (λ e. ap (λ (s : Roster). s.low) w.self-is) (λ x e. absurd (let f : true ≡ false = sym (ap is_some e) ∙ w.is_none.ensures ∙ ap not w.if-is_none.true in cc))
-          (ap (λ (s : Roster). s.rows) w.self-is) (ap (λ (s : Roster). s.count) w.self-is) (ap (λ (s : Roster). s.stale_from) w.self-is) l.invariant
+          (ap (λ (s : Roster). s.rows) w.self-is) (ap (λ (s : Roster). s.count) w.self-is) (ap (λ (s : Roster). s.gone) w.self-is) (ap (λ (s : Roster). s.stale_from) w.self-is) l.invariant
       | else-ready-tick+else-seat-high+else-is_none w ↦
           let due = by_now (get_or runs l.seat no_run).ready tick c.in-Some.ready c.in-Some.is w.if-ready-tick.false in
           looked_low high runs tick l.seat l.self c.if-ready-tick.self w.if-seat-high.false due
           (λ e. absurd (let f : false ≡ true = sym (ap is_some e) ∙ w.is_none.ensures ∙ ap not w.if-is_none.false in cc)) (λ x e. ap (λ (s : Roster). s.low) w.self-is ∙ e)
-          (ap (λ (s : Roster). s.rows) w.self-is) (ap (λ (s : Roster). s.count) w.self-is) (ap (λ (s : Roster). s.stale_from) w.self-is) l.invariant
+          (ap (λ (s : Roster). s.rows) w.self-is) (ap (λ (s : Roster). s.count) w.self-is) (ap (λ (s : Roster). s.gone) w.self-is) (ap (λ (s : Roster). s.stale_from) w.self-is) l.invariant
     ]
+
+pub returns-clause-room : goal.returns-clause-room
+returns-clause-room c =
+    let l = c.loop-seat in
+    let looked = l.invariant in
+    let none = looked.none_gone in
+    let few = looked.few in
+    let all = l.auto.seat-end in
+    let most = c.requires.few in
+    record { gone = omega (arith, none); few = omega (arith, few, all, most) }
 
 pub returns-clause-ready : goal.returns-clause-ready
 returns-clause-ready c =

@@ -21,14 +21,8 @@ tick-done-requires-clause-in_step c =
     in_step c.args.sheet.now c.requires.at.0 c.args.tick b.may c.args.seat c.requires.seat _ c.task_at-task.ensures c.args.self.now.heap b.shows.heap_is c.index_mut.result.now
     (shows_at c.args.sheet.now c.requires.at.0 c.args.tick c.args.self.now b c.args.seat c.requires.seat c.index_mut.result.now c.index_mut.ensures.value)
 
-pub returns-then-is_some-clause-gave : goal.returns-then-is_some-clause-gave
-returns-then-is_some-clause-gave c = λ m b.
-    seat_gave c.args.sheet.now m c.args.tick c.args.self.now b c.args.seat c.requires.seat _ c.task_at-task.ensures c.index_mut.result.now c.index_mut.ensures.value
-    c.tick-done.new.self c.tick-done.result c.tick-done.ensures.course c.tick-done.ensures.out c.tick-done.ensures.end c.tick-done.ensures.mid_course c.tick-done.ensures.words c.tick-done.ensures.few
-    _ c.tick-done.ensures.heap refl (ap (λ w. c.args.self.now.debt + c.args.sheet.now.heap.rate * w) c.from.ensures)
-
-pub returns-else-is_some-clause-gave : goal.returns-else-is_some-clause-gave
-returns-else-is_some-clause-gave c = λ m b.
+pub returns-clause-gave : goal.returns-clause-gave
+returns-clause-gave c = λ m b.
     seat_gave c.args.sheet.now m c.args.tick c.args.self.now b c.args.seat c.requires.seat _ c.task_at-task.ensures c.index_mut.result.now c.index_mut.ensures.value
     c.tick-done.new.self c.tick-done.result c.tick-done.ensures.course c.tick-done.ensures.out c.tick-done.ensures.end c.tick-done.ensures.mid_course c.tick-done.ensures.words c.tick-done.ensures.few
     _ c.tick-done.ensures.heap refl (ap (λ w. c.args.self.now.debt + c.args.sheet.now.heap.rate * w) c.from.ensures)

@@ -9,6 +9,6 @@ refresh-requires-clause-may c = may_look c.args.sheet.now c.requires.0 c.args.ti
 
 pub returns : goal.returns
 returns c = λ m b.
-    looked c.args.sheet.now m c.args.tick c.args.self.now b c.refresh.new.self c.refresh.ensures.fits
+    looked c.args.sheet.now m c.args.tick c.args.self.now b c.refresh.new.self c.refresh.ensures.room
     (c.refresh.ensures.ready c.args.sheet.now m (sym (c.deref.ensures.value ∙ ap (λ (s : Sheet). s.high) c.sheet.view_is))
     (courses_seen c.args.sheet.now m c.args.tick c.args.self.now b c.deref-2.result.now c.deref-2.ensures.value) b.shows.roster_is)

@@ -9,4 +9,4 @@ returns c = λ m h only.
     let low = c.requires.low in
     let below = low.below in
     low_went sheet m c.args.tick c.args.self.now h c.args.seat (omega (arith, below, count_tasks sheet)) c.give-done.result c.give-done.new.self (c.give-done.ensures.gave m h.before) c.give-done.ensures.keeps
-    c.tell.result c.tell.ensures low only c.then_some-self.result (c.then_some-self.ensures ∙ some_if c.give-done.result.mid_course c.args.seat)
+    c.tell.result c.tell.ensures c.is_some.result c.is_some.ensures c.low_went.new.self c.low_went.ensures low only c.then_some-self.result (c.then_some-self.ensures ∙ some_if c.give-done.result.mid_course c.args.seat)

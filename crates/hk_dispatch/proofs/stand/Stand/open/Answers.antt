@@ -7,5 +7,5 @@ returns-clause-sizes c = sizes_first c.geometry-geometry.result c.in_ok-heap.hea
 
 pub returns-clause-shows : goal.returns-clause-shows
 returns-clause-shows c =
-    shows_first c.in_ok-heap.heap.geometry c.args.sheet.now _ (own_opening c.geometry-geometry.result c.in_ok-heap.heap c.in_ok-heap.ensures.state) c.in_ok-tasks.ensures c.new.ensures.fits c.new.ensures.stale
+    shows_first c.in_ok-heap.heap.geometry c.args.sheet.now _ (own_opening c.geometry-geometry.result c.in_ok-heap.heap c.in_ok-heap.ensures.state) c.in_ok-tasks.ensures c.new.ensures.room c.new.ensures.stale
     refl refl refl refl refl refl

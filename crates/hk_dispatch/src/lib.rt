@@ -2,20 +2,12 @@
 //! after them, and before low jobs go on.
 #![tactic(auto)]
 
-#[cfg(test)]
-mod attempts;
-#[cfg(test)]
-mod choices;
-#[cfg(test)]
-mod counts;
 mod events;
 mod laws;
 mod needs;
 mod operation;
 mod pick;
 mod roster;
-#[cfg(test)]
-mod rows;
 mod run;
 mod schedule;
 mod seats;
@@ -24,12 +16,6 @@ mod stand;
 #[cfg(test)]
 mod tests;
 mod tick;
-#[cfg(test)]
-mod walks;
-#[cfg(test)]
-mod watch;
-#[cfg(test)]
-mod written;
 
 pub use hk_plan::Ready;
 pub use laws::{

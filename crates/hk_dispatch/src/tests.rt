@@ -1,6 +1,14 @@
 //! Ticks of operations and of questions, and the choice of the first row.
 ghost use Rattle.std.specs.Prelude.{◌<◌};
 
+mod attempts;
+mod choices;
+mod counts;
+mod rows;
+mod walks;
+mod watch;
+mod written;
+
 use crate::{First, Left, Pick, Ready, ask, operate};
 use hk_collect::OwnedHeap;
 use hk_core::Fault;

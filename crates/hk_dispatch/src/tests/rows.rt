@@ -1,5 +1,5 @@
 //! Sessions worked out by hand: whose tick it is, with and without objects.
-use crate::watch::{Row, check};
+use super::watch::{Row, check};
 use std::test::Fail;
 
 /// A high job that makes an object, and a low one. Each word makes the collector owe 11 events, which it does after the job

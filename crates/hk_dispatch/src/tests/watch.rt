@@ -1,7 +1,7 @@
 //! Runs of sessions in tests: what is written of each, who got each tick, and at every tick the debt, the useful events of
 //! the cycle and the words used, looked at against their bounds.
-use crate::counts::{Counts, most_used};
-use crate::written::{Written, add, name, name_of};
+use super::counts::{Counts, most_used};
+use super::written::{Written, add, name, name_of};
 use crate::{Pick, Session, SessionBy, Tick, Who};
 use hk_admit::{admit, check_heap};
 use hk_sheet::read;

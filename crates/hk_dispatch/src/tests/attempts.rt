@@ -1,5 +1,5 @@
 //! Sessions worked out by hand: lost attempts of the collector, and live memory at its limit.
-use crate::watch::{Row, check};
+use super::watch::{Row, check};
 use std::test::Fail;
 
 /// A put enters the board while the collector copies it, right after it loaded the board's header: the attempt is lost.

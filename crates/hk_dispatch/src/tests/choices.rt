@@ -2,7 +2,7 @@
 ghost use Rattle.std.specs.Prelude.{length, ◌-◌};
 ghost use Rattle.std.proofs.Common.{rules};
 
-use crate::watch::{Row, check, check_by};
+use super::watch::{Row, check, check_by};
 use crate::{Pick, Ready};
 use std::test::Fail;
 

@@ -1,7 +1,7 @@
 //! Sessions of sheets that are drawn from a number, each on the smallest heap that is admitted: at every tick the debt, the
 //! useful events and the words used are looked at against their bounds, and how near they came to these is kept.
-use crate::counts::{Counts, most_used};
-use crate::written::add;
+use super::counts::{Counts, most_used};
+use super::written::add;
 use crate::{Session, Tick, Who};
 use hk_admit::{Admitted, Refused, admit};
 use hk_sheet::read;

@@ -1,0 +1,138 @@
+"""The table of `ratios.sh`: proved programs beside plain loops."""
+
+import os
+import re
+import resource
+import subprocess
+import sys
+
+WORK, TURNS = sys.argv[1], int(sys.argv[2])
+HENRI, HEAP_MIX = os.path.abspath("crates/henri/out/henri"), os.path.abspath("crates/heap_mix/out/heap_mix")
+PLAIN_SESSIONS, PLAIN_HEAP = f"{WORK}/sessions", f"{WORK}/heap"
+MOST_TICKS = 16_777_216
+
+
+def instructions(words, given=b""):
+    """What callgrind counts for a whole run."""
+    done = subprocess.run(
+        ["valgrind", "--tool=callgrind", "--callgrind-out-file=/dev/null", *words],
+        input=given, stdout=subprocess.DEVNULL, stderr=subprocess.PIPE,
+    )
+    return int(re.search(rb"refs:\s+([\d,]+)", done.stderr)[1].replace(b",", b""))
+
+
+def seconds(words, given=b""):
+    """The least processor time of some turns, user and system."""
+    least = None
+    for _ in range(TURNS):
+        before = resource.getrusage(resource.RUSAGE_CHILDREN)
+        subprocess.run(words, input=given, stdout=subprocess.DEVNULL, check=True)
+        after = resource.getrusage(resource.RUSAGE_CHILDREN)
+        spent = after.ru_utime - before.ru_utime + after.ru_stime - before.ru_stime
+        least = spent if least is None else min(least, spent)
+    return least
+
+
+def text(words, given=b""):
+    """What a run writes, without the lines of the analysis, which the plain loops don't write."""
+    wrote = subprocess.run(words, input=given, stdout=subprocess.PIPE, check=True).stdout
+    return [line for line in wrote.splitlines() if line.split()[0] not in (b"heap", b"high", b"low")]
+
+
+def row(name, unit, few, many, amount, whole):
+    """A line of the table. `few` and `many` give the words and the input of the two programs for two lengths, `amount` units apart;
+    `whole` those for the time, and how many units that is."""
+    counted = [(instructions(*most) - instructions(*least)) / amount for least, most in zip(few, many)]
+    *pair, units = whole
+    took = [seconds(*one) * 1e9 / units for one in pair]
+    print(
+        f"| {name} | {unit} | {counted[0]:.1f} | {counted[1]:.1f} | **{counted[0] / counted[1]:.2f}** "
+        f"| {took[0]:.1f} | {took[1]:.1f} | {took[0] / took[1]:.2f} |"
+    )
+
+
+HEAP = "heap = { live = 2, alloc = 4, reserve = 0, rate = 0, board = [0, 0] }\n"
+
+
+def tasks(number, period, cost, script, arrivals=lambda place: ""):
+    """A sheet of so many high tasks alike, for any number of ticks."""
+    def sheet(ticks):
+        parts = [f"version = 1\nticks = {ticks}\n{HEAP}"]
+        for place in range(number):
+            comes = arrivals(place) or f"first = 0\nevery = {period}\n"
+            parts.append(
+                f'\n[[high]]\nname = "t{place}"\nperiod = {period}\ndeadline = {period}\ncost = {cost}\nwords = 0\n'
+                f'{comes}script = """\n{script}\n"""\n'
+            )
+        return "".join(parts).encode()
+    return sheet
+
+
+def stored(name):
+    """A sheet of sheets/, for any number of ticks."""
+    with open(f"sheets/{name}.toml") as file:
+        found = file.read()
+    return lambda ticks: re.sub(r"(?m)^ticks = .*$", f"ticks = {ticks}", found).encode()
+
+
+MAKING = """version = 1
+ticks = %d
+heap = { live = 64, alloc = 600, reserve = 128, rate = 11, board = [2, 2] }
+
+[[high]]
+name = "a"
+period = 120
+deadline = 120
+cost = 9
+words = 3
+first = 0
+every = 120
+script = \"\"\"
+new r1 0 2
+clear r1
+\"\"\"
+
+[[low]]
+name = "b"
+first = 0
+every = 1000
+script = \"\"\"
+repeat 6
+new r1 0 2
+clear r1
+end
+\"\"\"
+"""
+
+
+def listed(place):
+    """4,096 arrivals, spread over all ticks."""
+    return f"arrivals = {[place + 4095 * job for job in range(4096)]}\n"
+
+
+SHEETS = [
+    ("the controller of `sheets/`", stored("controller"), 400_000),
+    ("a sheet that allocates all the time", lambda ticks: (MAKING % ticks).encode(), 400_000),
+    ("one task of period 4 and cost 2, an output a job", tasks(1, 4, 2, "work 1\nout v0"), 400_000),
+    ("31 tasks that have nothing to do", tasks(31, MOST_TICKS, 1, "work 1"), 400_000),
+    ("31 tasks of period 10,000 and cost 300", tasks(31, 10_000, 300, "work 300"), 400_000),
+    ("31 tasks of period 31 and cost 1", tasks(31, 31, 1, "work 1"), 400_000),
+    ("31 lists of 4,096 arrivals, 0.9 MB", tasks(31, 4095, 1, "work 1", listed), 400_000),
+]
+
+print("| what | unit | instructions, proved | plain | ratio | ns, proved | plain | ratio |")
+print("|---|---|---|---|---|---|---|---|")
+
+for name, how in (("calls in one piece", []), ("calls by their steps", ["steps"])):
+    if text([HEAP_MIX, "20000", *how]) != text([PLAIN_HEAP, "20000"]):
+        sys.exit(f"{name}: the two programs write different texts")
+    few, many = ([([HEAP_MIX, str(rounds), *how],), ([PLAIN_HEAP, str(rounds)],)] for rounds in (100_000, 200_000))
+    whole = ([HEAP_MIX, "5000000", *how],), ([PLAIN_HEAP, "5000000"],), 5_000_000
+    row(f"heap of one owner, the collector beside it: {name}", "round", few, many, 100_000, whole)
+
+for name, sheet, ticks in SHEETS:
+    if text([HENRI, "run"], sheet(ticks)) != text([PLAIN_SESSIONS], sheet(ticks)):
+        sys.exit(f"{name}: the two programs write different reports")
+    few, many = ([([HENRI, "run"], sheet(most)), ([PLAIN_SESSIONS], sheet(most))] for most in (ticks, 2 * ticks))
+    whole = ([HENRI, "run"], sheet(MOST_TICKS)), ([PLAIN_SESSIONS], sheet(MOST_TICKS)), MOST_TICKS
+    row(name, "tick", few, many, ticks, whole)

@@ -1,0 +1,16 @@
+#!/usr/bin/env bash
+# Every measurement that has a plain Rust loop beside it, in one table of ratios: instructions, which callgrind counts and which are
+# the same on each machine, and processor time, the least of some turns. The proved programs are those that `rt run` or `rt ci` leave;
+# the plain loops are built by rustc with optimisation. Each pair writes the same text, which is compared first.
+# Words: the number of turns (5).
+set -eu
+cd "$(dirname "$0")/.."
+for program in henri heap_mix; do
+  [ -x "crates/$program/out/$program" ] || { echo "first prove and build crates/$program: (cd crates/$program && rt run < stdin)"; exit 2; }
+done
+command -v valgrind > /dev/null || { echo "valgrind counts the instructions: install it first"; exit 2; }
+work=$(mktemp -d)
+trap 'rm -rf "$work"' EXIT
+rustc -O --edition 2024 -o "$work/sessions" bench/sessions.rs
+rustc -O --edition 2024 -o "$work/heap" bench/heap.rs
+PYTHONDONTWRITEBYTECODE=1 python3 -u bench/ratios.py "$work" "${1:-5}"

@@ -1,7 +1,7 @@
-//! Calls on the heap of one owner, run to their ends one after another.
+//! Calls on the heap of one owner, one after another: in one piece each, or begun and stepped to their ends.
 use hk_collect::OwnedHeap;
-use hk_core::{Outcome, Step};
-use hk_words::{Call, Geometry, MOST_PLACES, Reply};
+use hk_core::{Fault, Outcome, Step};
+use hk_words::{Call, Geometry, MOST_PLACES, Reply, Shape};
 use std::alloc::Global;
 
 /// The seat whose calls are run, a low one.
@@ -32,6 +32,101 @@ pub fn is_null(heap: &OwnedHeap, reg: u8) -> bool {
         return true;
     }
     heap.is_null(SEAT, reg)
+}
+
+impl End {
+    /// How a call in one piece ended that replies no value.
+    fn of(ended: Result<(), Fault>) -> End {
+        match ended {
+            Ok(()) => End::Done(Reply::Unit),
+            Err(_) => End::Refused,
+        }
+    }
+}
+
+/// A Get in one piece.
+pub fn get(heap: &mut OwnedHeap, reg: u8, field: u8) -> End {
+    let g = heap.geometry();
+    if SEAT >= g.tasks() || heap.flight(SEAT).place != 0 || reg >= g.registers() {
+        return End::Refused;
+    }
+    match heap.get(SEAT, reg, field) {
+        Ok(number) => End::Done(Reply::Num(number)),
+        Err(_) => End::Refused,
+    }
+}
+
+/// A Put in one piece.
+pub fn put(heap: &mut OwnedHeap, reg: u8, field: u8, value: u64) -> End {
+    let g = heap.geometry();
+    if SEAT >= g.tasks() || heap.flight(SEAT).place != 0 || reg >= g.registers() {
+        return End::Refused;
+    }
+    End::of(heap.put(SEAT, reg, field, value))
+}
+
+/// A Load in one piece.
+pub fn load(heap: &mut OwnedHeap, dest: u8, reg: u8, field: u8) -> End {
+    let g = heap.geometry();
+    if SEAT >= g.tasks() || heap.flight(SEAT).place != 0 {
+        return End::Refused;
+    }
+    if dest == 0 || dest >= g.registers() || reg >= g.registers() {
+        return End::Refused;
+    }
+    End::of(heap.load(SEAT, dest, reg, field))
+}
+
+/// A Store in one piece.
+pub fn store(heap: &mut OwnedHeap, reg: u8, field: u8, from: u8) -> End {
+    let g = heap.geometry();
+    if SEAT >= g.tasks() || heap.flight(SEAT).place != 0 {
+        return End::Refused;
+    }
+    if reg >= g.registers() || from >= g.registers() {
+        return End::Refused;
+    }
+    End::of(heap.store(SEAT, reg, field, from))
+}
+
+/// A Move in one piece.
+pub fn shift(heap: &mut OwnedHeap, dest: u8, from: u8) -> End {
+    let g = heap.geometry();
+    if SEAT >= g.tasks() || heap.flight(SEAT).place != 0 {
+        return End::Refused;
+    }
+    if dest == 0 || dest >= g.registers() || from >= g.registers() {
+        return End::Refused;
+    }
+    End::of(heap.shift(SEAT, dest, from))
+}
+
+/// A Clear in one piece.
+pub fn clear(heap: &mut OwnedHeap, dest: u8) -> End {
+    let g = heap.geometry();
+    if SEAT >= g.tasks() || heap.flight(SEAT).place != 0 {
+        return End::Refused;
+    }
+    if dest == 0 || dest >= g.registers() {
+        return End::Refused;
+    }
+    End::of(heap.clear(SEAT, dest))
+}
+
+/// A New in one piece.
+pub fn make(heap: &mut OwnedHeap, dest: u8, shape: Shape) -> End {
+    let g = heap.geometry();
+    if SEAT >= g.tasks() || heap.flight(SEAT).place != 0 {
+        return End::Refused;
+    }
+    if dest == 0 || dest >= g.registers() {
+        return End::Refused;
+    }
+    match heap.make(SEAT, dest, shape) {
+        Ok(Outcome::Done(reply)) => End::Done(reply),
+        Ok(Outcome::Full { .. }) => End::Full,
+        Err(_) => End::Refused,
+    }
 }
 
 /// A call of the seat, begun and stepped to its end.

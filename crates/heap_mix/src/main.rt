@@ -1,6 +1,6 @@
 //! heap_mix: so many rounds of a fixed mixture of calls on the heap of one owner, with the collector's events that each
-//! new object owes. It prints what was done, and a digest of the numbers that were read. Its one word is the number of
-//! rounds.
+//! new object owes. It prints what was done, and a digest of the numbers that were read. Its first word is the number of
+//! rounds. Each call is done in one piece, or, with a second word `steps`, begun and done step by step.
 #![tactic(auto)]
 
 mod calls;
@@ -9,7 +9,7 @@ mod mixture;
 mod tally;
 
 use anyhow::{Context, Result, anyhow};
-use mixture::Mixture;
+use mixture::{Mixture, Way};
 use std::env;
 use std::rt::Env;
 
@@ -17,16 +17,26 @@ use std::rt::Env;
 fn rounds(rt: &(impl Env + AllocGlobal)) -> Result<u64> {
     match env::args(rt)?.nth(1) {
         Some(word) => word.parse::<u64>().context("the number of rounds"),
-        None => Err(anyhow!("heap_mix ROUNDS")),
+        None => Err(anyhow!("heap_mix ROUNDS [steps]")),
+    }
+}
+
+/// How calls are done, from the word behind the rounds.
+fn way(rt: &(impl Env + AllocGlobal)) -> Result<Way> {
+    match env::args(rt)?.nth(2) {
+        None => Ok(Way::Pieces),
+        Some(word) if word.as_str() == "steps" => Ok(Way::Steps),
+        Some(_) => Err(anyhow!("heap_mix ROUNDS [steps]")),
     }
 }
 
 fn main(rt: HostRuntime) -> Result<()> {
     let rounds = rounds(&rt)?;
+    let way = way(&rt)?;
     let Some(heap) = calls::open(rt.alloc()) else {
         return Err(anyhow!("no memory for the heap"));
     };
-    let mut mixture = Mixture::new(heap);
+    let mut mixture = Mixture::new(heap, way);
     mixture.build();
     mixture.run(rounds);
     let tally = mixture.tally();

@@ -53,18 +53,29 @@ const NEXT_FIELD: u8 = 0;
 /// The reference field of a link for its leaf.
 const LEAF_FIELD: u8 = 1;
 
+/// How calls are done.
+#[derive(Clone, Copy, Debug, PartialEq, Eq)]
+pub enum Way {
+    /// Each in one piece.
+    Pieces,
+    /// Each begun, and then step by step.
+    Steps,
+}
+
 /// The heap, the draws and the tally of a run.
 #[derive(Drop)]
 pub struct Mixture {
     heap: OwnedHeap,
+    way: Way,
     draws: Draws,
     tally: Tally,
 }
 
 impl Mixture {
-    pub fn new(heap: OwnedHeap) -> Mixture {
+    pub fn new(heap: OwnedHeap, way: Way) -> Mixture {
         Mixture {
             heap,
+            way,
             draws: Draws::new(),
             tally: Tally::default(),
         }
@@ -189,7 +200,11 @@ impl Mixture {
 
     fn get(&mut self, reg: u8, field: u8) -> u64 {
         self.tally.gets = self.tally.gets.wrapping_add(1);
-        match self.call(Call::Get { reg, field }) {
+        let end = match self.way {
+            Way::Pieces => calls::get(&mut self.heap, reg, field),
+            Way::Steps => calls::run(&mut self.heap, Call::Get { reg, field }),
+        };
+        match self.ended(end) {
             Some(Reply::Num(number)) => {
                 self.tally.read(number);
                 number
@@ -200,33 +215,57 @@ impl Mixture {
 
     fn put(&mut self, reg: u8, field: u8, value: u64) {
         self.tally.puts = self.tally.puts.wrapping_add(1);
-        self.call(Call::Put { reg, field, value });
+        let end = match self.way {
+            Way::Pieces => calls::put(&mut self.heap, reg, field, value),
+            Way::Steps => calls::run(&mut self.heap, Call::Put { reg, field, value }),
+        };
+        self.ended(end);
     }
 
     fn load(&mut self, dest: u8, reg: u8, field: u8) {
         self.tally.loads = self.tally.loads.wrapping_add(1);
-        self.call(Call::Load { dest, reg, field });
+        let end = match self.way {
+            Way::Pieces => calls::load(&mut self.heap, dest, reg, field),
+            Way::Steps => calls::run(&mut self.heap, Call::Load { dest, reg, field }),
+        };
+        self.ended(end);
     }
 
     fn store(&mut self, reg: u8, field: u8, from: u8) {
         self.tally.stores = self.tally.stores.wrapping_add(1);
-        self.call(Call::Store { reg, field, from });
+        let end = match self.way {
+            Way::Pieces => calls::store(&mut self.heap, reg, field, from),
+            Way::Steps => calls::run(&mut self.heap, Call::Store { reg, field, from }),
+        };
+        self.ended(end);
     }
 
     fn copy(&mut self, dest: u8, from: u8) {
         self.tally.moves = self.tally.moves.wrapping_add(1);
-        self.call(Call::Move { dest, from });
+        let end = match self.way {
+            Way::Pieces => calls::shift(&mut self.heap, dest, from),
+            Way::Steps => calls::run(&mut self.heap, Call::Move { dest, from }),
+        };
+        self.ended(end);
     }
 
     fn clear(&mut self, dest: u8) {
         self.tally.clears = self.tally.clears.wrapping_add(1);
-        self.call(Call::Clear { dest });
+        let end = match self.way {
+            Way::Pieces => calls::clear(&mut self.heap, dest),
+            Way::Steps => calls::run(&mut self.heap, Call::Clear { dest }),
+        };
+        self.ended(end);
     }
 
     /// Makes an object, and has the collector do the events that it owes for it.
     fn make(&mut self, dest: u8, shape: Shape) {
         self.tally.news = self.tally.news.wrapping_add(1);
-        if self.call(Call::New { dest, shape }).is_some() {
+        let end = match self.way {
+            Way::Pieces => calls::make(&mut self.heap, dest, shape),
+            Way::Steps => calls::run(&mut self.heap, Call::New { dest, shape }),
+        };
+        if self.ended(end).is_some() {
             for _event in 0..RATE * shape.words() {
                 let work = self.heap.collect();
                 self.tally.collected(work);
@@ -234,9 +273,9 @@ impl Mixture {
         }
     }
 
-    /// A call, run to its end: its reply, and None where it was refused or found no room.
-    fn call(&mut self, call: Call) -> Option<Reply> {
-        match calls::run(&mut self.heap, call) {
+    /// Counts the end of a call: its reply, and None where it was refused or found no room.
+    fn ended(&mut self, end: End) -> Option<Reply> {
+        match end {
             End::Done(reply) => Some(reply),
             End::Full => {
                 self.tally.full = self.tally.full.wrapping_add(1);

@@ -1,5 +1,6 @@
 pub mod SpotFits
 pub mod Works
+pub mod AtLine
 pub mod Runs
 pub mod Laws
 pub mod Measure

@@ -7,9 +7,10 @@ ghost use Rattle.hk_core.specs.Lawful.{Lawful, IsLawful};
 ghost use Rattle.hk_collect.specs.SpotFits.{SpotFits};
 ghost use Rattle.hk_collect.specs.Works.{HasCauses};
 
-use crate::decide::event;
-use crate::follow::took;
-use hk_core::{Core, Work};
+use crate::frames::{frame, frame_trade, register, rest};
+use crate::numbers::{clear, pass, pass_head, reset, sweep};
+use crate::objects::{cell, link_word, look, object_trade, scan};
+use hk_core::{Core, Line, Work};
 
 /// Does the next event of the collector, and answers what it did. The machine is lawful for each history for which it was:
 /// the collector leaves the history as it is. Each answer comes exactly where its cause is there, read of the word that the
@@ -24,19 +25,28 @@ pub fn step(core: &mut Core) -> Work
     advance(core)
 }
 
-/// Does the next event of the collector: on the row, and what its spot takes from it.
-#[tactic(auto, unfolding(hk_core::specs::Collect::next_collected, hk_core::specs::Collect::work_by_collector, hk_core::specs::Collect::event_by_collector, hk_core::specs::Collect::found_by_collector))]
+/// Does the next event of the collector: that of the line which its spot is at.
+#[tactic(auto, unfolding(hk_core::specs::Collect::next_collected, hk_core::specs::Collect::work_by_collector, hk_core::specs::Collect::event_by_collector, hk_core::specs::Collect::found_by_collector, hk_core::specs::Collect::spot_event, hk_core::specs::Collect::spot_took, hk_core::specs::Collect::spot_work))]
 pub fn advance(core: &mut Core) -> Work
     requires fits { SpotFits core.old.geometry core.old.spot }
     requires can_fire { CanFireIf core.old.row (event_by_collector core.old) }
     ensures next { core.new ≡ next_collected core.old }
     ensures work { result ≡ work_by_collector core.old }
 {
-    let g = core.geometry();
-    let mut spot = core.spot();
-    let event = event(&spot, &g);
-    let found = core.fire_if(event);
-    let work = took(&mut spot, &g, found);
-    core.set_spot(spot);
-    work
+    match core.spot().line {
+        Line::Rest => rest(core),
+        Line::Frame(seat) => frame(core, seat),
+        Line::Register { seat, reg, stage } => register(core, seat, reg, stage),
+        Line::FrameTrade(seat) => frame_trade(core, seat),
+        Line::Scan => scan(core),
+        Line::Link => link_word(core),
+        Line::Look => look(core),
+        Line::Cell { index, stage } => cell(core, index, stage),
+        Line::ObjectTrade => object_trade(core),
+        Line::Pass(number) => pass(core, number),
+        Line::PassHead(number) => pass_head(core, number),
+        Line::Sweep { number, stage } => sweep(core, number, stage),
+        Line::Clear(word) => clear(core, word),
+        Line::Reset => reset(core),
+    }
 }

@@ -176,7 +176,7 @@ fn cell_event(spot: &Spot, g: &Geometry, index: u8, stage: Stage) -> Option<Even
 }
 
 /// The place of a cell of the object that is moved, in the old space.
-fn old_cell(spot: &Spot, index: u8) -> u32
+pub fn old_cell(spot: &Spot, index: u8) -> u32
     ensures { result ≡ moved_from spot.now + 1 + index }
 {
     header_place(spot.first) + 1 + u32::from(index)

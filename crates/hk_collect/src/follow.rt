@@ -139,7 +139,7 @@ fn frame_work(seat: u8, old: u64) -> Work
 }
 
 /// After a register comes the next one, and after the last one the exchange of the frame word.
-fn after_register(g: &Geometry, seat: u8, reg: u8) -> Line
+pub fn after_register(g: &Geometry, seat: u8, reg: u8) -> Line
     requires { reg < g.now.registers }
     ensures { result ≡ after_register g.now seat reg }
 {
@@ -224,7 +224,7 @@ fn register_took(spot: &Spot, g: &Geometry, seat: u8, reg: u8, stage: Stage, old
 }
 
 /// After the last frame comes the scan.
-fn after_frame(g: &Geometry, seat: u8) -> Line
+pub fn after_frame(g: &Geometry, seat: u8) -> Line
     requires { seat < tasks g.now }
     ensures { result ≡ after_frame g.now seat }
 {
@@ -347,14 +347,14 @@ fn look_work(spot: &Spot, old: u64) -> Work
 }
 
 /// The cell at an index is a reference field, and the reference isn't null.
-fn is_reference(spot: &Spot, index: u8, word: u64) -> bool
+pub fn is_reference(spot: &Spot, index: u8, word: u64) -> bool
     ensures { result ≡ is_reference spot.now index word }
 {
     index < reference_refs(spot.item) && word != 0
 }
 
 /// After a cell comes the next one, and after the last one the exchange of the header.
-fn after_cell(spot: &Spot, index: u8) -> Line
+pub fn after_cell(spot: &Spot, index: u8) -> Line
     requires { reference_size spot.now.item < 256 }
     ensures { result ≡ after_cell spot.now index }
 {
@@ -463,7 +463,7 @@ fn object_trade_work(spot: &Spot, old: u64) -> Work
 }
 
 /// After a number comes the next one, and after the last one the sweep.
-fn after_pass(g: &Geometry, number: u32) -> Line
+pub fn after_pass(g: &Geometry, number: u32) -> Line
     requires { number < numbers g.now }
     ensures { result ≡ after_pass g.now number }
 {
@@ -491,7 +491,7 @@ fn pass_took(spot: &Spot, g: &Geometry, number: u32, old: u64) -> Spot
 }
 
 /// The object of a header is in the old space.
-fn is_old(spot: &Spot, g: &Geometry, header: u64) -> bool
+pub fn is_old(spot: &Spot, g: &Geometry, header: u64) -> bool
     requires { spot.now.cycle ≤ last_cycle }
     ensures { result ≡ is_old g.now spot.now header }
 {

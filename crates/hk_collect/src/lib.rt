@@ -1,11 +1,15 @@
 //! The collector of the heap, one event on one word at a time.
 #![tactic(auto)]
 
+mod claims;
 mod collector;
 mod decide;
 mod follow;
+mod frames;
 mod laws;
 mod measure;
+mod numbers;
+mod objects;
 mod owned;
 #[cfg(test)]
 mod tests;

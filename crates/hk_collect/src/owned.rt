@@ -4,7 +4,8 @@ ghost use Rattle.hk_words.specs.Geometry.{tasks};
 ghost use Rattle.hk_words.specs.Layout.{w0_words, w0_cycle};
 ghost use Rattle.hk_words.specs.Row.{W0, W1, IsRegister, word_of};
 ghost use Rattle.hk_words.specs.Calls.{RegistersFit};
-ghost use Rattle.hk_words.specs.declared.call.Call.TheVariants.{Same, IsNull};
+ghost use Rattle.hk_words.specs.declared.call.Call.TheVariants.{Get, Put, Load, Store, Move, Clear, New, Same, IsNull};
+ghost use Rattle.hk_words.specs.declared.call.Reply.TheVariants.{Num, Unit};
 ghost use Rattle.hk_model.specs.Heap.{opening_of};
 ghost use Rattle.hk_model.specs.History.{History, after, is_question};
 ghost use Rattle.hk_model.specs.Replies.{reply_of, said};
@@ -15,12 +16,13 @@ ghost use Rattle.hk_core.specs.Collect.{next_collected, work_by_collector};
 ghost use Rattle.hk_core.specs.Lawful.{Lawful, IsLawful};
 ghost use Rattle.hk_core.specs.Refused.{EndsFull};
 ghost use Rattle.hk_core.specs.declared.outcome.Step.TheVariants.{Ended};
-ghost use Rattle.hk_core.specs.declared.outcome.Outcome.TheVariants.{Full};
+ghost use Rattle.hk_core.specs.declared.outcome.Outcome.TheVariants.{Done, Full};
+ghost use Rattle.hk_core.specs.Whole.{whole, whole_history, EndsAs};
 ghost use Rattle.hk_collect.specs.Works.{HasCauses};
 
 use crate::collector::step;
-use hk_core::{Core, Fault, Flight, Memory, Spot, Step, Work};
-use hk_words::{Call, Geometry};
+use hk_core::{Core, Fault, Flight, Memory, Outcome, Spot, Step, Work};
+use hk_words::{Call, Geometry, Shape};
 use std::alloc::Global;
 use std::marker::Model;
 
@@ -88,6 +90,97 @@ impl OwnedHeap {
         ensures lawful { (history : History) → Lawful self.old history → Lawful self.new (history_after self.old seat history) }
     {
         self.core.step(seat)
+    }
+
+    /// A Get in one piece: the number in a field of the object that a register names. It leaves and answers
+    /// what its begin and its steps, with nothing between them, would.
+    pub fn get(&mut self, seat: u8, reg: u8, field: u8) -> Result<u64, Fault>
+        requires seat { seat < tasks self.old.geometry }
+        requires idle { (flight_of self.old.flights seat).place ≡ 0 }
+        requires registers { RegistersFit self.old.geometry.registers (Get reg field) }
+        ensures state { self.new ≡ whole self.old seat (Get reg field) }
+        ensures answer { MatchResult result (λ number. EndsAs self.old seat (Get reg field) (Done (Num number))) (λ fault. refusal self.old seat (Get reg field) ≡ Some fault) }
+        ensures lawful { (history : History) → Lawful self.old history → Lawful self.new (whole_history self.old seat (Get reg field) history) }
+    {
+        self.core.get(seat, reg, field)
+    }
+
+    /// A Put in one piece: writes a number field of the object that a register names. It leaves and answers
+    /// what its begin and its steps, with nothing between them, would.
+    pub fn put(&mut self, seat: u8, reg: u8, field: u8, value: u64) -> Result<(), Fault>
+        requires seat { seat < tasks self.old.geometry }
+        requires idle { (flight_of self.old.flights seat).place ≡ 0 }
+        requires registers { RegistersFit self.old.geometry.registers (Put reg field value) }
+        ensures state { self.new ≡ whole self.old seat (Put reg field value) }
+        ensures answer { MatchResult result (λ _. EndsAs self.old seat (Put reg field value) (Done Unit)) (λ fault. refusal self.old seat (Put reg field value) ≡ Some fault) }
+        ensures lawful { (history : History) → Lawful self.old history → Lawful self.new (whole_history self.old seat (Put reg field value) history) }
+    {
+        self.core.put(seat, reg, field, value)
+    }
+
+    /// A Load in one piece: copies a reference field of the object that a register names into a register. It leaves and answers
+    /// what its begin and its steps, with nothing between them, would.
+    pub fn load(&mut self, seat: u8, dest: u8, reg: u8, field: u8) -> Result<(), Fault>
+        requires seat { seat < tasks self.old.geometry }
+        requires idle { (flight_of self.old.flights seat).place ≡ 0 }
+        requires registers { RegistersFit self.old.geometry.registers (Load dest reg field) }
+        ensures state { self.new ≡ whole self.old seat (Load dest reg field) }
+        ensures answer { MatchResult result (λ _. EndsAs self.old seat (Load dest reg field) (Done Unit)) (λ fault. refusal self.old seat (Load dest reg field) ≡ Some fault) }
+        ensures lawful { (history : History) → Lawful self.old history → Lawful self.new (whole_history self.old seat (Load dest reg field) history) }
+    {
+        self.core.load(seat, dest, reg, field)
+    }
+
+    /// A Store in one piece: copies a register into a reference field of the object that a register names. It leaves and answers
+    /// what its begin and its steps, with nothing between them, would.
+    pub fn store(&mut self, seat: u8, reg: u8, field: u8, from: u8) -> Result<(), Fault>
+        requires seat { seat < tasks self.old.geometry }
+        requires idle { (flight_of self.old.flights seat).place ≡ 0 }
+        requires registers { RegistersFit self.old.geometry.registers (Store reg field from) }
+        ensures state { self.new ≡ whole self.old seat (Store reg field from) }
+        ensures answer { MatchResult result (λ _. EndsAs self.old seat (Store reg field from) (Done Unit)) (λ fault. refusal self.old seat (Store reg field from) ≡ Some fault) }
+        ensures lawful { (history : History) → Lawful self.old history → Lawful self.new (whole_history self.old seat (Store reg field from) history) }
+    {
+        self.core.store(seat, reg, field, from)
+    }
+
+    /// A Move in one piece: copies a register into another. It leaves and answers
+    /// what its begin and its steps, with nothing between them, would.
+    pub fn shift(&mut self, seat: u8, dest: u8, from: u8) -> Result<(), Fault>
+        requires seat { seat < tasks self.old.geometry }
+        requires idle { (flight_of self.old.flights seat).place ≡ 0 }
+        requires registers { RegistersFit self.old.geometry.registers (Move dest from) }
+        ensures state { self.new ≡ whole self.old seat (Move dest from) }
+        ensures answer { MatchResult result (λ _. EndsAs self.old seat (Move dest from) (Done Unit)) (λ fault. refusal self.old seat (Move dest from) ≡ Some fault) }
+        ensures lawful { (history : History) → Lawful self.old history → Lawful self.new (whole_history self.old seat (Move dest from) history) }
+    {
+        self.core.shift(seat, dest, from)
+    }
+
+    /// A Clear in one piece: sets a register to null. It leaves and answers
+    /// what its begin and its steps, with nothing between them, would.
+    pub fn clear(&mut self, seat: u8, dest: u8) -> Result<(), Fault>
+        requires seat { seat < tasks self.old.geometry }
+        requires idle { (flight_of self.old.flights seat).place ≡ 0 }
+        requires registers { RegistersFit self.old.geometry.registers (Clear dest) }
+        ensures state { self.new ≡ whole self.old seat (Clear dest) }
+        ensures answer { MatchResult result (λ _. EndsAs self.old seat (Clear dest) (Done Unit)) (λ fault. refusal self.old seat (Clear dest) ≡ Some fault) }
+        ensures lawful { (history : History) → Lawful self.old history → Lawful self.new (whole_history self.old seat (Clear dest) history) }
+    {
+        self.core.clear(seat, dest)
+    }
+
+    /// A New in one piece: makes an object, and a register refer to it, or answers that there was no room. It leaves and answers
+    /// what its begin and its steps, with nothing between them, would.
+    pub fn make(&mut self, seat: u8, dest: u8, shape: Shape) -> Result<Outcome, Fault>
+        requires seat { seat < tasks self.old.geometry }
+        requires idle { (flight_of self.old.flights seat).place ≡ 0 }
+        requires registers { RegistersFit self.old.geometry.registers (New dest shape) }
+        ensures state { self.new ≡ whole self.old seat (New dest shape) }
+        ensures answer { MatchResult result (λ outcome. EndsAs self.old seat (New dest shape) outcome) (λ fault. refusal self.old seat (New dest shape) ≡ Some fault) }
+        ensures lawful { (history : History) → Lawful self.old history → Lawful self.new (whole_history self.old seat (New dest shape) history) }
+    {
+        self.core.make(seat, dest, shape)
     }
 
     /// Does the next event of the collector, and answers what it did. The heap is lawful for each history for which it was:

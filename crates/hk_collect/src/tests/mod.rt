@@ -3,4 +3,5 @@ mod aids;
 mod answers;
 mod cycles;
 mod measured;
+mod pieces;
 mod replies;

@@ -1,0 +1,4 @@
+use Rattle.hk_collect.proofs.owned.OwnedHeap.clear.Goals as goal
+
+pub invariant_of-self : goal.invariant_of-self
+invariant_of-self c = let lawful = c.self.invariant in (_, c.clear.ensures.lawful lawful.0 lawful.1)

@@ -48,13 +48,14 @@ impl<'a> Task<'a> {
         }
     }
 
-    /// When a job becomes ready. A low one does so when it arrives.
-    fn ready(self, job: u64) -> Option<u64>
+    /// When a job becomes ready that arrives then. A low one does so when it arrives, and a high one where its task has no lag.
+    fn ready(self, job: u64, arrival: Option<u64>) -> Option<u64>
+        requires { arrival ≡ (task_of self).arrival job }
         ensures { result ≡ (task_of self.entry).ready job }
     {
         match self {
-            Task::High(task) => task.ready(job),
-            Task::Low(task) => task.arrivals.at(job),
+            Task::High(task) if task.lag > 0 => task.ready(job),
+            _ => arrival,
         }
     }
 }
@@ -94,10 +95,11 @@ impl TaskRun {
     pub fn start(task: Task<'_>) -> TaskRun
         ensures { ShowsCourse (task_of task.entry) no_course result }
     {
+        let arrival = task.arrival(0);
         TaskRun {
             job: 0,
-            arrival: task.arrival(0),
-            ready: task.ready(0),
+            arrival,
+            ready: task.ready(0, arrival),
             walk: Walk::start(0),
             spent: 0,
             had: 0,
@@ -201,8 +203,9 @@ impl TaskRun {
             None => 0,
         };
         self.job = job + 1;
-        self.arrival = task.arrival(job + 1);
-        self.ready = task.ready(job + 1);
+        let arrival = task.arrival(job + 1);
+        self.arrival = arrival;
+        self.ready = task.ready(job + 1, arrival);
         self.walk = Walk::start(job + 1);
         self.spent = 0;
         self.had = 0;

@@ -51,7 +51,7 @@ def row(name, unit, few, many, amount, whole):
     )
 
 
-HEAP = "heap = { live = 2, alloc = 4, reserve = 0, rate = 0, board = [0, 0] }\n"
+HEAP = "heap = { live = 64, alloc = 4096, reserve = 2048, rate = 32, board = [2, 2] }\n"
 
 
 def tasks(number, period, cost, script, arrivals=lambda place: ""):

@@ -10,6 +10,16 @@ use Rattle.hk_io.specs.Bytes.{AppendsPrefix, AppendsFront}
 pub AppendsFront-none : (known : Option (List ℕ)) (bytes : List ℕ) → AppendsFront known known bytes bytes
 AppendsFront-none known bytes = record { count = 0; taken = Appends-nil known; waits = refl }
 
+-- of what waits, some more was taken
+pub AppendsFront-more : (a b c : Option (List ℕ)) (bytes rest : List ℕ) (n : ℕ) → AppendsFront a b bytes rest → Appends b c (take n rest) → AppendsFront a c bytes (drop n rest)
+AppendsFront-more a b c bytes rest n front more =
+    let same : take front.count bytes ++ take n rest ≡ take (front.count + n) bytes = ap (λ w. take front.count bytes ++ take n w) front.waits ∙ sym (take-add front.count n bytes) in
+    record {
+      count = front.count + n;
+      taken = subst (Appends a c) same (Appends-trans a b c _ _ front.taken more);
+      waits = ap (drop n) front.waits ∙ drop-drop n front.count bytes;
+    }
+
 -- all that waits was taken
 pub Appends-all : (a b c : Option (List ℕ)) (bytes rest : List ℕ) → AppendsFront a b bytes rest → Appends b c rest → Appends a c bytes
 Appends-all a b c bytes rest front more =

@@ -48,11 +48,6 @@ pub live_first : (g : Geometry) → live_of g [] ≡ None
 unfolding live_of answers
 live_first g = refl
 
-    by_answer : Answers g k.log c.later budget events work.Worn → 3 ≤ k'.spot.cycle
-    by_answer (useful is all says) = absurd (cc)
-    by_answer (stopped other not-worn few count says last) = absurd (not-worn refl)
-    by_answer (worn is some says causes) = late causes
-
 -- an answer after which the collector goes on, or with too many live words, or of no further cycle
 pub goes_on_unlive : (answer : Work) → is_last answer ≡ false → live_in answer ≡ None
 goes_on_unlive work.Useful on = refl

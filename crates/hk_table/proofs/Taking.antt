@@ -1,8 +1,8 @@
 -- How the keeper takes in the passes, and what it knows once it has taken in all.
-use Rattle.std.proofs.Common.{◌≡◌, ℕ, zero, suc, ◌+◌, ◌<◌, ◌≤◌, Bool, true, false, List, [], ◌∷◌, ◌++◌, length, refl, sym, ◌∙◌, ap, subst, arith, inl, inr}
+use Rattle.std.proofs.Common.{◌≡◌, ℕ, zero, suc, ◌+◌, ◌<◌, ◌≤◌, List, [], ◌∷◌, ◌++◌, length, refl, sym, ◌∙◌, ap, subst, arith, inl, inr}
 use Rattle.std.proofs.lemmas.List.{length-append}
 use Rattle.std.proofs.lemmas.Bool.{cases_eq}
-use Rattle.std.specs.Prelude.{All, nat_lt, slice_index_or, if◌then◌else◌}
+use Rattle.std.specs.Prelude.{All, slice_index_or}
 use Rattle.hk_words.specs.Geometry.{tasks}
 use Rattle.hk_model.specs.Heap.{opening_of}
 use Rattle.hk_model.specs.History.{Legal}
@@ -56,14 +56,6 @@ all_of_closings Q done all i d below =
     subst Q (h.2 e) (all h.0 e h.1)
 
 -- A PASS IS TAKEN IN
-
-    choose : (t : Bool) → nat_lt (length a) (length b) ≡ t → length a ≤ length (if t then b else a)
-    choose true e = below (length a) (length b) e
-    choose false e = omega arith
-
-    choose : (t : Bool) → nat_lt (length a) (length b) ≡ t → length b ≤ length (if t then b else a)
-    choose true e = omega arith
-    choose false e = above (length a) (length b) e
 
 -- the pass that is taken in is one of all
 pub taken_is : (P : Pass → Type 0) (start : KeeperView) (all left more : List Pass) (p : Pass) (k : KeeperView) → left ≡ more ++ p ∷ [] → TakenIn start all left k → All P all → P p

@@ -16,12 +16,12 @@ use Rattle.hk_sheet.specs.declared.error.SheetError.TheVariants as error
 use Rattle.hk_sheet.specs.declared.sheet.HeapKeys.{HeapKeys}
 use Rattle.hk_sheet.specs.declared.sheet.Sheet.{Sheet}
 use Rattle.hk_sheet.specs.Answers.{IsDocument, IsRead, Answers}
-use Rattle.hk_sheet.specs.Code.{Gives}
+use Rattle.hk_sheet.specs.Code.{or_else, Gives}
 use Rattle.hk_sheet.specs.Rules.{Wrong, no_such_kind, out_of_range, Rule, wrong_in, number_at, is_second, top_rules, heap_rules, high_rules, low_rules}
 use Rattle.hk_sheet.specs.Reading.{text_at, table_at, highs_of, lows_of, arrivals_in, heap_of, sheet_in}
 use Rattle.hk_sheet.specs.Faults.{first_of, counted, unknown_keys, least, shown, unknown_fault, error_of, fault_of_value, fault_of_key, fault_of_table, faults_of_tasks, task_path, is_name, is_among, faults_of_names, names_of, faults_of_ticks, fault_of_arrivals, fault_of_high_arrivals, fault_of_low_arrivals, fault_of_text, fault_of_script, sizes_of, fault_of_geometry, fault_of, sheet_of}
 use Rattle.hk_sheet.specs.Valid.{IsSheet}
-use Rattle.hk_sheet.proofs.FaultOrder.{or_else, high_faults, low_faults, fault_of-in_order}
+use Rattle.hk_sheet.proofs.FaultOrder.{high_faults, low_faults, fault_of-in_order}
 use Rattle.hk_sheet.proofs.Validity.{sheet_right}
 
 -- a fault of a document isn't `Text`

@@ -7,18 +7,15 @@ use Rattle.hk_sheet.specs.declared.error.SheetError.{SheetError}
 use Rattle.hk_sheet.specs.declared.sheet.HeapKeys.{HeapKeys}
 use Rattle.hk_sheet.specs.Rules.{top_rules, heap_rules, high_rules, low_rules, number_at, is_second}
 use Rattle.hk_sheet.specs.Reading.{table_at, highs_of, lows_of, heap_of, sheet_in}
+use Rattle.hk_sheet.specs.Code.{or_else}
 use Rattle.hk_sheet.specs.Faults.{first_of, fault_of_table, faults_of_tasks, faults_of_tables, faults_of_names, names_of, fault_of_high_arrivals, fault_of_low_arrivals, fault_of_script, fault_of_geometry, fault_of}
 
--- the first fault, and the other one where there is none
-abbrev pub or_else : Option SheetError → Option SheetError → Option SheetError
-or_else None other = other
-or_else (Some fault) other = Some fault
-
+-- or else another
 pub or_else-assoc : (a b c : Option SheetError) → or_else (or_else a b) c ≡ or_else a (or_else b c)
 or_else-assoc None b c = refl
 or_else-assoc (Some fault) b c = refl
 
-or_else-none : (a : Option SheetError) → or_else a None ≡ a
+pub or_else-none : (a : Option SheetError) → or_else a None ≡ a
 or_else-none None = refl
 or_else-none (Some fault) = refl
 

@@ -1,4 +1,4 @@
-mod Values
+mod Elements
 mod KeyOrder
 mod Spacing
 mod FaultOrder
@@ -6,7 +6,8 @@ mod Ranges
 mod NameOrder
 pub mod Validity
 mod Answering
-mod Stages
+mod RawFaults
+mod Turns
 pub mod Redeclared
 pub mod Unfaulted
 pub mod Plain

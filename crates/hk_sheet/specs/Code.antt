@@ -1,5 +1,7 @@
 -- What the code's types say, and what its functions answer.
-use Rattle.std.specs.Prelude.{◌≡◌, ℕ, pos, List, map, Option, Some, None, Result, Ok, Err, String}
+use Rattle.std.specs.Prelude.{◌≡◌, ℕ, pos, Bool, not, List, ◌++◌, map, filter, Option, Some, None, option_map, Result, Ok, Err, String}
+use Rattle.std.specs.List.{list_any}
+use Rattle.std.specs.Str.{bytes_eq}
 use denote.Ref.{Bor}
 use Rattle.std.specs.BTreeMap.{BTreeMap}
 use Rattle.std.specs.declared.alloc.Global.{Global}
@@ -8,31 +10,10 @@ use Rattle.toml.specs.View.{table_view}
 use Rattle.toml.specs.declared.value.Value.{Value}
 use Rattle.hk_sheet.specs.declared.error.SheetError.{SheetError}
 use Rattle.hk_sheet.specs.declared.error.SheetError.TheVariants as error
-use Rattle.hk_sheet.specs.declared.rules.Kind as the_kind
-use Rattle.hk_sheet.specs.declared.rules.Kind.TheVariants as code
-use Rattle.hk_sheet.specs.declared.rules.Wrong as the_wrong
-use Rattle.hk_sheet.specs.declared.rules.Wrong.TheVariants as fault
-use Rattle.hk_sheet.specs.declared.rules.Rule as the_rule
-use Rattle.hk_sheet.specs.Rules.{Kind, number, pair, ticks_of_run, text, one_table, tables, Wrong, no_such_kind, out_of_range, Rule}
-
--- what a key may hold, what is wrong with a value, and a rule
-abbrev pub kind_of : the_kind.Kind → Kind
-kind_of (code.Number low high) = number low high
-kind_of (code.Pair high) = pair high
-kind_of (code.Ticks ticks) = ticks_of_run ticks
-kind_of code.Text = text
-kind_of code.Table = one_table
-kind_of code.Tables = tables
-
-abbrev pub wrong_of : the_wrong.Wrong → Wrong
-wrong_of fault.Kind = no_such_kind
-wrong_of fault.Range = out_of_range
-
-abbrev pub rule_of : the_rule.Rule → Rule
-rule_of rule = record { key = rule.key.now; kind = kind_of rule.kind; needed = rule.needed }
-
-abbrev pub rules_of : List the_rule.Rule → List Rule
-rules_of = map rule_of
+use Rattle.hk_sheet.specs.declared.values.Wrong as the_wrong
+use Rattle.hk_sheet.specs.declared.values.Wrong.TheVariants as fault
+use Rattle.hk_sheet.specs.Rules.{Wrong, no_such_kind, out_of_range}
+use Rattle.hk_sheet.specs.Faults.{keys_of, least, shown}
 
 -- the natural number that a value is
 abbrev pub natural_of : Data → Option ℕ
@@ -45,6 +26,35 @@ seen = map (λ t. table_view t.now)
 
 abbrev pub texts : List (Bor (List ℕ)) → List (List ℕ)
 texts = map (λ t. t.now)
+
+-- a key is one of some or of some more
+unfoldable pub is_listed : (own more : List (List ℕ)) → List ℕ → Bool
+is_listed own more key = list_any (λ other. bytes_eq other key) (own ++ more)
+
+-- the least key of a table that isn't listed, and its fault; paths in the table begin so
+abbrev pub unlisted : (own more : List (List ℕ)) → Members → Option (List ℕ)
+unlisted own more entries = least (filter (λ key. not (is_listed own more key)) (keys_of entries))
+
+abbrev pub fault_of_unlisted : (path : List ℕ) → Option (List ℕ) → Option SheetError
+fault_of_unlisted path key = option_map (λ key. error.Unknown (shown (path ++ key))) key
+
+-- the value of a kind was found, as it is seen, or what is wrong, unless memory ran out
+abbrev pub Finds : {A B : Type 0} → (see : A → B) → Option Wrong → B → Result A the_wrong.Wrong → Type 0
+Finds see wrong value (Ok found) = (wrong ≡ None) × (see found ≡ value)
+Finds see wrong value (Err fault.Kind) = wrong ≡ Some no_such_kind
+Finds see wrong value (Err fault.Range) = wrong ≡ Some out_of_range
+Finds see wrong value (Err fault.Memory) = Unit {0}
+
+-- the fault of a key whose value is wrong
+abbrev pub fault_of_wrong : (path : List ℕ) → the_wrong.Wrong → Option SheetError
+fault_of_wrong path fault.Kind = Some (error.Kind path)
+fault_of_wrong path fault.Range = Some (error.Range path)
+fault_of_wrong path fault.Memory = None
+
+-- the first fault, and the other one where there is none
+abbrev pub or_else : Option SheetError → Option SheetError → Option SheetError
+or_else None other = other
+or_else (Some fault) other = Some fault
 
 -- a refusal is the fault, unless memory ran out
 abbrev pub Refuses : SheetError → Option SheetError → Type 0
@@ -59,3 +69,8 @@ Checks fault (Err e) = Refuses e fault
 abbrev pub Gives : {A : Type 0} → Option SheetError → A → Result A SheetError → Type 0
 Gives fault value (Ok found) = (fault ≡ None) × (found ≡ value)
 Gives fault value (Err e) = Refuses e fault
+
+-- the same of a reader that gave what is seen as the value
+abbrev pub Shows : {A B : Type 0} → (see : A → B) → Option SheetError → B → Result A SheetError → Type 0
+Shows see fault value (Ok found) = (fault ≡ None) × (see found ≡ value)
+Shows see fault value (Err e) = Refuses e fault

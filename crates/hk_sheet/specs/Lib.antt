@@ -6,3 +6,4 @@ pub mod Valid
 pub mod Answers
 pub mod Code
 pub mod Printing
+pub mod Raw

@@ -7,11 +7,11 @@ mod keys;
 mod laws;
 mod paths;
 mod printing;
+mod raw;
 mod reader;
-mod rules;
 mod sheet;
-mod tables;
 mod tasks;
+mod values;
 
 pub use arrivals::{Arrivals, Ticks};
 pub use error::{Key, SheetError};

@@ -1,23 +1,19 @@
-//! The names, the arrivals and the scripts of the tasks: their first faults, and what they are.
-ghost use Rattle.std.specs.Prelude.{◌≡◌, [], ◌++◌, map, codes, IfOk};
+//! What is judged of a sheet when its tables are read: the names, the arrivals and the scripts of all tasks, and the
+//! geometry.
+ghost use Rattle.std.specs.Prelude.{◌≡◌, ◌+◌, ◌<◌, ◌^◌, [], map, All, IfOk};
 ghost use Rattle.std.specs.List.{list_all};
-ghost use Rattle.toml.specs.View.{table_view};
-ghost use Rattle.hk_script.specs.Limits.{AreLimits, limits_of};
-ghost use Rattle.hk_sheet.specs.Rules.{number_at};
 ghost use Rattle.hk_sheet.specs.declared.arrivals.Arrivals.TheVariants.{Every};
-ghost use Rattle.hk_sheet.specs.Reading.{text_at, arrivals_in, timing_in, script_in, high_in, low_in};
-ghost use Rattle.hk_sheet.specs.Faults.{first_of, is_name_byte, is_name, counted, faults_of_names, faults_of_ticks, fault_of_arrivals, fault_of_high_arrivals, fault_of_low_arrivals, fault_of_script};
-ghost use Rattle.hk_sheet.specs.Code.{seen, texts, Checks, Gives};
+ghost use Rattle.hk_sheet.specs.Faults.{first_of, is_name_byte, is_name, counted, faults_of_names, faults_of_ticks, fault_of_arrivals, fault_of_geometry};
+ghost use Rattle.hk_sheet.specs.Valid.{IsHeap};
+ghost use Rattle.hk_sheet.specs.Raw.{Fits64, IsFitHigh, IsFitLow, raw_names, high_gap_fault, low_gap_fault, high_script_fault, low_script_fault, high_of, low_of, sheet_of_raw, judged_fault};
+ghost use Rattle.hk_sheet.specs.Code.{texts, Checks, Gives};
 
 use crate::SheetError;
-use crate::arrivals::{Arrivals, Ticks};
-use crate::keys::{has, number_at, numbers_at, text_at};
-use crate::sheet::{HeapKeys, High, Highs, Low, Lows, MAX_NAME, Name};
-use hk_rta::Timing;
-use hk_script::{Script, ScriptError, parse_in};
+use crate::arrivals::Arrivals;
+use crate::raw::{RawHigh, RawLow, RawSheet};
+use crate::sheet::{High, Highs, Low, Lows, MAX_NAME, Name, Sheet};
 use std::alloc::{AllocError, Global};
 use std::collections::BTreeSet;
-use toml::Table;
 
 /// Whether a byte may stand in a name behind the first.
 fn is_name_byte(byte: u8) -> bool
@@ -46,17 +42,17 @@ fn is_name(bytes: &[u8]) -> bool
 /// The names of the high tasks and the low ones.
 fn names<'a>(
     alloc: Global,
-    highs: &[&'a Table],
-    lows: &[&'a Table],
-) -> Result<Vec<&'a str>, AllocError>
-    ensures { IfOk result (λ v. texts v.items ≡ map (text_at (codes "name")) (seen highs.now ++ seen lows.now)) }
+    highs: &'a [RawHigh],
+    lows: &'a [RawLow],
+) -> Result<Vec<&'a [u8]>, AllocError>
+    ensures { IfOk result (λ v. texts v.items ≡ raw_names highs.now lows.now) }
 {
     let mut names = Vec::new(alloc);
     for task in highs {
-        names.push(text_at(task, "name"))?;
+        names.push(task.name.items.as_slice())?;
     }
     for task in lows {
-        names.push(text_at(task, "name"))?;
+        names.push(task.name.items.as_slice())?;
     }
     Ok(names)
 }
@@ -69,12 +65,12 @@ fn counted(number: u64) -> u32
 }
 
 /// Checks that each name is one, and none that stands before.
-fn check_names(alloc: Global, names: &[&str]) -> Result<(), SheetError>
+fn check_names(alloc: Global, names: &[&[u8]]) -> Result<(), SheetError>
     ensures { Checks (first_of (faults_of_names [] 0 (texts names.now))) result }
 {
     let mut earlier = BTreeSet::new(alloc);
     for (index, name) in names.iter().enumerate() {
-        if !is_name(name.as_bytes()) || !earlier.insert(*name)? {
+        if !is_name(name) || !earlier.insert(*name)? {
             return Err(SheetError::Name(counted(index as u64)));
         }
     }
@@ -82,50 +78,31 @@ fn check_names(alloc: Global, names: &[&str]) -> Result<(), SheetError>
 }
 
 /// Checks the names of the high tasks and the low ones.
-pub(crate) fn check_task_names(
-    alloc: Global,
-    highs: &[&Table],
-    lows: &[&Table],
-) -> Result<(), SheetError>
-    ensures { Checks (first_of (faults_of_names [] 0 (map (text_at (codes "name")) (seen highs.now ++ seen lows.now)))) result }
+fn check_task_names(alloc: Global, highs: &[RawHigh], lows: &[RawLow]) -> Result<(), SheetError>
+    ensures { Checks (first_of (faults_of_names [] 0 (raw_names highs.now lows.now))) result }
 {
     let names = names(alloc, highs, lows)?;
     check_names(alloc, &names)
 }
 
-/// The name of a task.
-fn name_in(alloc: Global, task: &Table) -> Result<Name, AllocError>
-    ensures { IfOk result (λ name. name ≡ text_at (codes "name") (table_view task.now)) }
+/// A name once more.
+fn again(alloc: Global, name: &Name) -> Result<Name, AllocError>
+    ensures { IfOk result (λ again. again ≡ name.now) }
 {
-    let items = Vec::from_slice(alloc, text_at(task, "name").as_bytes())?;
+    let items = Vec::from_slice(alloc, &name.items)?;
     Ok(Name { items })
 }
 
-/// When the jobs of a task arrive.
-#[tactic(auto, unfolding(crate::specs::Reading::arrivals_in))]
-fn arrivals_in(alloc: Global, task: &Table) -> Result<Arrivals, AllocError>
-    ensures { IfOk result (λ arrivals. arrivals ≡ arrivals_in (table_view task.now)) }
-{
-    if has(task, "arrivals") {
-        let items = numbers_at(alloc, task, "arrivals")?;
-        return Ok(Arrivals::List(Ticks { items }));
-    }
-    Ok(Arrivals::Every {
-        first: number_at(task, "first"),
-        step: number_at(task, "every"),
-    })
-}
-
 /// Checks that ticks are a gap apart.
-fn check_ticks(alloc: Global, task: &Table, gap: u64, ticks: &[u64]) -> Result<(), SheetError>
-    ensures { Checks (first_of (faults_of_ticks (text_at (codes "name") (table_view task.now)) gap 1 ticks.now)) result }
+fn check_ticks(alloc: Global, task: &Name, gap: u64, ticks: &[u64]) -> Result<(), SheetError>
+    ensures { Checks (first_of (faults_of_ticks task.now gap 1 ticks.now)) result }
 {
     let mut place: u64 = 1;
     let mut rest = ticks;
     while let [earlier, later, ..] = rest {
         if *later < *earlier || *later - *earlier < gap {
             return Err(SheetError::Arrivals {
-                task: name_in(alloc, task)?,
+                task: again(alloc, task)?,
                 place: counted(place),
                 earlier: *earlier,
                 later: *later,
@@ -139,14 +116,13 @@ fn check_ticks(alloc: Global, task: &Table, gap: u64, ticks: &[u64]) -> Result<(
 
 /// Checks that the jobs of a periodic task are a gap apart.
 #[tactic(auto, unfolding(crate::specs::Faults::fault_of_arrivals))]
-fn check_step(alloc: Global, task: &Table, gap: u64) -> Result<(), SheetError>
-    ensures { Checks (fault_of_arrivals (text_at (codes "name") (table_view task.now)) gap (Every (number_at (codes "first") (table_view task.now)) (number_at (codes "every") (table_view task.now)))) result }
+fn check_step(alloc: Global, task: &Name, gap: u64, first: u64, step: u64) -> Result<(), SheetError>
+    requires { first + step < 2 ^ 64 }
+    ensures { Checks (fault_of_arrivals task.now gap (Every first step)) result }
 {
-    let first = number_at(task, "first");
-    let step = number_at(task, "every");
     if step < gap {
         return Err(SheetError::Arrivals {
-            task: name_in(alloc, task)?,
+            task: again(alloc, task)?,
             place: 1,
             earlier: first,
             later: first + step,
@@ -156,117 +132,132 @@ fn check_step(alloc: Global, task: &Table, gap: u64) -> Result<(), SheetError>
 }
 
 /// Checks that the arrivals of a task are a gap apart.
-#[tactic(auto, unfolding(crate::specs::Reading::arrivals_in, crate::specs::Faults::fault_of_arrivals))]
-fn check_arrivals(alloc: Global, task: &Table, gap: u64) -> Result<(), SheetError>
-    ensures { Checks (fault_of_arrivals (text_at (codes "name") (table_view task.now)) gap (arrivals_in (table_view task.now))) result }
+#[tactic(auto, unfolding(crate::specs::Faults::fault_of_arrivals))]
+fn check_gaps(alloc: Global, task: &Name, gap: u64, arrivals: &Arrivals) -> Result<(), SheetError>
+    requires { Fits64 arrivals.now }
+    ensures { Checks (fault_of_arrivals task.now gap arrivals.now) result }
 {
-    if has(task, "arrivals") {
-        let ticks = numbers_at(alloc, task, "arrivals")?;
-        return check_ticks(alloc, task, gap, &ticks);
+    match arrivals {
+        Arrivals::List(ticks) => check_ticks(alloc, task, gap, &ticks.items),
+        Arrivals::Every { first, step } => check_step(alloc, task, gap, *first, *step),
     }
-    check_step(alloc, task, gap)
 }
 
 /// Checks that the arrivals of each high task are its period apart.
-pub(crate) fn check_high_arrivals(alloc: Global, tasks: &[&Table]) -> Result<(), SheetError>
-    ensures { Checks (first_of (map fault_of_high_arrivals (seen tasks.now))) result }
+fn check_high_gaps(alloc: Global, tasks: &[RawHigh]) -> Result<(), SheetError>
+    requires { All IsFitHigh tasks.now }
+    ensures { Checks (first_of (map high_gap_fault tasks.now)) result }
 {
     for task in tasks {
-        check_arrivals(alloc, task, number_at(task, "period"))?;
+        check_gaps(alloc, &task.name, task.times.timing.period, &task.arrivals)?;
     }
     Ok(())
 }
 
 /// Checks that the arrivals of each low task rise.
-pub(crate) fn check_low_arrivals(alloc: Global, tasks: &[&Table]) -> Result<(), SheetError>
-    ensures { Checks (first_of (map fault_of_low_arrivals (seen tasks.now))) result }
+fn check_low_gaps(alloc: Global, tasks: &[RawLow]) -> Result<(), SheetError>
+    requires { All IsFitLow tasks.now }
+    ensures { Checks (first_of (map low_gap_fault tasks.now)) result }
 {
     for task in tasks {
-        check_arrivals(alloc, task, 1)?;
+        check_gaps(alloc, &task.name, 1, &task.arrivals)?;
     }
     Ok(())
 }
 
-/// The script of a task.
-#[tactic(auto, unfolding(crate::specs::Reading::script_in, crate::specs::Faults::fault_of_script))]
-fn script_in(alloc: Global, heap: &HeapKeys, task: &Table) -> Result<Script, SheetError>
-    requires { AreLimits (limits_of heap.now.fields heap.now.registers) }
-    ensures { Gives (fault_of_script heap.now (table_view task.now)) (script_in heap.now (table_view task.now)) result }
+/// A high task, of which the script is judged.
+fn judged_high(raw: RawHigh) -> Result<High, SheetError>
+    ensures { Gives (high_script_fault raw) (high_of raw) result }
 {
-    let text = text_at(task, "script");
-    match parse_in(alloc, text.as_bytes(), heap.fields, heap.registers) {
-        Ok(script) => Ok(script),
-        Err(ScriptError::Memory) => Err(SheetError::Memory),
-        Err(error) => Err(SheetError::Script(name_in(alloc, task)?, error)),
+    let RawHigh {
+        name,
+        times,
+        arrivals,
+        script,
+    } = raw;
+    match script {
+        Ok(script) => Ok(High {
+            name,
+            timing: times.timing,
+            words: times.words,
+            lag: times.lag,
+            arrivals,
+            script,
+        }),
+        Err(error) => Err(SheetError::Script(name, error)),
     }
 }
 
-/// The times of a high task.
-#[tactic(auto, unfolding(crate::specs::Reading::timing_in))]
-fn timing_in(task: &Table) -> Timing
-    ensures { result ≡ timing_in (table_view task.now) }
+/// A low task, of which the script is judged.
+fn judged_low(raw: RawLow) -> Result<Low, SheetError>
+    ensures { Gives (low_script_fault raw) (low_of raw) result }
 {
-    Timing {
-        cost: number_at(task, "cost"),
-        period: number_at(task, "period"),
-        deadline: number_at(task, "deadline"),
-        jitter: number_at(task, "jitter"),
+    let RawLow {
+        name,
+        arrivals,
+        script,
+    } = raw;
+    match script {
+        Ok(script) => Ok(Low {
+            name,
+            arrivals,
+            script,
+        }),
+        Err(error) => Err(SheetError::Script(name, error)),
     }
 }
 
-/// A high task.
-#[tactic(auto, unfolding(crate::specs::Reading::high_in))]
-fn high_in(alloc: Global, heap: &HeapKeys, task: &Table) -> Result<High, SheetError>
-    requires { AreLimits (limits_of heap.now.fields heap.now.registers) }
-    ensures { Gives (fault_of_script heap.now (table_view task.now)) (high_in heap.now (table_view task.now)) result }
+/// The high tasks, of which the scripts are judged.
+fn judged_highs(alloc: Global, tasks: Vec<RawHigh>) -> Result<Highs, SheetError>
+    ensures { Gives (first_of (map high_script_fault tasks.items)) (map high_of tasks.items) result }
 {
-    Ok(High {
-        name: name_in(alloc, task)?,
-        timing: timing_in(task),
-        words: number_at(task, "words"),
-        lag: number_at(task, "lag"),
-        arrivals: arrivals_in(alloc, task)?,
-        script: script_in(alloc, heap, task)?,
-    })
-}
-
-/// A low task.
-#[tactic(auto, unfolding(crate::specs::Reading::low_in))]
-fn low_in(alloc: Global, heap: &HeapKeys, task: &Table) -> Result<Low, SheetError>
-    requires { AreLimits (limits_of heap.now.fields heap.now.registers) }
-    ensures { Gives (fault_of_script heap.now (table_view task.now)) (low_in heap.now (table_view task.now)) result }
-{
-    Ok(Low {
-        name: name_in(alloc, task)?,
-        arrivals: arrivals_in(alloc, task)?,
-        script: script_in(alloc, heap, task)?,
-    })
-}
-
-/// The high tasks.
-pub(crate) fn highs_in(
-    alloc: Global,
-    heap: &HeapKeys,
-    tasks: &[&Table],
-) -> Result<Highs, SheetError>
-    requires { AreLimits (limits_of heap.now.fields heap.now.registers) }
-    ensures { Gives (first_of (map (fault_of_script heap.now) (seen tasks.now))) (map (high_in heap.now) (seen tasks.now)) result }
-{
-    let mut items = Vec::new(alloc);
+    let mut items = Vec::with_capacity(alloc, tasks.len())?;
     for task in tasks {
-        items.push(high_in(alloc, heap, task)?)?;
+        items.push(judged_high(task)?)?;
     }
     Ok(Highs { items })
 }
 
-/// The low tasks.
-pub(crate) fn lows_in(alloc: Global, heap: &HeapKeys, tasks: &[&Table]) -> Result<Lows, SheetError>
-    requires { AreLimits (limits_of heap.now.fields heap.now.registers) }
-    ensures { Gives (first_of (map (fault_of_script heap.now) (seen tasks.now))) (map (low_in heap.now) (seen tasks.now)) result }
+/// The low tasks, of which the scripts are judged.
+fn judged_lows(alloc: Global, tasks: Vec<RawLow>) -> Result<Lows, SheetError>
+    ensures { Gives (first_of (map low_script_fault tasks.items)) (map low_of tasks.items) result }
 {
-    let mut items = Vec::new(alloc);
+    let mut items = Vec::with_capacity(alloc, tasks.len())?;
     for task in tasks {
-        items.push(low_in(alloc, heap, task)?)?;
+        items.push(judged_low(task)?)?;
     }
     Ok(Lows { items })
+}
+
+/// Checks that the heap and the tasks of a sheet are a geometry.
+#[tactic(auto, unfolding(crate::specs::Faults::fault_of_geometry))]
+fn check_geometry(sheet: &Sheet) -> Result<(), SheetError>
+    requires { IsHeap sheet.now.heap }
+    ensures { Checks (fault_of_geometry sheet.now) result }
+{
+    match sheet.try_geometry() {
+        Ok(_) => Ok(()),
+        Err(error) => Err(SheetError::Geometry(error)),
+    }
+}
+
+/// The sheet that the tables say, or the first fault of what is judged of it.
+#[tactic(auto, unfolding(crate::specs::Raw::judged_fault))]
+pub(crate) fn judged(alloc: Global, raw: RawSheet) -> Result<Sheet, SheetError>
+    requires right { IsHeap raw.heap }
+    requires fit_highs { All IsFitHigh raw.highs.items }
+    requires fit_lows { All IsFitLow raw.lows.items }
+    ensures { Gives (judged_fault raw) (sheet_of_raw raw) result }
+{
+    check_task_names(alloc, &raw.highs, &raw.lows)?;
+    check_high_gaps(alloc, &raw.highs)?;
+    check_low_gaps(alloc, &raw.lows)?;
+    let sheet = Sheet {
+        ticks: raw.ticks,
+        heap: raw.heap,
+        high: judged_highs(alloc, raw.highs)?,
+        low: judged_lows(alloc, raw.lows)?,
+    };
+    check_geometry(&sheet)?;
+    Ok(sheet)
 }

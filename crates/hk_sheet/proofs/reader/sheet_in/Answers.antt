@@ -1,25 +1,30 @@
-use Rattle.std.proofs.Common.{ap, unwrap_or, ◌∙◌}
+use Rattle.std.proofs.Common.{subst, sym, ◌∙◌}
 use Rattle.std.proofs.lemmas.Result.{err_from_is_err_and}
-use Rattle.toml.specs.Data.{no_members}
 use Rattle.toml.specs.View.{table_view}
-use Rattle.hk_sheet.specs.Code.{seen}
-use Rattle.hk_sheet.proofs.FaultOrder.{stop, fault_of-in_order}
-use Rattle.hk_sheet.proofs.Ranges.{heap_there}
+use Rattle.hk_sheet.specs.Reading.{sheet_in}
+use Rattle.hk_sheet.specs.Code.{Gives}
+use Rattle.hk_sheet.specs.Raw.{judged_fault}
+use Rattle.hk_sheet.proofs.FaultOrder.{skip, stop}
+use Rattle.hk_sheet.proofs.RawFaults.{in_two, judged-is, sheet-is}
 use Rattle.hk_sheet.proofs.reader.sheet_in.Goals as goal
 
-pub returns-in_err-check_document : goal.returns-in_err-check_document
-returns-in_err-check_document c =
+pub returns-in_err-raw : goal.returns-in_err-raw
+returns-in_err-raw c =
     let p = err_from_is_err_and c.from_residual.result c.from_residual.ensures.1 in
-    rw (p.1, p.2) (λ other. fault_of-in_order (table_view c.args.document.now) ∙ stop _ (c.in_err-check_document.ensures other))
+    rw (p.1, p.2) (λ other. in_two (table_view c.args.document.now) ∙ stop _ (c.in_err-raw.ensures.fault other))
 
-pub unreachable-requires : goal.unreachable-requires
-unreachable-requires c = heap_there (table_view c.args.document.now) c.in_ok-check_document.ensures c.in_default.ensures
+pub judged-requires-clause-right : goal.judged-requires-clause-right
+judged-requires-clause-right c = c.in_ok-raw.ensures.read.right
 
-pub sheet_from-requires-clause-heap : goal.sheet_from-requires-clause-heap
-sheet_from-requires-clause-heap c = ap (λ o. unwrap_or o no_members) c.in-Some.ensures
+pub judged-requires-clause-fit_highs : goal.judged-requires-clause-fit_highs
+judged-requires-clause-fit_highs c = c.in_ok-raw.ensures.read.fit_highs
 
-pub sheet_from-requires-clause-highs : goal.sheet_from-requires-clause-highs
-sheet_from-requires-clause-highs c = ap seen c.deref.ensures.value ∙ c.in_ok-highs.ensures
+pub judged-requires-clause-fit_lows : goal.judged-requires-clause-fit_lows
+judged-requires-clause-fit_lows c = c.in_ok-raw.ensures.read.fit_lows
 
-pub sheet_from-requires-clause-lows : goal.sheet_from-requires-clause-lows
-sheet_from-requires-clause-lows c = ap seen c.deref-2.ensures.value ∙ c.in_ok-lows.ensures
+pub returns : goal.returns
+returns c =
+    let document = table_view c.args.document.now in
+    let is = c.in_ok-raw.ensures.read in
+    let whole = in_two document ∙ skip c.in_ok-raw.ensures.fault ∙ sym (judged-is document c.in_ok-raw.raw is) in
+    subst (λ fault. Gives fault (sheet_in document) c.judged.result) (sym whole) (subst (λ sheet. Gives (judged_fault c.in_ok-raw.raw) sheet c.judged.result) (sheet-is document c.in_ok-raw.raw is) c.judged.ensures)

@@ -1,8 +1,0 @@
-use Rattle.std.proofs.Common.{◌≡◌, drop, map}
-use Rattle.hk_sheet.specs.Faults.{first_of, fault_of_low_arrivals}
-use Rattle.hk_sheet.specs.Code.{seen}
-use Rattle.hk_sheet.proofs.tasks.check_low_arrivals.Given as goal
-
--- the first fault is that of the tasks that are left
-abbrev pub invariant-loop-task : goal.invariant-loop-task
-invariant-loop-task l = first_of (map fault_of_low_arrivals (seen (drop l.task-index l.tasks))) ≡ first_of (map fault_of_low_arrivals (seen l.tasks))

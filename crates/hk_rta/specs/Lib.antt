@@ -1,3 +1,4 @@
+pub mod Ahead
 pub mod Busy
 pub mod Demand
 pub mod Least

@@ -7,8 +7,11 @@ ghost use Rattle.hk_rta.specs.Busy.{Busy, IsOverfull};
 ghost use Rattle.hk_rta.specs.Demand.{IsTimed, IsLoad, starts_in, demand, work_in, deadline_at};
 ghost use Rattle.hk_rta.specs.Response.{Solves, Response, IsLate};
 
+mod ahead;
 #[cfg(test)]
 mod tests;
+
+use ahead::{longer_of_loads, longer_of_tasks};
 
 /// The most tasks, and the most loads, that an analysis takes.
 pub const MAX_TASKS: usize = 31;
@@ -91,13 +94,16 @@ pub fn response_from(tasks: &[Timing], i: usize, least: u64) -> Option<u64>
 {
     let task = tasks[i];
     let longest = task.deadline.checked_sub(task.jitter)?;
+    let before = &tasks[..i];
     let mut length = task.cost.max(least);
+    let mut tried: u64 = 0;
     while length <= longest {
-        let needed = task.cost + demand(&tasks[..i], length);
+        let needed = task.cost + demand(before, length);
         if needed == length {
             return Some(length + task.jitter);
         }
-        length = needed;
+        length = longer_of_tasks(before, task.cost, length, needed, tried);
+        tried = tried.saturating_add(1);
     }
     None
 }
@@ -115,12 +121,14 @@ pub fn busy(loads: &[Load], base: u64, cap: u64) -> Option<u64>
     ensures none { IsNone result ↔ IsOverfull loads.now base cap }
 {
     let mut length = base.max(1);
+    let mut tried: u64 = 0;
     while length <= cap {
         let needed = base.saturating_add(work(loads, length));
         if needed <= length {
             return Some(length);
         }
-        length = needed;
+        length = longer_of_loads(loads, base, length, needed, tried);
+        tried = tried.saturating_add(1);
     }
     None
 }

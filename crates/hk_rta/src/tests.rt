@@ -185,7 +185,7 @@ fn least_responses(rt: HostRuntime) -> Result<(), Fail> {
 #[test]
 fn responses_one_by_one(rt: HostRuntime) -> Result<(), Fail> {
     const BIG: u64 = 16_777_216;
-    let cases: [(&[(u64, u64, u64, u64)], &[u64]); 9] = [
+    let cases: [(&[(u64, u64, u64, u64)], &[u64]); 10] = [
         (&[], &[]),
         (&[(1, 4, 4, 0), (2, 6, 6, 0), (3, 12, 12, 0)], &[1, 3, 10]),
         (&[(1, 4, 4, 0), (2, 6, 6, 0), (3, 12, 9, 0)], &[1, 3]),
@@ -255,7 +255,7 @@ fn responses_from_a_length(rt: HostRuntime) -> Result<(), Fail> {
 #[test]
 fn least_periods(rt: HostRuntime) -> Result<(), Fail> {
     const BIG: u64 = 16_777_216;
-    let cases: [(&[(u64, u64, u64)], u64, u64, Option<u64>); 21] = [
+    let cases: [(&[(u64, u64, u64)], u64, u64, Option<u64>); 23] = [
         (&[], 0, 0, None),
         (&[], 0, 1, Some(1)),
         (&[], 5, 5, Some(5)),

@@ -5,6 +5,9 @@ use Rattle.hk_rta.proofs.busy.Goals as goal
 
 pub loop-length-preserved : goal.loop-length-preserved
 loop-length-preserved c = record {
-  positive = omega arith;
-  below = λ x s. omega (arith, c.work.ensures, c.saturating_add-needed.ensures, suffices_above c.args.loads.now c.args.base c.loop-length.length x (c.loop-length.invariant.below x s) s);
+  positive = omega (arith, c.longer_of_loads-length.ensures.longer);
+  below = λ x s.
+      let reached = c.loop-length.invariant.below x s in
+      c.longer_of_loads-length.ensures.below x reached s.enough
+      (omega (arith, c.work.ensures, c.saturating_add-needed.ensures, suffices_above c.args.loads.now c.args.base c.loop-length.length x reached s));
 }

@@ -1,7 +1,8 @@
 -- The first length and each next one are at or below every solution.
-use Rattle.std.proofs.Common.{ℕ, ◌+◌, ◌≤◌, arith, take}
+use Rattle.std.proofs.Common.{ℕ, ◌≤◌, arith, take}
 use Rattle.std.proofs.lemmas.List.Elements.{All-get_or}
-use Rattle.hk_rta.specs.Demand.{IsTimed, no_timing, timing_at, cost_at}
+use Rattle.hk_rta.specs.Demand.{IsTimed, no_timing, timing_at}
+use Rattle.hk_rta.specs.Response.{Solves}
 use Rattle.hk_rta.proofs.Below.{next_no_shorter}
 use Rattle.hk_rta.proofs.Steps.{demand_grows, solves_above}
 use Rattle.hk_rta.proofs.response_from.Goals as goal
@@ -18,10 +19,14 @@ loop-length-init c =
 
 pub loop-length-preserved : goal.loop-length-preserved
 loop-length-preserved c =
-    let needed : ℕ = cost_at c.args.tasks.now c.args.i + c.demand.result in
-    let longer : c.loop-length.length ≤ needed = omega (arith, c.demand.ensures.value) in
+    let task : IsTimed (timing_at c.args.tasks.now c.args.i) = All-get_or IsTimed c.args.tasks.now c.args.i no_timing c.requires.within c.requires.timed in
+    let below : (r : ℕ) → Solves c.args.tasks.now c.args.i r → c.longer_of_tasks-length.result ≤ r =
+    λ r s.
+    let reached = c.loop-length.invariant.below r s in
+    c.longer_of_tasks-length.ensures.below r reached (omega (arith, s.balanced))
+    (omega (arith, c.demand.ensures.value, solves_above c.args.tasks.now c.args.i c.loop-length.length r reached s)) in
     record {
-      positive = omega (arith, c.demand.ensures.value);
-      short = omega (arith, c.demand.ensures.value, demand_grows (take c.args.i c.args.tasks.now) c.loop-length.length needed longer);
-      below = λ r s. omega (arith, c.demand.ensures.value, solves_above c.args.tasks.now c.args.i c.loop-length.length r (c.loop-length.invariant.below r s) s);
+      positive = omega (arith, c.longer_of_tasks-length.ensures.longer, task.cost.0);
+      short = next_no_shorter c.args.tasks.now c.args.i c.longer_of_tasks-length.result task.cost.0 below;
+      below = below;
     }

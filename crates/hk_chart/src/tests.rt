@@ -92,8 +92,11 @@ fn expect(
     text: &str,
 ) -> Result<(), AllocError> {
     let ended = run(alloc, words, input, (&[], &[]), 100)?;
-    assert_eq!(rt; ended.charted, charted, "{input}");
-    assert_eq!(rt; ended.sink.bytes(), text.as_bytes(), "{input}");
+    assert_eq!(rt;
+        (ended.charted, ended.sink.bytes()),
+        (charted, text.as_bytes()),
+        "{input}"
+    );
     Ok(())
 }
 
@@ -105,6 +108,28 @@ fn begins(line: &str, kinds: &[&str]) -> bool {
         }
     }
     false
+}
+
+/// The lines of a text that begin with one of some words.
+fn lines_of(alloc: Global, text: &str, kinds: &[&str]) -> Result<String, AllocError> {
+    let mut found = String::new(alloc);
+    for line in text.lines() {
+        if begins(line, kinds) {
+            found.push_str(line)?;
+            found.push('\n')?;
+        }
+    }
+    Ok(found)
+}
+
+/// Some lines as a text.
+fn joined(alloc: Global, lines: &[&str]) -> Result<String, AllocError> {
+    let mut text = String::new(alloc);
+    for line in lines {
+        text.push_str(line)?;
+        text.push('\n')?;
+    }
+    Ok(text)
 }
 
 /// Compares the lines of a picture that begin with one of some words, in their order.
@@ -119,18 +144,8 @@ fn expect_lines(
     let ended = run(alloc, words, input, (&[], &[]), 100_000)?;
     assert_eq!(rt; ended.charted, Charted::Done, "{input}");
     let text = str::from_utf8(ended.sink.bytes())?;
-    let mut found = String::new(alloc);
-    for line in text.lines() {
-        if begins(line, kinds) {
-            found.push_str(line)?;
-            found.push('\n')?;
-        }
-    }
-    let mut wanted = String::new(alloc);
-    for line in lines {
-        wanted.push_str(line)?;
-        wanted.push('\n')?;
-    }
+    let found = lines_of(alloc, text, kinds)?;
+    let wanted = joined(alloc, lines)?;
     assert_eq!(rt; found, wanted, "{text}");
     Ok(())
 }

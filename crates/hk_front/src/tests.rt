@@ -34,12 +34,12 @@ fn name(alloc: Global, text: &str) -> Result<Name, AllocError> {
 fn expect_refusal(
     rt: &impl Abort,
     alloc: Global,
-    error: &SheetError,
+    error: SheetError,
     text: &str,
 ) -> Result<(), AllocError> {
     let mut sink = sink(alloc, &[])?;
-    assert_eq!(rt; refuse_sheet(error, &mut sink), Status::Sheet);
-    assert_eq!(rt; sink.bytes(), text.as_bytes());
+    let status = refuse_sheet(&error, &mut sink);
+    assert_eq!(rt; (status, sink.bytes()), (Status::Sheet, text.as_bytes()));
     Ok(())
 }
 
@@ -47,30 +47,30 @@ fn expect_refusal(
 fn tells_keys(rt: HostRuntime) -> Result<(), Fail> {
     let alloc = rt.alloc();
     let missing = SheetError::Missing(key(alloc, "heap.live")?);
-    expect_refusal(&rt, alloc, &missing, "sheet missing heap.live\n")?;
+    expect_refusal(&rt, alloc, missing, "sheet missing heap.live\n")?;
     let unknown = SheetError::Unknown(key(alloc, "a?b")?);
-    expect_refusal(&rt, alloc, &unknown, "sheet unknown a?b\n")?;
+    expect_refusal(&rt, alloc, unknown, "sheet unknown a?b\n")?;
     let kind = SheetError::Kind(key(alloc, "high[0].cost")?);
-    expect_refusal(&rt, alloc, &kind, "sheet kind high[0].cost\n")?;
+    expect_refusal(&rt, alloc, kind, "sheet kind high[0].cost\n")?;
     let range = SheetError::Range(key(alloc, "ticks")?);
-    expect_refusal(&rt, alloc, &range, "sheet range ticks\n")?;
+    expect_refusal(&rt, alloc, range, "sheet range ticks\n")?;
     Ok(())
 }
 
 #[test]
 fn tells_what_has_no_key(rt: HostRuntime) -> Result<(), Fail> {
     let alloc = rt.alloc();
-    expect_refusal(&rt, alloc, &SheetError::Text, "sheet text\n")?;
-    expect_refusal(&rt, alloc, &SheetError::Name(31), "sheet name 31\n")?;
+    expect_refusal(&rt, alloc, SheetError::Text, "sheet text\n")?;
+    expect_refusal(&rt, alloc, SheetError::Name(31), "sheet name 31\n")?;
     let arrivals = SheetError::Arrivals {
         task: name(alloc, "b")?,
         place: 2,
         earlier: 1000,
         later: 1009,
     };
-    expect_refusal(&rt, alloc, &arrivals, "sheet arrivals b 2 1000 1009\n")?;
+    expect_refusal(&rt, alloc, arrivals, "sheet arrivals b 2 1000 1009\n")?;
     let geometry = SheetError::Geometry(GeoError::Reserve);
-    expect_refusal(&rt, alloc, &geometry, "sheet geometry reserve\n")?;
+    expect_refusal(&rt, alloc, geometry, "sheet geometry reserve\n")?;
     Ok(())
 }
 
@@ -95,7 +95,7 @@ fn tells_faults_of_scripts(rt: HostRuntime) -> Result<(), Fail> {
     let alloc = rt.alloc();
     for (fault, text) in FAULTS {
         let error = SheetError::Script(name(alloc, "a")?, *fault);
-        expect_refusal(&rt, alloc, &error, text)?;
+        expect_refusal(&rt, alloc, error, text)?;
     }
     Ok(())
 }
@@ -103,11 +103,8 @@ fn tells_faults_of_scripts(rt: HostRuntime) -> Result<(), Fail> {
 #[test]
 fn tells_no_want_of_memory(rt: HostRuntime) -> Result<(), Fail> {
     let mut sink = sink(rt.alloc(), &[0])?;
-    assert_eq!(rt;
-        refuse_sheet(&SheetError::Memory, &mut sink),
-        Status::Memory
-    );
-    assert_eq!(rt; sink.calls(), 0);
+    let status = refuse_sheet(&SheetError::Memory, &mut sink);
+    assert_eq!(rt; (status, sink.calls()), (Status::Memory, 0));
     Ok(())
 }
 
@@ -126,9 +123,11 @@ fn stops_at_the_first_fault(rt: HostRuntime) -> Result<(), Fail> {
     let error = SheetError::Range(key(rt.alloc(), "k")?);
     for (call, text) in texts {
         let mut sink = sink(rt.alloc(), &[call])?;
-        assert_eq!(rt; refuse_sheet(&error, &mut sink), Status::WriteFault);
-        assert_eq!(rt; sink.bytes(), text.as_bytes());
-        assert_eq!(rt; sink.calls(), call.wrapping_add(1));
+        let status = refuse_sheet(&error, &mut sink);
+        assert_eq!(rt;
+            (status, sink.bytes(), sink.calls()),
+            (Status::WriteFault, text.as_bytes(), call.wrapping_add(1))
+        );
     }
     Ok(())
 }

@@ -75,8 +75,30 @@ fn expect(
     text: &str,
 ) -> Result<(), AllocError> {
     let ended = run(alloc, &["check"], log.as_bytes(), (&[], &[]), 100)?;
-    assert_eq!(rt; ended.replayed, replayed, "{log}");
-    assert_eq!(rt; ended.sink.bytes(), text.as_bytes(), "{log}");
+    assert_eq!(rt;
+        (ended.replayed, ended.sink.bytes()),
+        (replayed, text.as_bytes()),
+        "{log}"
+    );
+    Ok(())
+}
+
+/// Compares how `check` ends on an input, where the calls with these numbers fail and the sink has so much room, and what it
+/// says.
+fn expect_check(
+    rt: &impl Abort,
+    alloc: Global,
+    input: &[u8],
+    fails: (&[u64], &[u64]),
+    room: usize,
+    replayed: Replayed,
+    text: &str,
+) -> Result<(), AllocError> {
+    let ended = run(alloc, &["check"], input, fails, room)?;
+    assert_eq!(rt;
+        (ended.replayed, ended.sink.bytes()),
+        (replayed, text.as_bytes())
+    );
     Ok(())
 }
 
@@ -125,11 +147,16 @@ fn one_useful_event_too_few(rt: HostRuntime) -> Result<(), Fail> {
 fn what_was_made_is_a_log(rt: HostRuntime) -> Result<(), Fail> {
     let alloc = rt.alloc();
     let made = run(alloc, &["make", "5"], b"", (&[0], &[]), 1_000_000)?;
-    assert_eq!(rt; made.replayed, Replayed::Done);
-    assert_eq!(rt; made.source.calls(), 0);
-    let ended = run(alloc, &["check"], made.sink.bytes(), (&[], &[]), 100)?;
-    assert_eq!(rt; ended.replayed, Replayed::Done);
-    assert_eq!(rt; ended.sink.bytes(), "ok 20001\n".as_bytes());
+    assert_eq!(rt; (made.replayed, made.source.calls()), (Replayed::Done, 0));
+    expect_check(
+        &rt,
+        alloc,
+        made.sink.bytes(),
+        (&[], &[]),
+        100,
+        Replayed::Done,
+        "ok 20001\n",
+    )?;
     Ok(())
 }
 
@@ -138,22 +165,42 @@ fn faults_of_the_streams(rt: HostRuntime) -> Result<(), Fail> {
     let alloc = rt.alloc();
     let input = FIRST.as_bytes();
     for call in [0, 1] {
-        let ended = run(alloc, &["check"], input, (&[call], &[]), 100)?;
-        assert_eq!(rt; ended.replayed, Replayed::ReadFault);
-        assert!(rt; ended.sink.bytes().is_empty());
+        expect_check(
+            &rt,
+            alloc,
+            input,
+            (&[call], &[]),
+            100,
+            Replayed::ReadFault,
+            "",
+        )?;
     }
-    let ended = run(alloc, &["check"], input, (&[], &[0]), 100)?;
-    assert_eq!(rt; ended.replayed, Replayed::WriteFault);
-    assert!(rt; ended.sink.bytes().is_empty());
-    for room in 0..6 {
-        let ended = run(alloc, &["check"], input, (&[], &[]), room)?;
-        assert_eq!(rt; ended.replayed, Replayed::WriteFault);
-        assert_eq!(rt; ended.sink.bytes().len(), room);
-        assert!(rt; b"ok 20\n".starts_with(ended.sink.bytes()));
+    expect_check(
+        &rt,
+        alloc,
+        input,
+        (&[], &[0]),
+        100,
+        Replayed::WriteFault,
+        "",
+    )?;
+    // A sink that has room for a first part.
+    for part in ["", "o", "ok", "ok ", "ok 2", "ok 20"] {
+        expect_check(
+            &rt,
+            alloc,
+            input,
+            (&[], &[]),
+            part.len(),
+            Replayed::WriteFault,
+            part,
+        )?;
     }
     let ended = run(alloc, &["make", "0"], b"", (&[], &[]), 1000)?;
-    assert_eq!(rt; ended.replayed, Replayed::WriteFault);
-    assert_eq!(rt; ended.sink.bytes().len(), 1000);
+    assert_eq!(rt;
+        (ended.replayed, ended.sink.bytes().len()),
+        (Replayed::WriteFault, 1000)
+    );
     assert!(rt; ended.sink.bytes().starts_with(b"heap 64 64 16 2 1 2 1\n"));
     Ok(())
 }
@@ -179,11 +226,13 @@ const WRONG: &[&[&str]] = &[
 fn other_words(rt: HostRuntime) -> Result<(), Fail> {
     for words in WRONG {
         let ended = run(rt.alloc(), words, FIRST.as_bytes(), (&[0], &[]), 100)?;
-        assert_eq!(rt; ended.replayed, Replayed::Usage);
-        assert_eq!(rt; ended.source.calls(), 0);
         assert_eq!(rt;
-            ended.sink.bytes(),
-            "usage: hk_replay check, make N\n".as_bytes()
+            (ended.replayed, ended.source.calls(), ended.sink.bytes()),
+            (
+                Replayed::Usage,
+                0,
+                "usage: hk_replay check, make N\n".as_bytes()
+            )
         );
     }
     Ok(())
@@ -196,9 +245,7 @@ fn lengths(rt: HostRuntime) -> Result<(), Fail> {
     expect(&rt, alloc, "\n", Replayed::Log, "log 1\n")?;
     for (length, text) in [(1_048_577, "log long\n"), (1_048_576, "log 1\n")] {
         let bytes = vec![in alloc; b'a'; length]?;
-        let ended = run(alloc, &["check"], &bytes, (&[], &[]), 100)?;
-        assert_eq!(rt; ended.replayed, Replayed::Log);
-        assert_eq!(rt; ended.sink.bytes(), text.as_bytes());
+        expect_check(&rt, alloc, &bytes, (&[], &[]), 100, Replayed::Log, text)?;
     }
     Ok(())
 }

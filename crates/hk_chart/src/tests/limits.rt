@@ -74,19 +74,32 @@ fn takes_shapes_up_to_their_limit(rt: HostRuntime) -> Result<(), Fail> {
     Ok(())
 }
 
-#[test]
-fn stops_in_an_endless_line(rt: HostRuntime) -> Result<(), Fail> {
-    // A line has 159 bytes before its newline at most. Reading stops in the first piece of a line that goes on; the smallest
-    // trace has 17 lines.
-    let alloc = rt.alloc();
+/// A line that goes on for a million digits.
+fn endless_line(alloc: Global) -> Result<String, AllocError> {
     let mut endless = String::from_str(alloc, "heap work ")?;
     for _ in 0..1_000_000 {
         endless.push('1')?;
     }
-    let ended = run(alloc, &[], endless.as_str(), (&[], &[]), 100)?;
-    assert_eq!(rt; ended.charted, Charted::Trace);
-    assert_eq!(rt; ended.sink.bytes(), "line 1\n".as_bytes());
-    assert_eq!(rt; ended.source.calls(), 1);
+    Ok(endless)
+}
+
+#[test]
+fn stops_in_an_endless_line(rt: HostRuntime) -> Result<(), Fail> {
+    // A line has 159 bytes before its newline at most. Reading stops in the first piece of a line that goes on.
+    let endless = endless_line(rt.alloc())?;
+    let ended = run(rt.alloc(), &[], endless.as_str(), (&[], &[]), 100)?;
+    assert_eq!(rt;
+        (ended.charted, ended.sink.bytes(), ended.source.calls()),
+        (Charted::Trace, "line 1\n".as_bytes(), 1)
+    );
+    Ok(())
+}
+
+#[test]
+fn stops_in_a_later_endless_line(rt: HostRuntime) -> Result<(), Fail> {
+    // The smallest trace has 17 lines.
+    let alloc = rt.alloc();
+    let endless = endless_line(alloc)?;
     let later = format!(in alloc; "{SMALLEST}{endless}")?;
     expect(&rt, alloc, &[], later.as_str(), Charted::Trace, "line 18\n")?;
     Ok(())

@@ -1,7 +1,23 @@
 //! Words that aren't taken, and lines that no trace has.
 use super::{BUSY, SMALLEST, expect, run};
 use crate::charted::Charted;
+use std::alloc::{AllocError, Global};
+use std::process::Abort;
 use std::test::Fail;
+
+/// Compares that words are refused, before anything is read.
+fn expect_usage(rt: &impl Abort, alloc: Global, words: &[&str]) -> Result<(), AllocError> {
+    let ended = run(alloc, words, SMALLEST, (&[0], &[]), 100)?;
+    assert_eq!(rt;
+        (ended.charted, ended.source.calls(), ended.sink.bytes()),
+        (
+            Charted::Usage,
+            0,
+            "usage: hk_chart [FIRST LAST]\n".as_bytes()
+        )
+    );
+    Ok(())
+}
 
 #[test]
 fn refuses_words(rt: HostRuntime) -> Result<(), Fail> {
@@ -23,16 +39,10 @@ fn refuses_words(rt: HostRuntime) -> Result<(), Fail> {
         &["1", "2", "3"],
     ];
     for words in wrong {
-        let ended = run(alloc, words, SMALLEST, (&[0], &[]), 100)?;
-        assert_eq!(rt; ended.charted, Charted::Usage);
-        assert_eq!(rt; ended.source.calls(), 0);
-        assert_eq!(rt;
-            ended.sink.bytes(),
-            "usage: hk_chart [FIRST LAST]\n".as_bytes()
-        );
+        expect_usage(&rt, alloc, words)?;
     }
-    let most = run(alloc, &["0", "16777215"], SMALLEST, (&[], &[]), 10_000)?;
-    assert_eq!(rt; most.charted, Charted::Done);
+    let most = run(alloc, &["0", "16777215"], SMALLEST, (&[], &[]), 10_000)?.charted;
+    assert_eq!(rt; most, Charted::Done);
     Ok(())
 }
 

@@ -2,6 +2,7 @@
 use super::{FIRST, expect};
 use crate::replayed::Replayed;
 use std::alloc::{AllocError, Global};
+use std::process::Abort;
 use std::test::Fail;
 
 /// So many times the line of a useful event.
@@ -78,10 +79,25 @@ fn each_answer(rt: HostRuntime) -> Result<(), Fail> {
     Ok(())
 }
 
+/// Compares what is said of the first log with so many useful events, and then lines.
+fn expect_behind(
+    rt: &impl Abort,
+    alloc: Global,
+    count: u32,
+    behind: &str,
+    replayed: Replayed,
+    text: &str,
+) -> Result<(), AllocError> {
+    let Some((before, _)) = FIRST.split_once("gc useful\n") else {
+        panic!(rt; "the log lacks an event");
+    };
+    let log = around(alloc, before, count, behind)?;
+    expect(rt, alloc, log.as_str(), replayed, text)
+}
+
 #[test]
 fn one_event_too_few_or_too_many(rt: HostRuntime) -> Result<(), Fail> {
     let alloc = rt.alloc();
-    let (before, _) = FIRST.split_once("gc useful\n").ok_or("an event")?;
     // The fourteenth event is followed by a useful one, the fifteenth isn't.
     for (count, text) in [
         (0, "differs 5\n"),
@@ -91,8 +107,7 @@ fn one_event_too_few_or_too_many(rt: HostRuntime) -> Result<(), Fail> {
         (16, "differs 20\n"),
         (20, "differs 20\n"),
     ] {
-        let log = around(alloc, before, count, "gc object 0\n")?;
-        expect(&rt, alloc, log.as_str(), Replayed::Differs, text)?;
+        expect_behind(&rt, alloc, count, "gc object 0\n", Replayed::Differs, text)?;
     }
     for (line, text) in [
         ("gc object 1\n", "differs 20\n"),
@@ -106,8 +121,7 @@ fn one_event_too_few_or_too_many(rt: HostRuntime) -> Result<(), Fail> {
         ("gc live 0\n", "differs 20\n"),
         ("gc worn\n", "differs 20\n"),
     ] {
-        let log = around(alloc, before, 15, line)?;
-        expect(&rt, alloc, log.as_str(), Replayed::Differs, text)?;
+        expect_behind(&rt, alloc, 15, line, Replayed::Differs, text)?;
     }
     for line in [
         "gc object\n",
@@ -125,8 +139,7 @@ fn one_event_too_few_or_too_many(rt: HostRuntime) -> Result<(), Fail> {
         " \n",
         "ok 20\n",
     ] {
-        let log = around(alloc, before, 15, line)?;
-        expect(&rt, alloc, log.as_str(), Replayed::Log, "log 20\n")?;
+        expect_behind(&rt, alloc, 15, line, Replayed::Log, "log 20\n")?;
     }
     Ok(())
 }

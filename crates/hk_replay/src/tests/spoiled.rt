@@ -2,6 +2,7 @@
 use super::expect;
 use crate::replayed::Replayed;
 use std::alloc::{AllocError, Global};
+use std::process::Abort;
 use std::test::Fail;
 
 /// A log of 52 lines. A put and a get have 3 places, a new and a store 7, a load 10, a move 3, a clear 1. The second new
@@ -119,36 +120,64 @@ fn doubled(begin: u64, end: u64, at: u64) -> u64 {
     }
 }
 
-/// What is said of a line that differs.
-fn differs(alloc: Global, line: u64) -> Result<String, AllocError> {
-    format!(in alloc; "differs {line}\n")
+/// Compares what is said of the log with a line so many times.
+fn expect_times(
+    rt: &impl Abort,
+    alloc: Global,
+    at: u64,
+    times: u32,
+    replayed: Replayed,
+    text: &str,
+) -> Result<(), AllocError> {
+    let log = with_line(alloc, at, times)?;
+    expect(rt, alloc, log.as_str(), replayed, text)
+}
+
+/// Compares which line differs in the log with a line so many times.
+fn expect_differs(
+    rt: &impl Abort,
+    alloc: Global,
+    at: u64,
+    times: u32,
+    line: u64,
+) -> Result<(), AllocError> {
+    let text = format!(in alloc; "differs {line}\n")?;
+    expect_times(rt, alloc, at, times, Replayed::Differs, text.as_str())
+}
+
+/// Compares what is said of the log with another line.
+fn expect_other(
+    rt: &impl Abort,
+    alloc: Global,
+    at: u64,
+    other: &str,
+    replayed: Replayed,
+    text: &str,
+) -> Result<(), AllocError> {
+    let log = with_other(alloc, at, other)?;
+    expect(rt, alloc, log.as_str(), replayed, text)
 }
 
 #[test]
 fn the_log_itself(rt: HostRuntime) -> Result<(), Fail> {
-    expect(&rt, rt.alloc(), CALLS, Replayed::Done, "ok 52\n")?;
+    let alloc = rt.alloc();
+    expect(&rt, alloc, CALLS, Replayed::Done, "ok 52\n")?;
     // A call may be left in flight.
-    let log = with_line(rt.alloc(), 52, 0)?;
-    expect(&rt, rt.alloc(), log.as_str(), Replayed::Done, "ok 51\n")?;
+    expect_times(&rt, alloc, 52, 0, Replayed::Done, "ok 51\n")?;
     // A call that was refused is no part of another.
     for at in [10, 11] {
-        let fewer = with_line(rt.alloc(), at, 0)?;
-        expect(&rt, rt.alloc(), fewer.as_str(), Replayed::Done, "ok 51\n")?;
-        let more = with_line(rt.alloc(), at, 2)?;
-        expect(&rt, rt.alloc(), more.as_str(), Replayed::Done, "ok 53\n")?;
+        expect_times(&rt, alloc, at, 0, Replayed::Done, "ok 51\n")?;
+        expect_times(&rt, alloc, at, 2, Replayed::Done, "ok 53\n")?;
     }
     Ok(())
 }
 
 #[test]
 fn a_line_dropped(rt: HostRuntime) -> Result<(), Fail> {
-    let alloc = rt.alloc();
     for (begin, end) in ROWS {
         for at in *begin..end.saturating_add(1) {
             if at != 52 {
-                let log = with_line(alloc, at, 0)?;
-                let text = differs(alloc, without(*begin, *end, at))?;
-                expect(&rt, alloc, log.as_str(), Replayed::Differs, text.as_str())?;
+                expect_differs(&rt, rt.alloc(), at, 0, without(*begin, *end, at))?;
             }
         }
     }
@@ -157,12 +186,9 @@ fn a_line_dropped(rt: HostRuntime) -> Result<(), Fail> {
 
 #[test]
 fn a_line_doubled(rt: HostRuntime) -> Result<(), Fail> {
-    let alloc = rt.alloc();
     for (begin, end) in ROWS {
         for at in *begin..end.saturating_add(1) {
-            let log = with_line(alloc, at, 2)?;
-            let text = differs(alloc, doubled(*begin, *end, at))?;
-            expect(&rt, alloc, log.as_str(), Replayed::Differs, text.as_str())?;
+            expect_differs(&rt, rt.alloc(), at, 2, doubled(*begin, *end, at))?;
         }
     }
     Ok(())
@@ -220,9 +246,8 @@ const OTHERS: &[(u64, &str, u64)] = &[
 fn another_line(rt: HostRuntime) -> Result<(), Fail> {
     let alloc = rt.alloc();
     for (at, other, line) in OTHERS {
-        let log = with_other(alloc, *at, other)?;
-        let text = differs(alloc, *line)?;
-        expect(&rt, alloc, log.as_str(), Replayed::Differs, text.as_str())?;
+        let text = format!(in alloc; "differs {line}\n")?;
+        expect_other(&rt, alloc, *at, other, Replayed::Differs, text.as_str())?;
     }
     // another null register, a field of a null one, another reserve than is asked for
     for (at, other) in [
@@ -230,8 +255,7 @@ fn another_line(rt: HostRuntime) -> Result<(), Fail> {
         (1, "heap 8 16 2 0 1 1 1"),
         (1, "heap 65536 16 16 1 30 1 1"),
     ] {
-        let log = with_other(alloc, at, other)?;
-        expect(&rt, alloc, log.as_str(), Replayed::Done, "ok 52\n")?;
+        expect_other(&rt, alloc, at, other, Replayed::Done, "ok 52\n")?;
     }
     Ok(())
 }
@@ -291,23 +315,33 @@ const NONE: &[(u64, &str)] = &[
 fn no_line(rt: HostRuntime) -> Result<(), Fail> {
     let alloc = rt.alloc();
     for (at, other) in NONE {
-        let log = with_other(alloc, *at, other)?;
         let text = format!(in alloc; "log {at}\n")?;
-        expect(&rt, alloc, log.as_str(), Replayed::Log, text.as_str())?;
+        expect_other(&rt, alloc, *at, other, Replayed::Log, text.as_str())?;
     }
     // It goes before a line that differs.
-    let log = with_other(alloc, 2, "begin 0 put 0 0 8\nstep 1")?;
-    expect(&rt, alloc, log.as_str(), Replayed::Log, "log 3\n")?;
-    let (before, _) = CALLS.split_once("fault").ok_or("a fault")?;
+    let both = "begin 0 put 0 0 8\nstep 1";
+    expect_other(&rt, alloc, 2, both, Replayed::Log, "log 3\n")?;
+    Ok(())
+}
+
+/// Compares which line of some has no form, where they stand behind the first nine of the log.
+fn expect_log_behind(rt: &impl Abort, alloc: Global, behind: &str) -> Result<(), AllocError> {
+    let Some((before, _)) = CALLS.split_once("fault") else {
+        panic!(rt; "the log lacks a fault");
+    };
+    let log = format!(in alloc; "{before}{behind}")?;
+    let lines = behind.lines().count().saturating_add(9);
+    let text = format!(in alloc; "log {lines}\n")?;
+    expect(rt, alloc, log.as_str(), Replayed::Log, text.as_str())
+}
+
+#[test]
+fn no_last_line(rt: HostRuntime) -> Result<(), Fail> {
     for behind in [
         "end 0 num 7\nstep 1\n",
         "step 0\nstep 0\nstep 0\nend 0 unit\n\n",
     ] {
-        let mut log = String::from_str(alloc, before)?;
-        log.push_str(behind)?;
-        let lines = behind.lines().count().saturating_add(9);
-        let text = format!(in alloc; "log {lines}\n")?;
-        expect(&rt, alloc, log.as_str(), Replayed::Log, text.as_str())?;
+        expect_log_behind(&rt, rt.alloc(), behind)?;
     }
     Ok(())
 }

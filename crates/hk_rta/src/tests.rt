@@ -212,6 +212,20 @@ fn responses_one_by_one(rt: HostRuntime) -> Result<(), Fail> {
             ],
             &[1, 2, 6, 42, 1806, 3612],
         ),
+        // and with 1,807 one in 3,263,442, so far that the search looks ahead
+        (
+            &[
+                (1, 2, 2, 0),
+                (1, 3, 3, 0),
+                (1, 7, 7, 0),
+                (1, 43, 43, 0),
+                (1, 1807, 1807, 0),
+                (1, BIG, BIG, 0),
+                (1, BIG, BIG, 0),
+                (4, BIG, BIG, 0),
+            ],
+            &[1, 2, 6, 42, 1806, 3_263_442, 6_526_884],
+        ),
         // the jitter of the task before is no part of its length
         (&[(1, 100, 100, 90), (1, 100, 100, 0)], &[91, 2]),
         (&[(1, 4, 4, 3), (2, 6, 6, 0), (3, 12, 12, 0)], &[4, 4, 11]),
@@ -280,6 +294,19 @@ fn least_periods(rt: HostRuntime) -> Result<(), Fail> {
         // 1, 6, 8, 10, 11
         (&[(4, 3, 1), (6, 0, 2), (12, 0, 3)], 0, 99, Some(11)),
         (&[(BIG, BIG, 1)], 0, BIG, Some(2)),
+        // one tick in 3,263,442 is left, the last one
+        (
+            &[(2, 0, 1), (3, 0, 1), (7, 0, 1), (43, 0, 1), (1807, 0, 1)],
+            5,
+            BIG,
+            Some(16_317_210),
+        ),
+        (
+            &[(2, 0, 1), (3, 0, 1), (7, 0, 1), (43, 0, 1), (1807, 0, 1)],
+            6,
+            BIG,
+            None,
+        ),
         (&[(1, BIG, MAX_WORK); 31], MAX_WORK, BIG, None),
         (&[(1, 0, MAX_WORK); 31], MAX_WORK, BIG, None),
     ];

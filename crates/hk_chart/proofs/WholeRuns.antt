@@ -83,7 +83,6 @@ module _ (w : Window) where
     reaches : Reaches lanes bars current
 
   module _ (lanes : List Lane) (given : Lane) where
-
     abbrev longer_lanes : List Lane
     longer_lanes = lanes ++ given ∷ []
 

@@ -574,7 +574,7 @@ def sizes():
 
 
 def slow_analyses():
-    """The slowest analysis that is known, in each program that makes one, and with a second of the processor."""
+    """The analysis that took longest before it looked ahead, in each program that makes one, and with a second of the processor."""
     for program, words in (("henri", ["check"]), ("hk_assign", []), ("hk_ceiling", []), ("hk_edf", [])):
         if not is_built(program):
             continue

@@ -184,10 +184,15 @@ def nested(opening, closing, inside):
     return opening * 79 + inside + closing * 79
 
 
-def slow_tasks():
-    """31 high tasks of one tick each. The first five leave one tick in 364,210 free, and make no long idle moment before: so the
-    response time of each of the others, which come once in 2^24 ticks, is looked for in steps of a few ticks up to there."""
-    periods = [2, 3, 7, 43, 1815, *[16_777_216] * 26]
+# Periods of five tasks of one tick that leave nearly nothing free, and make no long idle moment before that: one tick in 364,210,
+# in 3,263,442, in 360,600, and in 176,820.
+CLOSE = [[2, 3, 7, 43, 1815], [2, 3, 7, 43, 1807], [2, 3, 8, 25, 601], [2, 4, 5, 21, 421]]
+
+
+def slow_tasks(close=CLOSE[0]):
+    """31 high tasks of one tick each. The first five leave little free; the others come once in 2^24 ticks, and their response times are
+    in the hundreds of thousands of ticks and more."""
+    periods = [*close, *[16_777_216] * 26]
     sheet = (HEAP % (10, 129)).replace("rate = 11", "rate = 14")
     return sheet + "".join(high(f"t{i}", 1, 0, [], "work 1", period) for i, period in enumerate(periods))
 
@@ -233,5 +238,9 @@ def families():
         ("a comment", padded(MAKING), None, True),
         ("a string that isn't closed", MAKING + 'x = """' + "y" * 1_040_000, "sheet text", True),
         ("an input that is too long", padded(MAKING, LONGEST + 1), "sheet long", True),
-        ("31 tasks that leave little free", slow_tasks(), None, False),
+        # with one tick in 3,263,442 the sixth task behind the first five is late: 6 * 3,263,442 is above 2^24
+        *(
+            (f"31 tasks with the periods {close}", slow_tasks(close), "refused response t10" if close[-1] == 1807 else None, True)
+            for close in CLOSE
+        ),
     )

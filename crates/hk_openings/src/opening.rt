@@ -56,15 +56,7 @@ pub fn geometry() -> Geometry
     ensures high { result.high ≡ 1 }
     ensures low { result.low ≡ 1 }
 {
-    Geometry {
-        live: 62,
-        alloc: 512,
-        reserve: 129,
-        high: 1,
-        low: 1,
-        registers: 8,
-        board: BOARD,
-    }
+    Geometry::laid_out((62, 512, 129), (1, 1), 8, BOARD)
 }
 
 /// A line that tells the number which a call read, or that it read none.

@@ -91,6 +91,11 @@ made_geometry = record {
   low = 1;
   registers = 8;
   board = made_board;
+  first_mark = 98;
+  first_frame = 194;
+  first_register = 197;
+  first_entry = 221;
+  first_word = 285;
   live_even = refl;
   alloc_even = refl;
   board_fits = omega arith;
@@ -102,6 +107,11 @@ made_geometry = record {
   tasks_few = omega arith;
   registers_some = omega arith;
   registers_few = omega arith;
+  marks_begin = refl;
+  frames_begin = refl;
+  registers_begin = refl;
+  entries_begin = refl;
+  words_begin = refl;
 }
 
 abbrev pub made_heading : List ℕ

@@ -1,7 +1,7 @@
 //! A log of actions that are drawn.
 ghost use Rattle.std.specs.Prelude.{◌≡◌, IfOk};
 ghost use Rattle.hk_replay.specs.Answers.{answered, core_after};
-ghost use Rattle.hk_replay.specs.Making.{action_drawn, after_action, made_log};
+ghost use Rattle.hk_replay.specs.Making.{action_drawn, after_action, made_geometry, made_log};
 
 use crate::draws::Draws;
 use crate::log_line::LogLine;
@@ -11,19 +11,15 @@ use hk_core::Memory;
 use hk_words::{Geometry, Shape};
 use std::alloc::Global;
 
-/// The heap of a log that is made.
-const MADE: Geometry = Geometry {
-    live: 64,
-    alloc: 64,
-    reserve: 16,
-    high: 2,
-    low: 1,
-    registers: 8,
-    board: Shape { refs: 2, nums: 1 },
-};
-
 /// The actions of a log that is made.
 const ACTIONS: u32 = 20_000;
+
+/// The heap of a log that is made.
+fn heap() -> Geometry
+    ensures { result ≡ made_geometry }
+{
+    Geometry::laid_out((64, 64, 16), (2, 1), 8, Shape { refs: 2, nums: 1 })
+}
 
 /// Draws an action, does it, and answers its line, if there is one.
 #[tactic(auto, unfolding(crate::specs::Making::action_drawn, crate::specs::Making::after_action))]
@@ -50,7 +46,7 @@ fn drawn_line(machine: &mut Machine, draws: &mut Draws) -> Option<LogLine>
 pub fn make(alloc: Global, number: u64) -> Result<Vec<u8>, Memory>
     ensures { IfOk result (λ log. log.items ≡ made_log number) }
 {
-    let mut machine = Machine::open(alloc, MADE)?;
+    let mut machine = Machine::open(alloc, heap())?;
     let mut draws = Draws { state: number };
     let mut log = Vec::new(alloc);
     log.extend_from_slice(heading_line().bytes())?;

@@ -41,7 +41,8 @@ pub enum GeoError {
 }
 
 /// The sizes of a heap, in words, and the tasks that use it. Each of the two spaces has `live` words for
-/// evacuation and `alloc` words for allocation, of which `reserve` are kept for the high tasks.
+/// evacuation and `alloc` words for allocation, of which `reserve` are kept for the high tasks. Where the parts of the
+/// row begin follows from the sizes, and is kept, since each access to the heap asks for it.
 #[derive(Clone, Copy, Debug, PartialEq, Eq)]
 pub struct Geometry {
     pub live: u32,
@@ -51,6 +52,16 @@ pub struct Geometry {
     pub low: u8,
     pub registers: u8,
     pub board: Shape,
+    /// The index of the first mark.
+    pub first_mark: u32,
+    /// The index of the first frame word.
+    pub first_frame: u32,
+    /// The index of the first register.
+    pub first_register: u32,
+    /// The index of the first entry of the lists of free numbers.
+    pub first_entry: u32,
+    /// The index of the first word of the spaces.
+    pub first_word: u32,
     pub ghost live_even: { live % 2 ≡ 0 },
     pub ghost alloc_even: { alloc % 2 ≡ 0 },
     pub ghost board_fits: { 1 + board.refs + board.nums ≤ live },
@@ -62,6 +73,11 @@ pub struct Geometry {
     pub ghost tasks_few: { high + low ≤ 31 },
     pub ghost registers_some: { 2 ≤ registers },
     pub ghost registers_few: { registers ≤ 32 },
+    pub ghost marks_begin: { first_mark ≡ 2 + (live / 2 + alloc) },
+    pub ghost frames_begin: { first_frame ≡ first_mark + (live / 2 + alloc) },
+    pub ghost registers_begin: { first_register ≡ first_frame + (high + low) },
+    pub ghost entries_begin: { first_entry ≡ first_register + registers * (high + low) },
+    pub ghost words_begin: { first_word ≡ first_entry + 2 * (alloc / 2) },
 }
 
 impl Geometry {
@@ -154,15 +170,48 @@ impl Geometry {
         if registers < MIN_REGISTERS || registers > MAX_REGISTERS {
             return Err(GeoError::Registers);
         }
-        Ok(Geometry {
+        Ok(Geometry::laid_out(words, tasks, registers, Shape { refs, nums }))
+    }
+
+    /// The geometry of words for evacuation, for allocation and in reserve, of high and low tasks, of the registers of
+    /// each, and of a board. Whoever calls it knows that they are a geometry.
+    pub fn laid_out(
+        words: (u32, u32, u32),
+        tasks: (u8, u8),
+        registers: u8,
+        board: Shape,
+    ) -> Geometry
+        requires even { (words.0 % 2 ≡ 0) × (words.1 % 2 ≡ 0) }
+        requires board_fits { 1 + board.refs + board.nums ≤ words.0 }
+        requires alloc_enough { 16 ≤ words.1 }
+        requires few { (words.0 ≤ 65536) × (words.1 ≤ 65536) }
+        requires reserve_within { words.2 ≤ words.1 }
+        requires tasks { (0 < tasks.0 + tasks.1) × (tasks.0 + tasks.1 ≤ 31) }
+        requires registers { (2 ≤ registers) × (registers ≤ 32) }
+        ensures { HasSizes result (record { live = words.0; alloc = words.1; reserve = words.2; high = tasks.0; low = tasks.1; refs = board.refs; nums = board.nums; registers = registers }) }
+    {
+        let (live, alloc, reserve) = words;
+        let (high, low) = tasks;
+        let seats = u32::from(high) + u32::from(low);
+        let numbers = live / 2 + alloc;
+        let first_mark = 2 + numbers;
+        let first_frame = first_mark + numbers;
+        let first_register = first_frame + seats;
+        let first_entry = first_register + u32::from(registers) * seats;
+        Geometry {
             live,
             alloc,
             reserve,
             high,
             low,
             registers,
-            board: Shape { refs, nums },
-        })
+            board,
+            first_mark,
+            first_frame,
+            first_register,
+            first_entry,
+            first_word: first_entry + 2 * (alloc / 2),
+        }
     }
 
     /// The words of a space for evacuation.
@@ -232,9 +281,6 @@ impl Geometry {
     pub fn words(&self) -> u32
         ensures { result ≡ row_length self.now }
     {
-        let tasks = u32::from(self.tasks());
-        let spaces = 2 * (self.live + self.alloc);
-        let lists = 2 * (self.alloc / 2);
-        2 + 2 * self.numbers() + tasks + u32::from(self.registers) * tasks + lists + spaces
+        self.first_word + 2 * (self.live + self.alloc)
     }
 }

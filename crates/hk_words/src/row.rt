@@ -11,31 +11,31 @@ impl Geometry {
     fn marks_from(&self) -> u32
         ensures { result ≡ marks_from self.now }
     {
-        2 + self.numbers()
+        self.first_mark
     }
 
     fn frames_from(&self) -> u32
         ensures { result ≡ frames_from self.now }
     {
-        self.marks_from() + self.numbers()
+        self.first_frame
     }
 
     fn registers_from(&self) -> u32
         ensures { result ≡ registers_from self.now }
     {
-        self.frames_from() + u32::from(self.tasks())
+        self.first_register
     }
 
     fn lists_from(&self) -> u32
         ensures { result ≡ lists_from self.now }
     {
-        self.registers_from() + u32::from(self.registers()) * u32::from(self.tasks())
+        self.first_entry
     }
 
     fn spaces_from(&self) -> u32
         ensures { result ≡ spaces_from self.now }
     {
-        self.lists_from() + 2 * (self.alloc() / 2)
+        self.first_word
     }
 
     /// The index of W0, the words used, the objects made and the cycle.

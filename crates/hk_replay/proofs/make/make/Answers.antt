@@ -1,7 +1,7 @@
 -- The lines that are drawn one after another are the log.
 use Rattle.std.proofs.Common.{ℕ, List, ◌++◌, refl, sym, ap, ◌∙◌, arith, Some, None}
 use Rattle.std.proofs.lemmas.List.{append-nil}
-use Rattle.hk_replay.proofs.ToolLemmas.{made_is, made_first, made_more, made_last}
+use Rattle.hk_replay.proofs.ToolLemmas.{made_first, made_more, made_last}
 use Rattle.hk_replay.proofs.make.make.Goals as goal
 use Rattle.hk_replay.proofs.make.make.Goals.{in-Some+in_ok-extend_from_slice-2, in_default}
 
@@ -10,7 +10,7 @@ loop-init c = (
   omega arith,
   made_first _ c.in_ok-machine.machine _ c.args.number
       (c.in_ok-extend_from_slice.ensures.items ∙ ap (λ (l : List ℕ). l ++ c.bytes.result.now) c.new-log.ensures.items ∙ c.bytes.ensures.value ∙ c.heading_line.ensures)
-      c.in_ok-machine.ensures (made_is _ refl refl refl refl refl refl refl refl),
+      c.in_ok-machine.ensures c.heap.ensures,
 )
 
 pub loop-preserved : goal.loop-preserved

@@ -1,5 +1,5 @@
 -- The lines that are drawn one after another are the log.
-use Rattle.std.proofs.Common.{ℕ, List, ◌++◌, refl, sym, ap, ◌∙◌, arith, Some, None}
+use Rattle.std.proofs.Common.{ℕ, List, ◌++◌, sym, ap, ◌∙◌, arith, Some, None}
 use Rattle.std.proofs.lemmas.List.{append-nil}
 use Rattle.hk_replay.proofs.ToolLemmas.{made_first, made_more, made_last}
 use Rattle.hk_replay.proofs.make.make.Goals as goal

@@ -5,7 +5,7 @@ mod streams;
 
 use crate::charted::Charted;
 use crate::tool::run_chart;
-use hk_io::{MemSink, MemSource};
+use hk_io::{MemSink, MemSource, Trial};
 use std::alloc::{AllocError, Global};
 use std::process::Abort;
 use std::test::Fail;
@@ -64,17 +64,12 @@ fn run(
     fails: (&[u64], &[u64]),
     room: usize,
 ) -> Result<Ended, AllocError> {
-    let mut given = Vec::new(alloc);
-    for word in words {
-        given.push(String::from_str(alloc, word)?)?;
-    }
-    let (source_fails, sink_fails) = fails;
-    let bytes = input.as_bytes().to_vec(alloc)?;
-    let mut source = MemSource::new(bytes, source_fails.to_vec(alloc)?);
-    let Ok(mut sink) = MemSink::new(alloc, room, sink_fails.to_vec(alloc)?) else {
-        return Err(AllocError);
-    };
-    let charted = run_chart(alloc, given.as_slice(), &mut source, &mut sink);
+    let Trial {
+        words,
+        mut source,
+        mut sink,
+    } = Trial::new(alloc, words, input.as_bytes(), fails, room)?;
+    let charted = run_chart(alloc, words.as_slice(), &mut source, &mut sink);
     Ok(Ended {
         charted,
         source,

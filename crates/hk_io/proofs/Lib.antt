@@ -2,3 +2,4 @@ pub mod BytesLemmas
 pub mod LineLemmas
 pub mod Digits
 pub mod DecimalDigits
+mod TrialLemmas

@@ -1,5 +1,6 @@
 -- Sources and sinks in memory.
-use Rattle.std.specs.Prelude.{ℕ, List}
+use Rattle.std.specs.Prelude.{ℕ, List, map}
+use denote.Ref.{Bor}
 
 -- A source in memory: the bytes still to come, the numbers of the calls that fail, the number of the next call,
 -- and the count of faults.
@@ -17,3 +18,7 @@ pub record Intake : Type 0 where
   pub fails : List ℕ
   pub calls : ℕ
   pub faults : ℕ
+
+-- the texts behind some references
+abbrev pub texts : List (Bor (List ℕ)) → List (List ℕ)
+texts = map (λ text. text.now)

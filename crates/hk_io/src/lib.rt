@@ -17,6 +17,7 @@ mod std_source;
 mod streams;
 #[cfg(test)]
 mod tests;
+mod trial;
 mod whole;
 
 pub use decimal::{MAX_DIGITS, number};
@@ -28,6 +29,7 @@ pub use mem_source::MemSource;
 pub use std_sink::StdSink;
 pub use std_source::StdSource;
 pub use streams::{Sink, Source};
+pub use trial::Trial;
 pub use whole::{MAX_INPUT, put_all, take_all};
 
 /// How a program ends. The number is its exit status.

@@ -4,7 +4,6 @@
 #![tactic(auto)]
 
 mod calls;
-mod draws;
 mod mixture;
 mod tally;
 

@@ -3,10 +3,9 @@
 //! cursor was at.
 use crate::calls;
 use crate::calls::End;
-use crate::draws::Draws;
 use crate::tally::Tally;
 use hk_collect::OwnedHeap;
-use hk_words::{Call, Reply, Shape};
+use hk_words::{Call, Draws, Reply, Shape};
 
 /// A link of a chain: the next one and a leaf, and two numbers.
 const LINK: Shape = Shape { refs: 2, nums: 2 };
@@ -76,7 +75,7 @@ impl Mixture {
         Mixture {
             heap,
             way,
-            draws: Draws::new(),
+            draws: Draws { state: 1 },
             tally: Tally::default(),
         }
     }

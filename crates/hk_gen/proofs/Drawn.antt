@@ -7,7 +7,8 @@ use Rattle.hk_admit.specs.declared.refused.Refused.TheVariants.{Memory}
 use Rattle.hk_admit.specs.Refusals.{IsRefusal}
 use Rattle.hk_admit.proofs.Excluded.{admitted_excludes}
 use Rattle.hk_gen.specs.Admission.{IsAdmitted}
-use Rattle.hk_gen.specs.Made.{after, draw, made}
+use Rattle.hk_words.specs.Draws.{draw}
+use Rattle.hk_gen.specs.Made.{after, made}
 use Rattle.hk_gen.proofs.Admissible.{admitted}
 use Rattle.hk_gen.proofs.Readable.{readable}
 use Rattle.hk_gen.proofs.Times.{IsIn, AreTimes, AreArrived}

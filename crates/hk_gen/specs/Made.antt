@@ -2,6 +2,7 @@
 use Rattle.std.specs.Prelude.{ℕ, zero, suc, ◌+◌, ◌*◌, ◌/◌, ◌%◌, ◌^◌, List, [], ◌∷◌, ◌++◌, codes, decimal}
 use Rattle.std.proofs.Common.{refl, ltb-true, leb-true}
 use Rattle.hk_words.specs.declared.shape.Shape.{Shape}
+use Rattle.hk_words.specs.Draws.{next, draw}
 use Rattle.hk_script.specs.declared.statement.Statement.{Statement}
 use Rattle.hk_script.specs.declared.statement.Statement.TheVariants.{Job, New, Put, Get, Load, Store, If, Else, End, Add, Out, Clear, Work}
 use Rattle.hk_script.specs.declared.statement.Test.TheVariants.{Null}
@@ -13,18 +14,10 @@ use Rattle.hk_sheet.specs.declared.sheet.Sheet.{Sheet}
 
 -- DRAWS
 
--- the state after a draw
-unfoldable pub next : (state : ℕ) → ℕ
-next state = (state * 6364136223846793005 + 1442695040888963407) % 2 ^ 64
-
 -- the state after so many draws
 abbrev pub after : (draws state : ℕ) → ℕ
 after zero state = state
 after (suc draws) state = next (after draws state)
-
--- the number below a limit that is drawn from a state: the next state without its 33 low bits, modulo the limit
-abbrev pub draw : (limit state : ℕ) → ℕ
-draw limit state = next state / 2 ^ 33 % limit
 
 -- SCRIPTS. Each job makes an object that refers to that of the job before, takes its place in field i of the board, and
 -- cuts it off from the one before it, by register 3, which is never written and so is null: a chain has two objects at most.

@@ -1,7 +1,6 @@
 //! Task sheets that are made from numbers: the same sheet for the same number, and each of them is admitted.
 #![tactic(auto)]
 
-mod draws;
 mod laws;
 mod making;
 mod scripts;

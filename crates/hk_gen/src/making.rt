@@ -7,10 +7,9 @@ ghost use Rattle.hk_admit.specs.Refusals.{IsRefusal};
 ghost use Rattle.hk_sheet.specs.Valid.{IsSheet};
 ghost use Rattle.hk_gen.specs.Made.{made};
 
-use crate::draws::Draws;
 use crate::tasks::{high_task, low_task};
 use hk_sheet::{HeapKeys, Highs, Lows, Sheet};
-use hk_words::{Memory, REGISTERS, USUAL_FIELDS};
+use hk_words::{Draws, Memory, REGISTERS, USUAL_FIELDS};
 use std::alloc::Global;
 
 /// The ticks of a run.

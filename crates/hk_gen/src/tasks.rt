@@ -3,11 +3,10 @@
 ghost use Rattle.std.specs.Prelude.{◌≡◌, ◌<◌, ◌++◌, decimal, IfOk, OnOk};
 ghost use Rattle.hk_gen.specs.Made.{after, high_drawn, low_drawn};
 
-use crate::draws::Draws;
 use crate::scripts::{high_script, low_script};
 use hk_rta::Timing;
 use hk_sheet::{Arrivals, High, Low, Name};
-use hk_words::Memory;
+use hk_words::{Draws, Memory};
 use std::alloc::{AllocError, Global};
 
 /// The name of a task: the letter of its kind, and its number.

@@ -5,18 +5,12 @@ use Rattle.hk_words.specs.declared.call.Call.{Call}
 use Rattle.hk_words.specs.declared.call.Call.TheVariants as call
 use Rattle.hk_words.specs.declared.geometry.Geometry.{Geometry}
 use Rattle.hk_words.specs.declared.shape.Shape.{Shape}
+use Rattle.hk_words.specs.Draws.{next, drawn}
 use Rattle.hk_core.specs.State.{State, opening}
 use Rattle.hk_core.specs.Run.{Action, begin, step, collect, is_busy}
 use Rattle.hk_replay.specs.declared.log_line.LogLine.{LogLine}
 use Rattle.hk_replay.specs.Answers.{answered, core_after}
 use Rattle.hk_replay.specs.Printing.{text_of_words, text_of}
-
--- DRAWS. A draw changes the state, and gives a number below a limit
-abbrev pub drawn_state : ℕ → ℕ
-drawn_state x = (x * 6364136223846793005 + 1442695040888963407) % 2 ^ 64
-
-abbrev pub drawn : (limit state : ℕ) → ℕ
-drawn limit state = state / 2 ^ 33 % limit
 
 -- a shape of below 3 reference fields, and 1 or 2 number fields
 unfoldable pub drawn_shape : (refs nums : ℕ) → Shape
@@ -44,13 +38,13 @@ state_by kind first second third =
 -- what a state draws: the call, and the state after it
 unfoldable pub call_drawn : ℕ → Call
 call_drawn x =
-    let kind = drawn_state x in let first = drawn_state kind in let second = drawn_state first in
-    call_by (drawn 7 kind) first second (drawn_state second)
+    let kind = next x in let first = next kind in let second = next first in
+    call_by (drawn 7 kind) first second (next second)
 
 unfoldable pub after_call : ℕ → ℕ
 after_call x =
-    let kind = drawn_state x in let first = drawn_state kind in let second = drawn_state first in
-    state_by (drawn 7 kind) first second (drawn_state second)
+    let kind = next x in let first = next kind in let second = next first in
+    state_by (drawn 7 kind) first second (next second)
 
 -- AN ACTION. Of five numbers, two are the collector's, and three a seat's, which steps where it has a call in flight and
 -- else begins one
@@ -61,10 +55,10 @@ abbrev pub after_seat : State → (seat x : ℕ) → ℕ
 after_seat c seat x = if is_busy c seat then x else after_call x
 
 unfoldable pub action_drawn : State → ℕ → Action
-action_drawn c x = if nat_lt (drawn 5 (drawn_state x)) 3 then seat_action c (drawn 5 (drawn_state x)) (drawn_state x) else collect
+action_drawn c x = if nat_lt (drawn 5 (next x)) 3 then seat_action c (drawn 5 (next x)) (next x) else collect
 
 unfoldable pub after_action : State → ℕ → ℕ
-after_action c x = if nat_lt (drawn 5 (drawn_state x)) 3 then after_seat c (drawn 5 (drawn_state x)) (drawn_state x) else drawn_state x
+after_action c x = if nat_lt (drawn 5 (next x)) 3 then after_seat c (drawn 5 (next x)) (next x) else next x
 
 -- THE LOG
 

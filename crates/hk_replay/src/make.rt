@@ -3,12 +3,12 @@ ghost use Rattle.std.specs.Prelude.{◌≡◌, IfOk};
 ghost use Rattle.hk_replay.specs.Answers.{answered, core_after};
 ghost use Rattle.hk_replay.specs.Making.{action_drawn, after_action, made_geometry, made_log};
 
-use crate::draws::Draws;
+use crate::draws::drawn_call;
 use crate::log_line::LogLine;
 use crate::machine::Machine;
 use crate::printing::{heading_line, text_of};
 use hk_core::Memory;
-use hk_words::{Geometry, Shape};
+use hk_words::{Draws, Geometry, Shape};
 use std::alloc::Global;
 
 /// The actions of a log that is made.
@@ -36,7 +36,7 @@ fn drawn_line(machine: &mut Machine, draws: &mut Draws) -> Option<LogLine>
     if machine.is_busy(seat) {
         machine.step_line(seat)
     } else {
-        let call = draws.call();
+        let call = drawn_call(draws);
         machine.begin_line(seat, call)
     }
 }

@@ -1,5 +1,6 @@
 pub mod Bounds
 pub mod Calls
+pub mod Draws
 pub mod Geometry
 pub mod Layout
 pub mod Row

@@ -1,9 +1,10 @@
 //! The words of the heap: shapes, the geometry of a heap, the calls on it with their replies, and the packed
-//! words that the heap's row consists of. Nothing here takes memory.
+//! words that the heap's row consists of; and numbers that are drawn. Nothing here takes memory.
 #![tactic(auto)]
 
 mod bounds;
 mod call;
+mod draws;
 mod geometry;
 mod memory;
 mod packing;
@@ -15,6 +16,7 @@ mod tests;
 
 pub use bounds::{MOST_PLACES, cycle_events, frame_events, object_events};
 pub use call::{Call, Reply, call_laws};
+pub use draws::Draws;
 pub use geometry::{
     GeoError, Geometry, MAX_REGISTERS, MAX_TASKS, MAX_WORDS, MIN_ALLOC, MIN_REGISTERS, REGISTERS,
 };

@@ -2,7 +2,7 @@
 ghost use Rattle.std.specs.Prelude.{◌≡◌, ◌<◌};
 ghost use Rattle.hk_table.specs.Passes.{IsPassOf};
 
-use crate::draws::Draws;
+use crate::draws::draws_of_seat;
 use crate::tally::Tally;
 use hk_table::{Heap, HeapError, Pass, Steps};
 use hk_words::Shape;
@@ -58,7 +58,7 @@ impl Worker {
         ensures pass { result.pass ≡ pass }
         ensures home { result.home < 8 }
     {
-        let draws = Draws::of_seat(pass.seat());
+        let draws = draws_of_seat(pass.seat());
         let home = match home {
             Home::Board => BOARD,
             Home::Own => OWN,

@@ -1,9 +1,9 @@
-//! Aids of the tests: calls on a heap whose conditions are looked at as the test runs, and numbers drawn one after another.
+//! Aids of the tests: calls on a heap whose conditions are looked at as the test runs, and calls that are drawn.
 ghost use Rattle.std.specs.Prelude.{◌<◌};
 
 use crate::{OwnedHeap, Work};
 use hk_core::{Fault, Flight, Memory, Outcome, Step};
-use hk_words::{Call, Geometry, Reply, Shape};
+use hk_words::{Call, Draws, Geometry, Reply, Shape};
 use std::alloc::Global;
 use std::process::Abort;
 
@@ -103,82 +103,57 @@ pub fn useful(rt: &impl Abort, heap: &mut OwnedHeap, events: u32) {
     }
 }
 
-/// Numbers drawn one after another from a state.
-#[derive(Drop)]
-pub struct Draws {
-    state: u64,
+/// A register to write, one of the first four.
+fn dest(draws: &mut Draws) -> u8 {
+    1 + draws.below(3) as u8
 }
 
-impl Draws {
-    /// The draws that begin at a number.
-    pub fn new(number: u64) -> Draws {
-        Draws { state: number }
-    }
+/// A register to read, one of the first four.
+fn reg(draws: &mut Draws) -> u8 {
+    draws.below(4) as u8
+}
 
-    /// A number below a bound.
-    pub fn below(&mut self, bound: u64) -> u64
-        requires { 0 < bound }
-        ensures { result < bound }
-    {
-        self.state = self
-            .state
-            .wrapping_mul(6_364_136_223_846_793_005)
-            .wrapping_add(1_442_695_040_888_963_407);
-        (self.state >> 33) % bound
-    }
+fn field(draws: &mut Draws) -> u8 {
+    draws.below(2) as u8
+}
 
-    /// A register to write, one of the first four.
-    fn dest(&mut self) -> u8 {
-        1 + self.below(3) as u8
+/// One of the first so many kinds of calls: the first four go through no reference cell and make nothing.
+pub fn drawn_call(draws: &mut Draws, kinds: u64) -> Call
+    requires { 0 < kinds }
+{
+    match draws.below(kinds) {
+        0 => Call::Get {
+            reg: reg(draws),
+            field: field(draws),
+        },
+        1 => Call::Put {
+            reg: reg(draws),
+            field: field(draws),
+            value: draws.below(1000),
+        },
+        2 => Call::Move {
+            dest: dest(draws),
+            from: reg(draws),
+        },
+        3 => Call::Clear { dest: dest(draws) },
+        4 => Call::Load {
+            dest: dest(draws),
+            reg: reg(draws),
+            field: field(draws),
+        },
+        5 => Call::Store {
+            reg: reg(draws),
+            field: field(draws),
+            from: reg(draws),
+        },
+        _ => drawn_new(draws),
     }
+}
 
-    /// A register to read, one of the first four.
-    fn reg(&mut self) -> u8 {
-        self.below(4) as u8
-    }
-
-    fn field(&mut self) -> u8 {
-        self.below(2) as u8
-    }
-
-    /// One of the first so many kinds of calls: the first four go through no reference cell and make nothing.
-    pub fn call(&mut self, kinds: u64) -> Call
-        requires { 0 < kinds }
-    {
-        match self.below(kinds) {
-            0 => Call::Get {
-                reg: self.reg(),
-                field: self.field(),
-            },
-            1 => Call::Put {
-                reg: self.reg(),
-                field: self.field(),
-                value: self.below(1000),
-            },
-            2 => Call::Move {
-                dest: self.dest(),
-                from: self.reg(),
-            },
-            3 => Call::Clear { dest: self.dest() },
-            4 => Call::Load {
-                dest: self.dest(),
-                reg: self.reg(),
-                field: self.field(),
-            },
-            5 => Call::Store {
-                reg: self.reg(),
-                field: self.field(),
-                from: self.reg(),
-            },
-            _ => self.make(),
-        }
-    }
-
-    fn make(&mut self) -> Call {
-        let dest = self.dest();
-        match Shape::new(self.below(3) as u8, 1 + self.below(2) as u8) {
-            Some(shape) => Call::New { dest, shape },
-            None => Call::Clear { dest },
-        }
+fn drawn_new(draws: &mut Draws) -> Call {
+    let dest = dest(draws);
+    match Shape::new(draws.below(3) as u8, 1 + draws.below(2) as u8) {
+        Some(shape) => Call::New { dest, shape },
+        None => Call::Clear { dest },
     }
 }

@@ -1,8 +1,8 @@
 //! Walks of the heap beside the measure of a cycle: each call runs whole, between two events of the collector.
-use super::aids::{Draws, whole};
+use super::aids::{drawn_call, whole};
 use crate::{OwnedHeap, Work};
 use hk_core::{Line, Memory, Spot, Stage, reference_size};
-use hk_words::{Geometry, frame_events, object_events};
+use hk_words::{Draws, Geometry, frame_events, object_events};
 use std::alloc::Global;
 use std::process::Abort;
 use std::test::Fail;
@@ -123,11 +123,11 @@ fn whole_calls(rt: HostRuntime) -> Result<(), Fail> {
     for number in 1..4 {
         let g = Geometry::new(64, 64, 16, 2, 1, 2, 1)?;
         let mut walk = Walk::open(rt.alloc(), g)?;
-        let mut draws = Draws::new(number);
+        let mut draws = Draws { state: number };
         for _ in 0..20_000 {
             let seat = draws.below(24) as u8;
             if seat < 3 {
-                let call = draws.call(7);
+                let call = drawn_call(&mut draws, 7);
                 whole(&rt, &mut walk.heap, seat, call);
             } else {
                 collect(&rt, &mut walk);

@@ -1,8 +1,8 @@
 //! Calls in one piece, beside the same calls by begin and steps on another heap.
-use super::aids::{Draws, begin, flight, rest, step};
+use super::aids::{begin, drawn_call, flight, rest, step};
 use crate::OwnedHeap;
 use hk_core::{Fault, Outcome};
-use hk_words::{Call, Geometry, Reply};
+use hk_words::{Call, Draws, Geometry, Reply};
 use std::process::Abort;
 use std::test::Fail;
 
@@ -73,7 +73,7 @@ fn walk(
     let (mut done, mut refused, mut full) = (0u32, 0u32, 0u32);
     for _call in 0..calls {
         let seat = draws.below(2) as u8;
-        let call = draws.call(8);
+        let call = drawn_call(draws, 8);
         let ended = piece(rt, one, seat, call);
         match stepped(rt, other, seat, call) {
             Ok(outcome) => assert!(rt; outcome == ended.ok(), "{call:?}"),
@@ -87,7 +87,7 @@ fn walk(
         for _event in 0..draws.below(12) {
             assert!(rt; one.collect() == other.collect());
         }
-        let call = draws.call(8);
+        let call = drawn_call(draws, 8);
         aside(rt, one, 2, call);
         aside(rt, other, 2, call);
         agree(rt, one, other);
@@ -101,7 +101,7 @@ fn a_call_in_one_piece_leaves_what_its_steps_leave(rt: HostRuntime) -> Result<()
         let g = Geometry::new(16, 16, 6, 1, 2, 2, 2)?;
         let mut one = OwnedHeap::open(rt.alloc(), g)?;
         let mut other = OwnedHeap::open(rt.alloc(), g)?;
-        let mut draws = Draws::new(number);
+        let mut draws = Draws { state: number };
         let (done, refused, full) = walk(&rt, &mut one, &mut other, &mut draws, 400);
         assert!(rt;
             done > 100 && refused > 20 && full > 20,

@@ -4,11 +4,11 @@ ghost use Rattle.hk_words.specs.Calls.{RegistersFit};
 ghost use Rattle.hk_words.specs.declared.geometry.TheConstants.{REGISTERS};
 ghost use Rattle.hk_model.specs.Heap.{register_count};
 
-use super::aids::{DONE, Draws, begin, flight, is_null, make, same, step, whole};
+use super::aids::{DONE, begin, drawn_call, flight, is_null, make, same, step, whole};
 use crate::{OwnedHeap, Work};
 use hk_core::{Fault, Flight, Memory, Outcome, Step};
 use hk_model::Plain;
-use hk_words::{Call, Geometry, REGISTERS, Reply, Shape};
+use hk_words::{Call, Draws, Geometry, REGISTERS, Reply, Shape};
 use std::alloc::Global;
 use std::process::Abort;
 use std::test::Fail;
@@ -204,7 +204,7 @@ fn act(
 {
     let flight = flight(rt, &walk.heap, seat);
     if flight.place == 0 {
-        let call = draws.call(kinds);
+        let call = drawn_call(draws, kinds);
         begin_some(rt, alloc, walk, seat, call)
     } else {
         step_some(rt, alloc, walk, &flight)
@@ -235,7 +235,7 @@ fn replies_of_the_plain_heap(rt: HostRuntime) -> Result<(), Fail> {
     for number in 1..4 {
         let g = Geometry::new(64, 64, 16, 2, 1, 2, 1)?;
         let mut walk = walk_of(rt.alloc(), g)?;
-        let mut draws = Draws::new(number);
+        let mut draws = Draws { state: number };
         for _ in 0..20_000 {
             act_or_collect(&rt, rt.alloc(), &mut walk, &mut draws)?;
         }
@@ -255,7 +255,7 @@ fn many_cycles(rt: HostRuntime) -> Result<(), Fail> {
     let mut whole: u32 = 0;
     for number in 1..101 {
         let mut walk = walk_of(rt.alloc(), g)?;
-        let mut draws = Draws::new(number);
+        let mut draws = Draws { state: number };
         for _ in 0..5_000 {
             act_or_collect(&rt, rt.alloc(), &mut walk, &mut draws)?;
         }
@@ -271,7 +271,7 @@ fn replies_without_a_collector(rt: HostRuntime) -> Result<(), Fail> {
     for (kinds, actions, fills) in [(4, 2_000, false), (7, 5_000, true)] {
         let g = Geometry::new(64, 64, 16, 2, 1, 2, 1)?;
         let mut walk = walk_of(rt.alloc(), g)?;
-        let mut draws = Draws::new(kinds);
+        let mut draws = Draws { state: kinds };
         for _ in 0..actions {
             let seat = draws.below(3) as u8;
             act(&rt, rt.alloc(), &mut walk, &mut draws, seat, kinds)?;
@@ -293,7 +293,7 @@ fn call_among_events(
     seat: u8,
     events: u32,
 ) -> Result<(), Memory> {
-    let call = draws.call(7);
+    let call = drawn_call(draws, 7);
     begin_some(rt, alloc, walk, seat, call)?;
     for turn in 0..events.max(10) {
         if turn < events && walk.heap.collect() == Work::Flipped {
@@ -313,7 +313,7 @@ fn call_among_events(
 fn calls_among_events(rt: HostRuntime) -> Result<(), Fail> {
     let g = Geometry::new(64, 64, 16, 2, 1, 2, 1)?;
     let mut walk = walk_of(rt.alloc(), g)?;
-    let mut draws = Draws::new(11);
+    let mut draws = Draws { state: 11 };
     for _ in 0..250 {
         for seat in 0..2 {
             call_among_events(&rt, rt.alloc(), &mut walk, &mut draws, seat, 4)?;

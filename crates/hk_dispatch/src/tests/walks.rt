@@ -5,6 +5,7 @@ use super::written::add;
 use crate::{Session, Tick, Who};
 use hk_admit::{Admitted, Refused, admit};
 use hk_sheet::read;
+use hk_words::Draws;
 use std::alloc::{AllocError, Global};
 use std::process::Abort;
 use std::test::Fail;
@@ -15,26 +16,9 @@ const TICKS: u64 = 24_000;
 /// A bound on the events of an attempt: a frame has 34, an object of eight fields 42.
 const ATTEMPT: u64 = 42;
 
-/// Numbers that are drawn one after another: a linear congruential generator modulo 2^64 (D. E. Knuth, MMIX).
-#[derive(Drop)]
-struct Draws {
-    state: u64,
-}
-
-impl Draws {
-    /// The next number below a limit.
-    fn below(&mut self, limit: u64) -> u64 {
-        self.state = self
-            .state
-            .wrapping_mul(6_364_136_223_846_793_005)
-            .wrapping_add(1_442_695_040_888_963_407);
-        (self.state >> 33).checked_rem(limit).unwrap_or(0)
-    }
-
-    /// The next number that is at least this, and less than so much more.
-    fn from(&mut self, least: u64, more: u64) -> u64 {
-        least.saturating_add(self.below(more))
-    }
+/// The next number that is at least this, and less than so much more.
+fn from(draws: &mut Draws, least: u64, more: u64) -> u64 {
+    least.saturating_add(draws.below(more.max(1)))
 }
 
 /// A script that was drawn, with the most ticks and words that a job takes.
@@ -68,7 +52,7 @@ impl Drawn {
 
     /// Makes an object, and keeps it in a field of the board or drops it.
     fn make(&mut self, alloc: Global, draws: &mut Draws) -> Result<(), AllocError> {
-        let (refs, nums, field) = (draws.below(3), draws.from(1, 4), draws.below(6));
+        let (refs, nums, field) = (draws.below(3), from(draws, 1, 4), draws.below(6));
         let words = refs.saturating_add(nums).saturating_add(1);
         if field < 3 {
             let lines = format!(in alloc; "new r1 {refs} {nums}\nstore r0 {field} r1");
@@ -81,7 +65,7 @@ impl Drawn {
 
     /// Makes an object that refers to another, and keeps the two in a field of the board.
     fn make_two(&mut self, alloc: Global, draws: &mut Draws) -> Result<(), AllocError> {
-        let (nums, field) = (draws.from(1, 3), draws.below(3));
+        let (nums, field) = (from(draws, 1, 3), draws.below(3));
         let lines = format!(in alloc;
             "new r2 0 {nums}\nnew r1 1 1\nstore r1 0 r2\nstore r0 {field} r1"
         );
@@ -90,7 +74,7 @@ impl Drawn {
 
     /// Makes objects in a block that is repeated. Each turn has a test, and the last test ends the block.
     fn make_many(&mut self, alloc: Global, draws: &mut Draws) -> Result<(), AllocError> {
-        let (turns, nums) = (draws.from(2, 3), draws.from(1, 4));
+        let (turns, nums) = (from(draws, 2, 3), from(draws, 1, 4));
         let lines = format!(in alloc; "repeat {turns}\nnew r3 0 {nums}\nend");
         let cost = turns.saturating_mul(8).saturating_add(1);
         self.add(lines, cost, turns.saturating_mul(nums.saturating_add(1)))
@@ -112,7 +96,7 @@ impl Drawn {
 
     /// Works, or accesses the board.
     fn work(&mut self, alloc: Global, draws: &mut Draws) -> Result<(), AllocError> {
-        let ticks = draws.from(1, 12);
+        let ticks = from(draws, 1, 12);
         match draws.below(3) {
             0 => self.add(format!(in alloc; "put r0 0 v0"), 3, 0),
             1 => self.add(format!(in alloc; "get v1 r0 1\nout v1"), 4, 0),
@@ -123,7 +107,7 @@ impl Drawn {
     /// A script of two to five parts.
     fn draw(alloc: Global, draws: &mut Draws) -> Result<Drawn, AllocError> {
         let mut drawn = Drawn::new(alloc);
-        for _ in 0..draws.from(2, 4) {
+        for _ in 0..from(draws, 2, 4) {
             match draws.below(6) {
                 0 | 1 => drawn.make(alloc, draws)?,
                 2 => drawn.make_two(alloc, draws)?,
@@ -148,13 +132,13 @@ struct Plan {
 fn arrivals(alloc: Global, draws: &mut Draws, gap: u64) -> Result<String, AllocError> {
     let first = draws.below(60);
     if draws.below(4) > 0 {
-        let every = draws.from(gap, gap / 4 + 1);
+        let every = from(draws, gap, gap / 4 + 1);
         return format!(in alloc; "first = {first}\nevery = {every}");
     }
     let mut text = format!(in alloc; "arrivals = [{first}")?;
     let mut at = first;
     for _ in 0..200 {
-        at = at.saturating_add(draws.from(gap, gap / 2 + 1));
+        at = at.saturating_add(from(draws, gap, gap / 2 + 1));
         if at < TICKS {
             text.push_str(format!(in alloc; ", {at}")?.as_str())?;
         }
@@ -182,7 +166,7 @@ impl Plan {
         } else {
             0
         };
-        let lag = draws.below(jitter.saturating_add(1));
+        let lag = from(draws, 0, jitter.saturating_add(1));
         let arrivals = arrivals(alloc, draws, period)?;
         let script = drawn.script.as_str();
         add(
@@ -196,7 +180,7 @@ impl Plan {
     /// Adds a low task.
     fn add_low(&mut self, alloc: Global, draws: &mut Draws, place: u64) -> Result<(), AllocError> {
         let drawn = Drawn::draw(alloc, draws)?;
-        let gap = draws.from(40, 400);
+        let gap = from(draws, 40, 400);
         let arrivals = arrivals(alloc, draws, gap)?;
         let script = drawn.script.as_str();
         add(
@@ -210,12 +194,12 @@ impl Plan {
     /// One to three high tasks that ask for three to eight tenths of the ticks in all, and up to two low ones.
     fn draw(alloc: Global, draws: &mut Draws) -> Result<Plan, AllocError> {
         let mut plan = Plan {
-            live: draws.from(10, 20).saturating_mul(2),
-            rate: draws.from(10, 8),
+            live: from(draws, 10, 20).saturating_mul(2),
+            rate: from(draws, 10, 8),
             tasks: String::new(alloc),
         };
-        let high = draws.from(1, 3);
-        let tenths = draws.from(3, 6);
+        let high = from(draws, 1, 3);
+        let tenths = from(draws, 3, 6);
         for place in 0..high {
             let part = tenths.checked_div(high).unwrap_or(1);
             plan.add_high(alloc, draws, place, part.max(1))?;

@@ -5,9 +5,9 @@ ghost use Rattle.hk_table.specs.Passes.{IsPassOf};
 
 use super::calls::{Answer, ask};
 use super::record::{Access, Record};
-use crate::draws::Draws;
+use crate::draws::draws_of_seat;
 use hk_table::{Heap, Pass, Steps};
-use hk_words::{Call, Reply, Shape};
+use hk_words::{Call, Draws, Reply, Shape};
 use std::alloc::{AllocError, Global};
 use std::sync::atomic::{AtomicU64, Ordering};
 use std::sync::ledger::Ledger;
@@ -65,7 +65,7 @@ impl Player {
             pass,
             records: Vec::new(alloc),
             seat,
-            draws: Draws::of_seat(seat),
+            draws: draws_of_seat(seat),
             names: [BOARD, 0, 0, 0, 0, 0, 0, 0],
             next: Next::Anything,
             drawn: 0,

@@ -1,21 +1,21 @@
 //! Numbers that are drawn one after another.
-
 ghost use Rattle.std.specs.Prelude.{◌≡◌, ◌<◌};
-ghost use Rattle.hk_gen.specs.Made.{next, draw};
+ghost use Rattle.hk_words.specs.Draws.{next, drawn, draw};
 
 /// A state from which numbers are drawn: a linear congruential generator modulo 2^64 (D. E. Knuth, MMIX).
 #[derive(Clone, Copy, Debug)]
-pub(crate) struct Draws {
-    pub(crate) state: u64,
+pub struct Draws {
+    pub state: u64,
 }
 
 impl Draws {
     /// The next number below a limit.
-    #[tactic(auto, unfolding(crate::specs::Made::next))]
-    pub(crate) fn below(&mut self, limit: u64) -> u64
+    #[tactic(auto, unfolding(crate::specs::Draws::next))]
+    pub fn below(&mut self, limit: u64) -> u64
         requires { 0 < limit }
         ensures state { self.new.state ≡ next self.old.state }
         ensures value { result ≡ draw limit self.old.state }
+        ensures given { result ≡ drawn limit self.new.state }
         ensures below { result < limit }
     {
         self.state = self

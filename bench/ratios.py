@@ -9,6 +9,7 @@ import sys
 WORK, TURNS = sys.argv[1], int(sys.argv[2])
 HENRI, HEAP_MIX = os.path.abspath("crates/henri/out/henri"), os.path.abspath("crates/heap_mix/out/heap_mix")
 PLAIN_SESSIONS, PLAIN_HEAP = f"{WORK}/sessions", f"{WORK}/heap"
+ONLY_TOML = f"{WORK}/crates/only_toml/out/only_toml"
 MOST_TICKS = 16_777_216
 
 
@@ -120,6 +121,14 @@ SHEETS = [
     ("31 lists of 4,096 arrivals, 0.9 MB", tasks(31, 4095, 1, "work 1", listed), 400_000),
 ]
 
+LONG_SCRIPT = "\n".join(["work 1"] * 1024)
+
+READ = [
+    ("the controller of `sheets/`", stored("controller")(12_000)),
+    ("31 lists of 4,096 arrivals, 0.9 MB", tasks(31, 4095, 1, "work 1", listed)(MOST_TICKS)),
+    ("31 scripts of 1,024 statements, 0.2 MB", tasks(31, 40_000, 1024, LONG_SCRIPT)(MOST_TICKS)),
+]
+
 print("| what | unit | instructions, proved | plain | ratio | ns, proved | plain | ratio |")
 print("|---|---|---|---|---|---|---|---|")
 
@@ -136,3 +145,14 @@ for name, sheet, ticks in SHEETS:
     few, many = ([([HENRI, "run"], sheet(most)), ([PLAIN_SESSIONS], sheet(most))] for most in (ticks, 2 * ticks))
     whole = ([HENRI, "run"], sheet(MOST_TICKS)), ([PLAIN_SESSIONS], sheet(MOST_TICKS)), MOST_TICKS
     row(name, "tick", few, many, ticks, whole)
+
+for name, sheet in READ:
+    if subprocess.run([HENRI, "check"], input=sheet, stdout=subprocess.DEVNULL).returncode != 0:
+        sys.exit(f"{name}: not admitted")
+    empty = [instructions([HENRI, "check"], b""), instructions([ONLY_TOML], b"")]
+    counted = [instructions(words, sheet) - least for words, least in zip(([HENRI, "check"], [ONLY_TOML]), empty)]
+    took = [seconds(words, sheet) for words in ([HENRI, "check"], [ONLY_TOML])]
+    print(
+        f"| `check` beside its TOML alone: {name} | byte | {counted[0] / len(sheet):.1f} | {counted[1] / len(sheet):.1f} "
+        f"| **{counted[0] / counted[1]:.2f}** | {took[0] * 1e9 / len(sheet):.1f} | {took[1] * 1e9 / len(sheet):.1f} | {took[0] / took[1]:.2f} |"
+    )

@@ -4,12 +4,12 @@ use Rattle.std.proofs.Math.Seq.{take-suc}
 use Rattle.std.proofs.lemmas.List.{take_all, map-append}
 use Rattle.std.specs.Io.KnownBytes.{Appends}
 use denote.Ref.{Bor}
-use Rattle.hk_io.specs.Bytes.{AppendsPrefix}
+use Rattle.hk_io.specs.Bytes.{texts, AppendsPrefix}
 use Rattle.hk_io.specs.Faults.{HasCause}
 use Rattle.hk_io.specs.Line.{with_word}
 use Rattle.hk_io.proofs.BytesLemmas.{AppendsFront-behind, AppendsPrefix-behind, AppendsPrefix-append}
 use Rattle.hk_front.specs.Text.{line}
-use Rattle.hk_front.specs.Words.{shown, added, Puts}
+use Rattle.hk_front.specs.Words.{added, Puts}
 
 -- first bytes were taken, and then some of more
 pub prefix_after : (a b c : Option (List ℕ)) (first second : List ℕ) → Appends a b first → AppendsPrefix b c second → AppendsPrefix a c (first ++ second)
@@ -32,7 +32,7 @@ with_word_is (first ∷ rest) word = refl
 
 -- the line of the first words
 abbrev pub first_words : List (Bor (List ℕ)) → ℕ → List ℕ
-first_words words n = fold with_word [] (shown (take n words))
+first_words words n = fold with_word [] (texts (take n words))
 
 fold_last : (start : List ℕ) (ws : List (List ℕ)) (w : List ℕ) → fold with_word start (ws ++ w ∷ []) ≡ with_word (fold with_word start ws) w
 fold_last start [] w = refl
@@ -61,18 +61,18 @@ words_more words n d within =
     let w = get_or words n d in
     let s : suc n ≡ n + 1 = omega arith in
     sym (with_word_is (first_words words n) w.now)
-    ∙ sym (fold_last [] (shown (take n words)) w.now)
-    ∙ ap (fold with_word []) (sym (map-append (λ v. v.now) (take n words) (w ∷ [])) ∙ ap shown (sym (take-suc words n d within)))
+    ∙ sym (fold_last [] (texts (take n words)) w.now)
+    ∙ ap (fold with_word []) (sym (map-append (λ v. v.now) (take n words) (w ∷ [])) ∙ ap texts (sym (take-suc words n d within)))
     ∙ ap (first_words words) s
 
 -- the line begins with its first words
-pub words_begin : (words : List (Bor (List ℕ))) (n : ℕ) → (rest : List ℕ) × (first_words words n ++ rest ≡ line (shown words))
+pub words_begin : (words : List (Bor (List ℕ))) (n : ℕ) → (rest : List ℕ) × (first_words words n ++ rest ≡ line (texts words))
 words_begin words n =
-    let before = shown (take n words) in
-    let behind = shown (drop n words) in
+    let before = texts (take n words) in
+    let behind = texts (drop n words) in
     let start = first_words words n in
-    let split : before ++ behind ≡ shown words = sym (map-append (λ w. w.now) (take n words) (drop n words)) ∙ ap shown (take-append-drop n words) in
-    let whole : start ++ more_words start behind ≡ fold with_word [] (shown words) =
+    let split : before ++ behind ≡ texts words = sym (map-append (λ w. w.now) (take n words) (drop n words)) ∙ ap texts (take-append-drop n words) in
+    let whole : start ++ more_words start behind ≡ fold with_word [] (texts words) =
     sym (fold_rest start behind) ∙ sym (fold_append [] before behind) ∙ ap (fold with_word []) split in (
       more_words start behind ++ 10 ∷ [],
       sym (append_assoc start (more_words start behind) (10 ∷ [])) ∙ ap (λ x. x ++ 10 ∷ []) whole,
@@ -80,7 +80,7 @@ words_begin words n =
 
 -- of the first words and one more some was taken
 pub word_prefix : (a b c : Option (List ℕ)) (words : List (Bor (List ℕ))) (n : ℕ) (d : Bor (List ℕ)) (begun : Bool) → n < length words
-    → begun ≡ has_begun (first_words words n) → Appends a b (first_words words n) → AppendsPrefix b c (added begun (get_or words n d).now) → AppendsPrefix a c (line (shown words))
+    → begun ≡ has_begun (first_words words n) → Appends a b (first_words words n) → AppendsPrefix b c (added begun (get_or words n d).now) → AppendsPrefix a c (line (texts words))
 word_prefix a b c words n d begun within is whole part =
     let rest = words_begin words (n + 1) in
     let q = subst (λ x. AppendsPrefix b c (added x (get_or words n d).now)) is part in
@@ -88,11 +88,11 @@ word_prefix a b c words n d begun within is whole part =
     subst (AppendsPrefix a c) rest.1 (AppendsPrefix-append a c (first_words words (n + 1)) rest.0 p)
 
 -- all words and the newline are the line
-pub line_last : (words : List (Bor (List ℕ))) (n : ℕ) → length words ≤ n → first_words words n ++ 10 ∷ [] ≡ line (shown words)
-line_last words n all = ap (λ ws. fold with_word [] (shown ws) ++ 10 ∷ []) (take_all n words all)
+pub line_last : (words : List (Bor (List ℕ))) (n : ℕ) → length words ≤ n → first_words words n ++ 10 ∷ [] ≡ line (texts words)
+line_last words n all = ap (λ ws. fold with_word [] (texts ws) ++ 10 ∷ []) (take_all n words all)
 
 pub last_prefix : (a b c : Option (List ℕ)) (words : List (Bor (List ℕ))) (n : ℕ) → length words ≤ n → Appends a b (first_words words n) → AppendsPrefix b c (10 ∷ [])
-    → AppendsPrefix a c (line (shown words))
+    → AppendsPrefix a c (line (texts words))
 last_prefix a b c words n all whole part = subst (AppendsPrefix a c) (line_last words n all) (prefix_after a b c (first_words words n) (10 ∷ []) whole part)
 
 -- the same, of an equal text

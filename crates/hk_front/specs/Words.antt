@@ -1,13 +1,8 @@
 -- Words that are handed over by reference.
-use Rattle.std.specs.Prelude.{ℕ, Bool, true, false, List, ◌∷◌, map, Option, Result, OnOk, OnErr}
+use Rattle.std.specs.Prelude.{ℕ, Bool, true, false, List, ◌∷◌, Option, Result, OnOk, OnErr}
 use Rattle.std.specs.Io.KnownBytes.{Appends}
-use denote.Ref.{Bor}
 use Rattle.hk_io.specs.Bytes.{AppendsPrefix}
 use Rattle.hk_io.specs.Faults.{HasCause}
-
--- the words behind some references
-abbrev pub shown : List (Bor (List ℕ)) → List (List ℕ)
-shown words = map (λ w. w.now) words
 
 -- what a word adds to a line: a space before it where the line has begun
 abbrev pub added : (begun : Bool) → List ℕ → List ℕ

@@ -1,11 +1,11 @@
 //! The lines for bytes that are no sheet. A key can be of any length, so that they are written word by word.
 ghost use Rattle.std.specs.Prelude.{◌≡◌, decimal, OnOk, OnErr};
 ghost use Rattle.std.specs.Io.KnownBytes.{Appends};
-ghost use Rattle.hk_io.specs.Bytes.{AppendsPrefix};
+ghost use Rattle.hk_io.specs.Bytes.{texts, AppendsPrefix};
 ghost use Rattle.hk_io.specs.Faults.{HasCause};
 ghost use Rattle.hk_front.specs.Text.{line};
 ghost use Rattle.hk_front.specs.Refusals.{geometry_word, fault_line, script_line, sheet_line};
-ghost use Rattle.hk_front.specs.Words.{shown, added, Puts};
+ghost use Rattle.hk_front.specs.Words.{added, Puts};
 
 use hk_io::{Failed, Line, Sink, put_all};
 use hk_script::ScriptError;
@@ -28,8 +28,8 @@ fn put_word<K: Sink>(sink: &mut K, begun: bool, word: &[u8]) -> Result<(), Faile
 
 /// Writes a line of these words, parted by single spaces.
 pub fn put_line<K: Sink>(sink: &mut K, words: &[&[u8]]) -> Result<(), Failed>
-    ensures ok { OnOk result (Appends (K.taken sink.old) (K.taken sink.new) (line (shown words.now))) }
-    ensures prefix { OnErr result (AppendsPrefix (K.taken sink.old) (K.taken sink.new) (line (shown words.now))) }
+    ensures ok { OnOk result (Appends (K.taken sink.old) (K.taken sink.new) (line (texts words.now))) }
+    ensures prefix { OnErr result (AppendsPrefix (K.taken sink.old) (K.taken sink.new) (line (texts words.now))) }
     ensures cause { HasCause (K.faults sink.old) (K.faults sink.new) result }
 {
     let mut begun = false;

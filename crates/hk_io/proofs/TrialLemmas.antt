@@ -3,7 +3,7 @@ use Rattle.std.proofs.Common.{◌≡◌, ℕ, suc, ◌+◌, ◌<◌, List, [], �
 use Rattle.std.proofs.Math.Seq.{take-suc}
 use Rattle.std.proofs.Math.ListN.{get_or}
 use Rattle.std.proofs.lemmas.List.{map-append}
-use Rattle.hk_io.specs.InMemory.{texts}
+use Rattle.hk_io.specs.Bytes.{texts}
 
 -- one more word
 pub one_more : (all : List (String Global)) (words : List (Bor (List ℕ))) (i : ℕ) (s : String Global) (d : Bor (List ℕ))

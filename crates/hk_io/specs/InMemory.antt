@@ -1,6 +1,5 @@
 -- Sources and sinks in memory.
-use Rattle.std.specs.Prelude.{ℕ, List, map}
-use denote.Ref.{Bor}
+use Rattle.std.specs.Prelude.{ℕ, List}
 
 -- A source in memory: the bytes still to come, the numbers of the calls that fail, the number of the next call,
 -- and the count of faults.
@@ -18,7 +17,3 @@ pub record Intake : Type 0 where
   pub fails : List ℕ
   pub calls : ℕ
   pub faults : ℕ
-
--- the texts behind some references
-abbrev pub texts : List (Bor (List ℕ)) → List (List ℕ)
-texts = map (λ text. text.now)

@@ -1,6 +1,6 @@
 //! What a program is given in a trial.
 ghost use Rattle.std.specs.Prelude.{◌≡◌, [], map, string_bytes, IfOk};
-ghost use Rattle.hk_io.specs.InMemory.{texts};
+ghost use Rattle.hk_io.specs.Bytes.{texts};
 
 use crate::{MemSink, MemSource};
 use std::alloc::{AllocError, Global};

@@ -1,7 +1,7 @@
 -- Each word is taken over.
 use Rattle.std.proofs.Common.{map, string_bytes, ◌∙◌, ap}
 use Rattle.std.proofs.lemmas.List.{take_all}
-use Rattle.hk_io.specs.InMemory.{texts}
+use Rattle.hk_io.specs.Bytes.{texts}
 use Rattle.hk_io.proofs.TrialLemmas.{one_more}
 use Rattle.hk_io.proofs.trial.owned_words.Goals as goal
 

@@ -35,6 +35,7 @@ pub mod Room
 pub mod RefusedPlain
 pub mod Turns
 pub mod Replied
+pub mod Rests
 pub mod Entries
 pub mod PromisedNumbers
 pub mod PromisedLists

@@ -28,3 +28,4 @@ pub mod Passing
 pub mod WholeRows
 pub mod LinkRows
 pub mod NewRows
+pub mod AtCall

@@ -145,7 +145,7 @@ impl Flight {
     }
 
     /// The place of a number field of the entered object.
-    fn number_cell(&self, field: u8) -> u32
+    pub(crate) fn number_cell(&self, field: u8) -> u32
         requires { number_cell self.now field < 2 ^ 32 }
         ensures { result ≡ number_cell self.now field }
     {
@@ -153,7 +153,7 @@ impl Flight {
     }
 
     /// The place of a reference field of the entered object.
-    fn reference_cell(&self, field: u8) -> u32
+    pub(crate) fn reference_cell(&self, field: u8) -> u32
         requires { reference_cell self.now field < 2 ^ 32 }
         ensures { result ≡ reference_cell self.now field }
     {
@@ -256,7 +256,7 @@ impl Flight {
     }
 
     /// The space, and the list, of the cycle in the W0 that the call has loaded or raised.
-    fn side(&self) -> u8
+    pub(crate) fn side(&self) -> u8
         ensures side { result ≡ table.side_of self.now }
         ensures small { result < 2 }
     {

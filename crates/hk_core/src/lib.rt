@@ -12,6 +12,9 @@ mod promise;
 mod spot;
 mod spotted;
 mod starting;
+mod stepping;
+mod stepping_links;
+mod stepping_new;
 #[cfg(test)]
 mod tests;
 mod took;

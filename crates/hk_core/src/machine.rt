@@ -20,9 +20,9 @@ ghost use Rattle.hk_core.specs.declared.outcome.Outcome.TheVariants.{Full};
 
 use crate::opening::{opening_begun, opening_flights, opening_row, opening_spot};
 use crate::starting::{flight_by, refusal_by};
-use crate::{Event, Fault, Flight, Spot, Step};
+use crate::{Event, Fault, Flight, Outcome, Spot, Step};
 use hk_model::Memory;
-use hk_words::{Call, Geometry, w0_cycle, w0_words};
+use hk_words::{Call, Geometry, Reply, w0_cycle, w0_words};
 use std::alloc::Global;
 use std::marker::Model;
 
@@ -234,16 +234,26 @@ impl Core {
     }
 
     /// Does the next place of the seat's call: its event on the row, and what the flight takes from it.
-    #[tactic(auto, unfolding(crate::specs::Step::next, crate::specs::Step::answer_by, crate::specs::Step::event_by, crate::specs::Step::found_by, crate::specs::State::flight_of))]
+    #[tactic(auto, unfolding(crate::specs::Step::next, crate::specs::Step::answer_by, crate::specs::Step::event_by, crate::specs::Step::event_of, crate::specs::Step::took_of, crate::specs::Step::step_of, crate::specs::Step::found_by, crate::specs::Step::event_at, crate::specs::Step::took_at, crate::specs::State::flight_of, crate::specs::Event::fired_if, crate::specs::Event::learnt))]
     pub fn advance(&mut self, seat: u8) -> Step
         requires seat { seat < tasks self.old.geometry }
         requires can_step { CanStep self.old seat }
         ensures next { self.new ≡ next self.old seat }
         ensures step { result ≡ answer_by self.old seat }
     {
-        let event = self.flights[seat as usize].event(&self.geometry);
-        let found = self.fire_if(event);
-        self.flights[seat as usize].took(&self.geometry, found)
+        match self.flights[seat as usize].call {
+            Call::Get { reg, field } => self.get_step(seat, reg, field),
+            Call::Put { reg, field, value } => self.put_step(seat, reg, field, value),
+            Call::Move { dest, from } => self.move_step(seat, dest, from),
+            Call::Clear { dest } => self.clear_step(seat, dest),
+            Call::Load { dest, reg, field } => self.load_step(seat, dest, reg, field),
+            Call::Store { reg, field, from } => self.store_step(seat, reg, field, from),
+            Call::New { dest, shape } => self.new_step(seat, dest, shape),
+            Call::Same { .. } | Call::IsNull { .. } if self.place(seat) == 0 => Step::Ended(
+                Outcome::Done(Reply::Unit),
+            ),
+            Call::Same { .. } | Call::IsNull { .. } => Step::Going,
+        }
     }
 
     /// Does the next place of a call in flight, whatever the call. The machine is lawful for each history for which it was,

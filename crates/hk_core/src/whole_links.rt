@@ -181,7 +181,7 @@ impl Core {
 
     /// Loads W0 where a reference isn't null. What it was, and 0 where it wasn't loaded.
     #[tactic(auto, unfolding(crate::specs::LinkRows::seen_row, crate::specs::LinkRows::seen_word, crate::specs::Step::load_w0, crate::specs::Event::fired_if, crate::specs::Event::learnt))]
-    fn cycle_for(&mut self, item: u64) -> u64
+    pub(crate) fn cycle_for(&mut self, item: u64) -> u64
         requires { CanFireIf self.old.row (cycle_event self.old.geometry item) }
         ensures row { self.new ≡ record self.old { row = seen_row self.old.geometry self.old.row item } }
         ensures word { result ≡ seen_word self.old.geometry self.old.row item }
@@ -195,7 +195,7 @@ impl Core {
 }
 
 /// The index of the word at an offset of the space of a cycle.
-fn link_at(g: &Geometry, cycle: u32, offset: u32) -> u32
+pub(crate) fn link_at(g: &Geometry, cycle: u32, offset: u32) -> u32
     requires { offset < g.now.live }
     ensures { result ≡ space_at g.now (place_at g.now (cycle % 2) offset) }
 {

@@ -71,7 +71,7 @@ impl Core {
 
     /// Loads W0.
     #[tactic(auto, unfolding(crate::specs::NewRows::asked_row, crate::specs::NewRows::asked_word))]
-    fn ask(&mut self) -> u64
+    pub(crate) fn ask(&mut self) -> u64
         ensures row { self.new ≡ record self.old { row = asked_row self.old.geometry self.old.row } }
         ensures word { result ≡ asked_word self.old.geometry self.old.row }
     {

@@ -1,14 +1,13 @@
 //! The step of a call that goes through one object, or through none: each function does the event of one place.
 ghost use Rattle.std.specs.Prelude.{◌≡◌, ◌<◌};
 ghost use Rattle.hk_words.specs.Geometry.{tasks};
+ghost use Rattle.hk_words.specs.Layout.{header_place};
 ghost use Rattle.hk_words.specs.declared.call.Call.TheVariants.{Get, Put, Move, Clear};
-ghost use Rattle.hk_core.specs.Event.{CanFireIf, fired_if, learnt};
 ghost use Rattle.hk_core.specs.State.{flight_of};
 ghost use Rattle.hk_core.specs.Step as table;
 ghost use Rattle.hk_core.specs.Fits.{NamesNumber};
-ghost use Rattle.hk_core.specs.AtCall.{next_in, answer_in, FitsIn, FiresIn, moved_on, ended};
+ghost use Rattle.hk_core.specs.AtCall.{next_in, answer_in, FitsIn, FiresIn, passed, Passes, inside, to_place, to_idle, writes_item, moved_on, ended};
 ghost use Rattle.hk_core.specs.declared.outcome.Step.TheVariants.{Going, Ended};
-ghost use Rattle.hk_core.specs.declared.outcome.Outcome.TheVariants.{Done};
 
 use crate::{Core, Event, Flight, Outcome, Step};
 use hk_words::{ENTER, LEAVE, Reply, header_place, reference_number};
@@ -24,13 +23,7 @@ impl Core {
         ensures step { result ≡ answer_in self.old seat (Get reg field) }
     {
         match self.place(seat) {
-            1 => {
-                let header = self.enter_object(seat);
-                let flight = &mut self.flights[seat as usize];
-                flight.at = header_place(header);
-                flight.place = 2;
-                Step::Going
-            },
+            1 => self.enter_object(seat, 2),
             2 => {
                 let cell = self.space_at(self.flights[seat as usize].number_cell(field));
                 let number = self.fire(Event::Load(cell));
@@ -41,8 +34,7 @@ impl Core {
             },
             3 => {
                 let number = self.flights[seat as usize].item;
-                self.leave_object(seat);
-                self.end(seat, Outcome::Done(Reply::Num(number)))
+                self.end_inside(seat, Outcome::Done(Reply::Num(number)))
             },
             _ => Step::Going,
         }
@@ -58,22 +50,13 @@ impl Core {
         ensures step { result ≡ answer_in self.old seat (Put reg field value) }
     {
         match self.place(seat) {
-            1 => {
-                let header = self.enter_object(seat);
-                let flight = &mut self.flights[seat as usize];
-                flight.at = header_place(header);
-                flight.place = 2;
-                Step::Going
-            },
+            1 => self.enter_object(seat, 2),
             2 => {
                 let cell = self.space_at(self.flights[seat as usize].number_cell(field));
                 self.fire(Event::Write(cell, value));
                 self.move_on(seat, 3)
             },
-            3 => {
-                self.leave_object(seat);
-                self.end(seat, Outcome::Done(Reply::Unit))
-            },
+            3 => self.end_inside(seat, Outcome::Done(Reply::Unit)),
             _ => Step::Going,
         }
     }
@@ -89,18 +72,9 @@ impl Core {
         ensures step { result ≡ answer_in self.old seat (Move dest from) }
     {
         match self.place(seat) {
-            1 => {
-                self.enter_frame(seat);
-                self.move_on(seat, 2)
-            },
-            2 => {
-                self.write_item(seat, dest);
-                self.move_on(seat, 3)
-            },
-            3 => {
-                self.leave_frame(seat);
-                self.end(seat, Outcome::Done(Reply::Unit))
-            },
+            1 => self.enter_frame(seat, 2),
+            2 => self.write_item(seat, dest, 3),
+            3 => self.end_framed(seat, Outcome::Done(Reply::Unit)),
             _ => Step::Going,
         }
     }
@@ -125,68 +99,94 @@ impl Core {
         }
     }
 
-    /// Enters the object of the seat's call, and answers what its header was.
+    /// Enters the object of the seat's call, which goes on to a place inside it.
     #[tactic(auto, unfolding(crate::specs::Step::enter_object, crate::specs::State::flight_of, crate::specs::Event::fired_if, crate::specs::Event::learnt))]
-    pub(crate) fn enter_object(&mut self, seat: u8) -> u64
+    pub(crate) fn enter_object(&mut self, seat: u8, place: u8) -> Step
         requires seat { seat < tasks self.old.geometry }
         requires number { NamesNumber self.old.geometry (flight_of self.old.flights seat).entered }
-        requires fires { CanFireIf self.old.row (table.enter_object self.old.geometry (flight_of self.old.flights seat)) }
-        ensures row { self.new ≡ record self.old { row = fired_if self.old.row (table.enter_object self.old.geometry (flight_of self.old.flights seat)) } }
-        ensures header { result ≡ learnt self.old.row (table.enter_object self.old.geometry (flight_of self.old.flights seat)) }
+        requires fires { Passes self.old seat table.enter_object }
+        ensures next { self.new ≡ passed self.old seat table.enter_object (inside place) }
+        ensures step { result ≡ Going }
     {
         let head = self.header_at(reference_number(self.flights[seat as usize].entered));
-        self.fire(Event::Add(head, ENTER))
+        let header = self.fire(Event::Add(head, ENTER));
+        let flight = &mut self.flights[seat as usize];
+        flight.at = header_place(header);
+        flight.place = place;
+        Step::Going
     }
 
-    /// Leaves the object of the seat's call.
+    /// Leaves the object of the seat's call, which goes on to a place.
     #[tactic(auto, unfolding(crate::specs::Step::leave_object, crate::specs::State::flight_of, crate::specs::Event::fired_if))]
-    pub(crate) fn leave_object(&mut self, seat: u8)
+    pub(crate) fn leave_object(&mut self, seat: u8, place: u8) -> Step
         requires seat { seat < tasks self.old.geometry }
         requires number { NamesNumber self.old.geometry (flight_of self.old.flights seat).entered }
-        requires fires { CanFireIf self.old.row (table.leave_object self.old.geometry (flight_of self.old.flights seat)) }
-        ensures { self.new ≡ record self.old { row = fired_if self.old.row (table.leave_object self.old.geometry (flight_of self.old.flights seat)) } }
+        requires fires { Passes self.old seat table.leave_object }
+        ensures next { self.new ≡ passed self.old seat table.leave_object (to_place place) }
+        ensures step { result ≡ Going }
     {
         let head = self.header_at(reference_number(self.flights[seat as usize].entered));
         self.fire(Event::Sub(head, LEAVE));
+        self.move_on(seat, place)
     }
 
-    /// Enters the frame of the seat's call.
+    /// Leaves the object of the seat's call, which ends so.
+    #[tactic(auto, unfolding(crate::specs::Step::leave_object, crate::specs::State::flight_of, crate::specs::Event::fired_if))]
+    pub(crate) fn end_inside(&mut self, seat: u8, outcome: Outcome) -> Step
+        requires seat { seat < tasks self.old.geometry }
+        requires number { NamesNumber self.old.geometry (flight_of self.old.flights seat).entered }
+        requires fires { Passes self.old seat table.leave_object }
+        ensures next { self.new ≡ passed self.old seat table.leave_object to_idle }
+        ensures step { result ≡ Ended outcome }
+    {
+        let head = self.header_at(reference_number(self.flights[seat as usize].entered));
+        self.fire(Event::Sub(head, LEAVE));
+        self.end(seat, outcome)
+    }
+
+    /// Enters the frame of the seat's call, which goes on to a place.
     #[tactic(auto, unfolding(crate::specs::Step::enter_frame, crate::specs::State::flight_of, crate::specs::Event::fired_if))]
-    pub(crate) fn enter_frame(&mut self, seat: u8)
+    pub(crate) fn enter_frame(&mut self, seat: u8, place: u8) -> Step
         requires seat { seat < tasks self.old.geometry }
         requires own { (flight_of self.old.flights seat).seat < tasks self.old.geometry }
-        requires fires { CanFireIf self.old.row (table.enter_frame self.old.geometry (flight_of self.old.flights seat)) }
-        ensures { self.new ≡ record self.old { row = fired_if self.old.row (table.enter_frame self.old.geometry (flight_of self.old.flights seat)) } }
+        requires fires { Passes self.old seat table.enter_frame }
+        ensures next { self.new ≡ passed self.old seat table.enter_frame (to_place place) }
+        ensures step { result ≡ Going }
     {
         let frame = self.frame_at(self.flights[seat as usize].seat);
         self.fire(Event::Add(frame, ENTER));
+        self.move_on(seat, place)
     }
 
-    /// Leaves the frame of the seat's call.
+    /// Leaves the frame of the seat's call, which ends so.
     #[tactic(auto, unfolding(crate::specs::Step::leave_frame, crate::specs::State::flight_of, crate::specs::Event::fired_if))]
-    pub(crate) fn leave_frame(&mut self, seat: u8)
+    pub(crate) fn end_framed(&mut self, seat: u8, outcome: Outcome) -> Step
         requires seat { seat < tasks self.old.geometry }
         requires own { (flight_of self.old.flights seat).seat < tasks self.old.geometry }
-        requires fires { CanFireIf self.old.row (table.leave_frame self.old.geometry (flight_of self.old.flights seat)) }
-        ensures { self.new ≡ record self.old { row = fired_if self.old.row (table.leave_frame self.old.geometry (flight_of self.old.flights seat)) } }
+        requires fires { Passes self.old seat table.leave_frame }
+        ensures next { self.new ≡ passed self.old seat table.leave_frame to_idle }
+        ensures step { result ≡ Ended outcome }
     {
         let frame = self.frame_at(self.flights[seat as usize].seat);
         self.fire(Event::Sub(frame, LEAVE));
+        self.end(seat, outcome)
     }
 
-    /// Writes the reference that the seat's call holds to a register.
+    /// Writes the reference that the seat's call holds to a register. The call goes on to a place.
     #[tactic(auto, unfolding(crate::specs::Step::write_register, crate::specs::State::flight_of, crate::specs::Event::fired_if))]
-    pub(crate) fn write_item(&mut self, seat: u8, dest: u8)
+    pub(crate) fn write_item(&mut self, seat: u8, dest: u8, place: u8) -> Step
         requires seat { seat < tasks self.old.geometry }
         requires own { (flight_of self.old.flights seat).seat < tasks self.old.geometry }
         requires dest { dest < self.old.geometry.registers }
-        requires fires { CanFireIf self.old.row (table.write_register self.old.geometry (flight_of self.old.flights seat) dest (flight_of self.old.flights seat).item) }
-        ensures { self.new ≡ record self.old { row = fired_if self.old.row (table.write_register self.old.geometry (flight_of self.old.flights seat) dest (flight_of self.old.flights seat).item) } }
+        requires fires { Passes self.old seat (writes_item dest) }
+        ensures next { self.new ≡ passed self.old seat (writes_item dest) (to_place place) }
+        ensures step { result ≡ Going }
     {
         let flight = &self.flights[seat as usize];
         let item = flight.item;
         let register = self.register_at(flight.seat, dest);
         self.fire(Event::Write(register, item));
+        self.move_on(seat, place)
     }
 
     /// The next place of the seat's call.

@@ -2,15 +2,17 @@
 ghost use Rattle.std.specs.Prelude.{◌≡◌, ◌≢◌, ◌<◌};
 ghost use Rattle.hk_words.specs.Geometry.{tasks};
 ghost use Rattle.hk_words.specs.declared.call.Call.TheVariants.{Load, Store};
-ghost use Rattle.hk_core.specs.Event.{CanFireIf, fired_if, learnt};
+ghost use Rattle.hk_core.specs.Event.{fired_if, learnt};
 ghost use Rattle.hk_core.specs.State.{flight_of};
 ghost use Rattle.hk_core.specs.Step as table;
+ghost use Rattle.hk_core.specs.Step.{claims};
 ghost use Rattle.hk_core.specs.Fits.{NamesNumber};
-ghost use Rattle.hk_core.specs.AtCall.{next_in, answer_in, FitsIn, FiresIn};
+ghost use Rattle.hk_core.specs.AtCall.{next_in, answer_in, FitsIn, FiresIn, passed, Passes, to_place, claiming, reserving};
+ghost use Rattle.hk_core.specs.declared.outcome.Step.TheVariants.{Going};
 
 use crate::whole_links::link_at;
 use crate::{Core, Event, Outcome, Step, reference_size, reserved_fits};
-use hk_words::{Reply, header_place, reference_number, w0_cycle};
+use hk_words::{Reply, reference_number, w0_cycle};
 
 impl Core {
     /// Does the next place of a Load.
@@ -24,17 +26,8 @@ impl Core {
         ensures step { result ≡ answer_in self.old seat (Load dest reg field) }
     {
         match self.place(seat) {
-            1 => {
-                self.enter_frame(seat);
-                self.move_on(seat, 2)
-            },
-            2 => {
-                let header = self.enter_object(seat);
-                let flight = &mut self.flights[seat as usize];
-                flight.at = header_place(header);
-                flight.place = 3;
-                Step::Going
-            },
+            1 => self.enter_frame(seat, 2),
+            2 => self.enter_object(seat, 3),
             3 => {
                 let word = self.ask();
                 let flight = &mut self.flights[seat as usize];
@@ -50,36 +43,12 @@ impl Core {
                 flight.place = 5;
                 Step::Going
             },
-            5 => {
-                let mark = self.claim(seat);
-                let flight = &mut self.flights[seat as usize];
-                flight.claimer = flight.claims(mark);
-                flight.place = 6;
-                Step::Going
-            },
-            6 => {
-                let offset = self.reserve(seat);
-                let flight = &mut self.flights[seat as usize];
-                flight.offset = offset;
-                flight.place = 7;
-                Step::Going
-            },
-            7 => {
-                self.link(seat);
-                self.move_on(seat, 8)
-            },
-            8 => {
-                self.write_item(seat, dest);
-                self.move_on(seat, 9)
-            },
-            9 => {
-                self.leave_object(seat);
-                self.move_on(seat, 10)
-            },
-            10 => {
-                self.leave_frame(seat);
-                self.end(seat, Outcome::Done(Reply::Unit))
-            },
+            5 => self.claim(seat, 6),
+            6 => self.reserve(seat, 7),
+            7 => self.link(seat, 8),
+            8 => self.write_item(seat, dest, 9),
+            9 => self.leave_object(seat, 10),
+            10 => self.end_framed(seat, Outcome::Done(Reply::Unit)),
             _ => Step::Going,
         }
     }
@@ -94,13 +63,7 @@ impl Core {
         ensures step { result ≡ answer_in self.old seat (Store reg field from) }
     {
         match self.place(seat) {
-            1 => {
-                let header = self.enter_object(seat);
-                let flight = &mut self.flights[seat as usize];
-                flight.at = header_place(header);
-                flight.place = 2;
-                Step::Going
-            },
+            1 => self.enter_object(seat, 2),
             2 => {
                 let item = self.flights[seat as usize].item;
                 let word = self.cycle_for(item);
@@ -109,24 +72,9 @@ impl Core {
                 flight.place = 3;
                 Step::Going
             },
-            3 => {
-                let mark = self.claim(seat);
-                let flight = &mut self.flights[seat as usize];
-                flight.claimer = flight.claims(mark);
-                flight.place = 4;
-                Step::Going
-            },
-            4 => {
-                let offset = self.reserve(seat);
-                let flight = &mut self.flights[seat as usize];
-                flight.offset = offset;
-                flight.place = 5;
-                Step::Going
-            },
-            5 => {
-                self.link(seat);
-                self.move_on(seat, 6)
-            },
+            3 => self.claim(seat, 4),
+            4 => self.reserve(seat, 5),
+            5 => self.link(seat, 6),
             6 => {
                 let flight = &self.flights[seat as usize];
                 let item = flight.item;
@@ -134,39 +82,69 @@ impl Core {
                 self.fire(Event::Write(cell, item));
                 self.move_on(seat, 7)
             },
-            7 => {
-                self.leave_object(seat);
-                self.end(seat, Outcome::Done(Reply::Unit))
-            },
+            7 => self.end_inside(seat, Outcome::Done(Reply::Unit)),
             _ => Step::Going,
         }
     }
 
-    /// Claims the object that the seat's call holds, unless it holds null. What its mark was, and 0 where it holds null.
-    #[tactic(auto, unfolding(crate::specs::Step::claim, crate::specs::State::flight_of, crate::specs::Event::fired_if, crate::specs::Event::learnt))]
-    fn claim(&mut self, seat: u8) -> u64
+    /// Claims the object that the seat's call holds, unless it holds null. The call goes on to a place.
+    #[tactic(auto, unfolding(crate::specs::State::flight_of))]
+    fn claim(&mut self, seat: u8, place: u8) -> Step
         requires seat { seat < tasks self.old.geometry }
         requires number { (flight_of self.old.flights seat).item ≢ 0 → NamesNumber self.old.geometry (flight_of self.old.flights seat).item }
-        requires fires { CanFireIf self.old.row (table.claim self.old.geometry (flight_of self.old.flights seat)) }
+        requires fires { Passes self.old seat table.claim }
+        ensures next { self.new ≡ passed self.old seat table.claim (claiming place) }
+        ensures step { result ≡ Going }
+    {
+        let claimer = self.claim_first(seat);
+        let flight = &mut self.flights[seat as usize];
+        flight.claimer = claimer;
+        flight.place = place;
+        Step::Going
+    }
+
+    /// Claims the object that the seat's call holds, unless it holds null. It is the first to claim it.
+    #[tactic(auto, unfolding(crate::specs::Step::claim, crate::specs::State::flight_of, crate::specs::Event::fired_if, crate::specs::Event::learnt))]
+    fn claim_first(&mut self, seat: u8) -> bool
+        requires seat { seat < tasks self.old.geometry }
+        requires number { (flight_of self.old.flights seat).item ≢ 0 → NamesNumber self.old.geometry (flight_of self.old.flights seat).item }
+        requires fires { Passes self.old seat table.claim }
         ensures row { self.new ≡ record self.old { row = fired_if self.old.row (table.claim self.old.geometry (flight_of self.old.flights seat)) } }
-        ensures mark { result ≡ learnt self.old.row (table.claim self.old.geometry (flight_of self.old.flights seat)) }
+        ensures first { result ≡ claims (flight_of self.old.flights seat) (learnt self.old.row (table.claim self.old.geometry (flight_of self.old.flights seat))) }
     {
         let flight = &self.flights[seat as usize];
         let item = flight.item;
         if item == 0 {
-            return 0;
+            return false;
         }
-        let cycle = w0_cycle(flight.word);
-        let mark = self.mark_at(reference_number(item));
-        self.fire(Event::Max(mark, u64::from(cycle)))
+        let cycle = u64::from(w0_cycle(flight.word));
+        let word = self.mark_at(reference_number(item));
+        let mark = self.fire(Event::Max(word, cycle));
+        mark < cycle
+    }
+
+    /// Reserves a place for the object that the seat's call holds, where it was the first to claim it. The call goes on to a
+    /// place.
+    #[tactic(auto, unfolding(crate::specs::State::flight_of))]
+    fn reserve(&mut self, seat: u8, place: u8) -> Step
+        requires seat { seat < tasks self.old.geometry }
+        requires fires { Passes self.old seat table.reserve }
+        ensures next { self.new ≡ passed self.old seat table.reserve (reserving place) }
+        ensures step { result ≡ Going }
+    {
+        let offset = self.reserve_offset(seat);
+        let flight = &mut self.flights[seat as usize];
+        flight.offset = offset;
+        flight.place = place;
+        Step::Going
     }
 
     /// Reserves a place for the object that the seat's call holds, where it was the first to claim it. The offset of the place,
     /// and 0 where it wasn't the first.
     #[tactic(auto, unfolding(crate::specs::Step::reserve, crate::specs::State::flight_of, crate::specs::Event::fired_if, crate::specs::Event::learnt))]
-    fn reserve(&mut self, seat: u8) -> u64
+    fn reserve_offset(&mut self, seat: u8) -> u64
         requires seat { seat < tasks self.old.geometry }
-        requires fires { CanFireIf self.old.row (table.reserve self.old.geometry (flight_of self.old.flights seat)) }
+        requires fires { Passes self.old seat table.reserve }
         ensures row { self.new ≡ record self.old { row = fired_if self.old.row (table.reserve self.old.geometry (flight_of self.old.flights seat)) } }
         ensures offset { result ≡ learnt self.old.row (table.reserve self.old.geometry (flight_of self.old.flights seat)) }
     {
@@ -179,20 +157,23 @@ impl Core {
         self.fire(Event::Add(reserved, size))
     }
 
-    /// Links the object that the seat's call holds, where a place was reserved for it and fits.
+    /// Links the object that the seat's call holds, where a place was reserved for it and fits. The call goes on to a place.
     #[tactic(auto, unfolding(crate::specs::Step::link, crate::specs::State::flight_of, crate::specs::Event::fired_if))]
-    fn link(&mut self, seat: u8)
+    fn link(&mut self, seat: u8, place: u8) -> Step
         requires seat { seat < tasks self.old.geometry }
-        requires fires { CanFireIf self.old.row (table.link self.old.geometry (flight_of self.old.flights seat)) }
-        ensures { self.new ≡ record self.old { row = fired_if self.old.row (table.link self.old.geometry (flight_of self.old.flights seat)) } }
+        requires fires { Passes self.old seat table.link }
+        ensures next { self.new ≡ passed self.old seat table.link (to_place place) }
+        ensures step { result ≡ Going }
     {
         let g = self.geometry;
         let flight = &self.flights[seat as usize];
         let item = flight.item;
         let offset = flight.offset;
-        if flight.claimer && reserved_fits(&g, offset, item) {
-            let word = link_at(&g, w0_cycle(flight.word), offset as u32);
-            self.fire(Event::Write(word, item));
+        if !flight.claimer || !reserved_fits(&g, offset, item) {
+            return self.move_on(seat, place);
         }
+        let word = link_at(&g, w0_cycle(flight.word), offset as u32);
+        self.fire(Event::Write(word, item));
+        self.move_on(seat, place)
     }
 }

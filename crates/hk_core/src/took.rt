@@ -230,7 +230,7 @@ impl Flight {
     }
 
     /// The call is the claimer: its claim found a mark below its cycle.
-    pub(crate) fn claims(&self, old: u64) -> bool
+    fn claims(&self, old: u64) -> bool
         ensures { result ≡ claims self.now old }
     {
         self.item != 0 && old < u64::from(w0_cycle(self.word))

@@ -1,5 +1,5 @@
 -- What is answered about the bytes, from what is known of the document.
-use Rattle.std.proofs.Common.{◌≡◌, ℕ, ◌+◌, nat_lt, Bool, true, false, not, ◌&&◌, List, [], ◌∷◌, ◌++◌, map, codes, Option, Some, None, Result, Ok, Err, IfOk, option_map, if◌then◌else◌, refl, sym, ◌∙◌}
+use Rattle.std.proofs.Common.{◌≡◌, ℕ, ◌+◌, nat_lt, Bool, true, false, not, ◌&&◌, List, [], ◌∷◌, ◌++◌, map, codes, Option, Some, None, Result, Ok, Err, IfOk, option_map, if◌then◌else◌, refl}
 use Rattle.std.specs.List.{AllByRecursion}
 use Rattle.toml.specs.Data.{Data, Members, get_member}
 use Rattle.hk_words.specs.declared.geometry.GeoError.{GeoError}
@@ -16,12 +16,12 @@ use Rattle.hk_sheet.specs.declared.error.SheetError.TheVariants as error
 use Rattle.hk_sheet.specs.declared.sheet.HeapKeys.{HeapKeys}
 use Rattle.hk_sheet.specs.declared.sheet.Sheet.{Sheet}
 use Rattle.hk_sheet.specs.Answers.{IsDocument, IsRead, Answers}
-use Rattle.hk_sheet.specs.Code.{or_else, Gives}
-use Rattle.hk_sheet.specs.Rules.{Wrong, no_such_kind, out_of_range, Rule, wrong_in, number_at, is_second, top_rules, heap_rules, high_rules, low_rules}
+use Rattle.hk_sheet.specs.Code.{Gives}
+use Rattle.hk_sheet.specs.Rules.{Wrong, no_such_kind, out_of_range, Rule, wrong_in, number_at, is_second, keys_in, top_rules, heap_rules, task_rules}
 use Rattle.hk_sheet.specs.Reading.{text_at, table_at, highs_of, lows_of, arrivals_in, heap_of, sheet_in}
-use Rattle.hk_sheet.specs.Faults.{first_of, counted, unknown_keys, least, shown, unknown_fault, error_of, fault_of_value, fault_of_key, fault_of_table, faults_of_tasks, task_path, is_name, is_among, faults_of_names, names_of, faults_of_ticks, fault_of_arrivals, fault_of_high_arrivals, fault_of_low_arrivals, fault_of_text, fault_of_script, sizes_of, fault_of_geometry, fault_of, sheet_of}
+use Rattle.hk_sheet.specs.Faults.{or_else, first_of, counted, unknown_keys, least, shown, unknown_fault, error_of, fault_of_value, fault_of_key, fault_of_keys, fault_of_table, faults_of_tasks, task_path, is_name, is_among, faults_of_names, names_of, faults_of_ticks, fault_of_arrivals, fault_of_high_arrivals, fault_of_low_arrivals, fault_of_text, fault_of_script, sizes_of, fault_of_geometry, tasks_of, fault_of_tables, fault_of_contents, fault_of, sheet_of}
 use Rattle.hk_sheet.specs.Valid.{IsSheet}
-use Rattle.hk_sheet.proofs.FaultOrder.{high_faults, low_faults, fault_of-in_order}
+use Rattle.hk_sheet.proofs.FaultOrder.{all_append}
 use Rattle.hk_sheet.proofs.Validity.{sheet_right}
 
 -- a fault of a document isn't `Text`
@@ -32,10 +32,12 @@ neither_text : (a b : Option SheetError) → NotText a → NotText b → NotText
 neither_text None b here there = there
 neither_text (Some fault) b here there = here
 
+none_not : NotText None
+none_not is = cc
+
 first_not : (faults : List (Option SheetError)) → AllByRecursion NotText faults → NotText (first_of faults)
-first_not [] all = λ is. cc
-first_not (None ∷ rest) all = first_not rest all.1
-first_not (Some fault ∷ rest) all = all.0
+first_not [] all = none_not
+first_not (fault ∷ rest) all = neither_text fault (first_of rest) all.0 (first_not rest all.1)
 
 each_not : {X : Type 0} (h : X → Option SheetError) → ((x : X) → NotText (h x)) → (xs : List X) → AllByRecursion NotText (map h xs)
 each_not h never [] = tt
@@ -61,8 +63,8 @@ value_not path rule (Some value) = wrong_not path (wrong_in rule.kind value)
 table_not : (path : List ℕ) (rules : List Rule) (entries : Members) → NotText (fault_of_table path rules entries)
 unfolding fault_of_table unknown_fault
 table_not path rules entries =
-    first_not (unknown_fault path rules entries ∷ map (fault_of_key path entries) rules)
-    (unknown_not path (least (unknown_keys rules entries)), each_not (fault_of_key path entries) (λ rule. value_not (path ++ rule.key) rule (get_member rule.key entries)) rules)
+    neither_text (unknown_fault path (keys_in rules) entries) (fault_of_keys path entries rules) (unknown_not path (least (unknown_keys (keys_in rules) entries)))
+    (first_not _ (each_not (fault_of_key path entries) (λ rule. value_not (path ++ rule.key) rule (get_member rule.key entries)) rules))
 
 tasks_not : (kind : List ℕ) (rules : Members → List Rule) (index : ℕ) (tasks : List Members) → AllByRecursion NotText (faults_of_tasks kind rules index tasks)
 tasks_not kind rules index [] = tt
@@ -107,19 +109,26 @@ unfolding fault_of_geometry
 geometry_not sheet = sizes_not (first_error sheet.heap.fields (sizes_of sheet))
 
 document_not : (document : Members) → NotText (fault_of document)
-document_not document is =
-    let all = neither_text (fault_of_table [] top_rules document) _ (table_not [] top_rules document)
-    (neither_text (fault_of_table (codes "heap.") (heap_rules (is_second document)) (table_at (codes "heap") document)) _ (table_not (codes "heap.") (heap_rules (is_second document)) (table_at (codes "heap") document))
-    (neither_text (high_faults document) _ (first_not _ (tasks_not (codes "high") (high_rules (number_at (codes "ticks") document)) 0 (highs_of document)))
-    (neither_text (low_faults document) _ (first_not _ (tasks_not (codes "low") (low_rules (number_at (codes "ticks") document)) 0 (lows_of document)))
+unfolding fault_of fault_of_tables fault_of_contents
+document_not document =
+    let of_high = highs_of document in
+    let of_low = lows_of document in
+    let high_rules = task_rules true (number_at (codes "ticks") document) in
+    let low_rules = task_rules false (number_at (codes "ticks") document) in
+    let heap_of_table = fault_of_table (codes "heap.") (heap_rules (is_second document)) (table_at (codes "heap") document) in
+    let script = fault_of_script (heap_of document) in
+    let high_gaps = each_not fault_of_high_arrivals (λ entries. arrivals_not (text_at (codes "name") entries) (number_at (codes "period") entries) (arrivals_in entries)) of_high in
+    let low_gaps = each_not fault_of_low_arrivals (λ entries. arrivals_not (text_at (codes "name") entries) 1 (arrivals_in entries)) of_low in
+    let gaps = map fault_of_high_arrivals of_high ++ map fault_of_low_arrivals of_low in
+    neither_text (fault_of_tables document) (fault_of_contents document)
+    (neither_text (fault_of_table [] top_rules document) _ (table_not [] top_rules document)
+    (neither_text heap_of_table _ (table_not (codes "heap.") (heap_rules (is_second document)) (table_at (codes "heap") document))
+    (neither_text (first_of (faults_of_tasks (codes "high") high_rules 0 of_high)) _ (first_not _ (tasks_not (codes "high") high_rules 0 of_high))
+    (neither_text (first_of (faults_of_tasks (codes "low") low_rules 0 of_low)) None (first_not _ (tasks_not (codes "low") low_rules 0 of_low)) none_not))))
     (neither_text (first_of (faults_of_names [] 0 (names_of document))) _ (first_not _ (names_not [] 0 (names_of document)))
-    (neither_text (first_of (map fault_of_high_arrivals (highs_of document))) _ (first_not _ (each_not fault_of_high_arrivals (λ entries. arrivals_not (text_at (codes "name") entries) (number_at (codes "period") entries) (arrivals_in entries)) (highs_of document)))
-    (neither_text (first_of (map fault_of_low_arrivals (lows_of document))) _ (first_not _ (each_not fault_of_low_arrivals (λ entries. arrivals_not (text_at (codes "name") entries) 1 (arrivals_in entries)) (lows_of document)))
-    (neither_text (first_of (map (fault_of_script (heap_of document)) (highs_of document))) _ (first_not _ (each_not (fault_of_script (heap_of document)) (script_not (heap_of document)) (highs_of document)))
-    (neither_text (first_of (map (fault_of_script (heap_of document)) (lows_of document))) _ (first_not _ (each_not (fault_of_script (heap_of document)) (script_not (heap_of document)) (lows_of document)))
-    (geometry_not (sheet_in document))))))))))
-    in
-    all (sym (fault_of-in_order document) ∙ is)
+    (neither_text (first_of gaps) _ (first_not gaps (all_append NotText _ _ high_gaps low_gaps))
+    (neither_text (first_of (map script (tasks_of document))) _ (first_not _ (each_not script (script_not (heap_of document)) (tasks_of document)))
+    (neither_text (fault_of_geometry (sheet_in document)) None (geometry_not (sheet_in document)) none_not))))
 
 -- what the sheet of a document is
 found : (document : Members) (sheet : Sheet) → fault_of document ≡ None → sheet ≡ sheet_in document → sheet_of document ≡ Ok sheet

@@ -1,5 +1,5 @@
 -- Laws of the values of a document, and of what stands for them in the code.
-use Rattle.std.proofs.Common.{◌≡◌, ℕ, ◌+◌, ◌<◌, List, [], ◌∷◌, ◌++◌, map, take, drop, is_some, Bool, length, get_or, append_assoc, append-nil, Option, Some, None, refl, ap, sym, ◌∙◌, Bor, Global, String, BTreeMap, option_to_list}
+use Rattle.std.proofs.Common.{◌≡◌, ℕ, ◌+◌, ◌<◌, List, [], ◌∷◌, ◌++◌, map, take, drop, is_some, Bool, length, get_or, Option, Some, None, refl, ap, sym, ◌∙◌, Bor, Global, String, BTreeMap, option_to_list}
 use Rattle.std.specs.List.{filter_map, cons_option, list_all}
 use Rattle.std.proofs.lemmas.List.{take_more, drop_more, map-append}
 use Rattle.std.proofs.lemmas.List.Elements.{filter_map-append}

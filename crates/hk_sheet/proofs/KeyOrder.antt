@@ -1,8 +1,8 @@
 -- The keys of a table ascend: the first unknown one is the least.
-use Rattle.std.proofs.Common.{◌≡◌, ℕ, ◌||◌, List, [], ◌∷◌, ◌++◌, map, filter, fold, not, bytes_eq, Bool, Some, None, String, Global, string_bytes, refl, ap, sym, ◌∙◌, inl, inr, Less, Greater}
+use Rattle.std.proofs.Common.{◌≡◌, ℕ, List, [], ◌∷◌, map, filter, fold, not, Bool, Some, None, String, Global, string_bytes, refl, ap, sym, ◌∙◌, inl, inr, Less, Greater}
 use Rattle.std.proofs.lemmas.Bool.{cases_Bool}
 use Rattle.std.proofs.lemmas.Cmp.{nat_list_cmp_total}
-use Rattle.std.specs.List.{AllByRecursion, list_any}
+use Rattle.std.specs.List.{AllByRecursion}
 use Rattle.std.specs.List.Sorted.{IsStrictlySortedBy}
 use Rattle.std.specs.Map.{keys_of}
 use Rattle.std.specs.Ordering.{ordering_reverse, nat_cmp}
@@ -10,8 +10,7 @@ use Rattle.std.specs.Cmp.Lexicographic.{slice_cmp}
 use Rattle.std.specs.String.{string_cmp}
 use Rattle.toml.specs.View.{members_view}
 use Rattle.toml.specs.declared.value.Value.{Value}
-use Rattle.hk_sheet.specs.Code.{is_listed, unlisted}
-use Rattle.hk_sheet.specs.Faults.{least, lesser}
+use Rattle.hk_sheet.specs.Faults.{is_known, unknown_keys, least, lesser}
 use Rattle.hk_sheet.specs.Faults as faults
 
 -- the keys of a table are those of the map
@@ -56,14 +55,14 @@ no_least p (x ∷ xs) is =
       | inr fails ↦ rw fails (no_least p xs (rw fails at is))
     ]
 
--- a key isn't listed
-abbrev pub is_unlisted : (own more : List (List ℕ)) → String Global → Bool
-is_unlisted own more key = not (is_listed own more (string_bytes key))
+-- a key is none of these
+abbrev pub is_unknown : (known : List (List ℕ)) → String Global → Bool
+is_unknown known key = not (is_known known (string_bytes key))
 
-module _ (own more : List (List ℕ)) (es : List (String Global × Value)) where
-  pub first_unlisted : (key : String Global) (rest : List (String Global)) → IsStrictlySortedBy string_cmp (keys_of es)
-      → key ∷ rest ≡ filter (is_unlisted own more) (keys_of es) → Some (string_bytes key) ≡ unlisted own more (members_view es)
-  first_unlisted key rest sorted is = rw (← keys-members es) (sym (first_least (λ k. not (is_listed own more k)) (keys_of es) key rest sorted is))
+module _ (known : List (List ℕ)) (es : List (String Global × Value)) where
+  pub first_unknown : (key : String Global) (rest : List (String Global)) → IsStrictlySortedBy string_cmp (keys_of es)
+      → key ∷ rest ≡ filter (is_unknown known) (keys_of es) → Some (string_bytes key) ≡ least (unknown_keys known (members_view es))
+  first_unknown key rest sorted is = rw (← keys-members es) (sym (first_least (λ k. not (is_known known k)) (keys_of es) key rest sorted is))
 
-  pub none_unlisted : [] ≡ filter (is_unlisted own more) (keys_of es) → None ≡ unlisted own more (members_view es)
-  none_unlisted is = rw (← keys-members es) (sym (no_least (λ k. not (is_listed own more k)) (keys_of es) is))
+  pub none_unknown : [] ≡ filter (is_unknown known) (keys_of es) → None ≡ least (unknown_keys known (members_view es))
+  none_unknown is = rw (← keys-members es) (sym (no_least (λ k. not (is_known known k)) (keys_of es) is))

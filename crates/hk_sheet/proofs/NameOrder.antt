@@ -8,7 +8,8 @@ use Rattle.std.specs.Cmp.Lexicographic.{slice_cmp}
 use Rattle.std.specs.Ordering.{nat_cmp, is_eq, ordering_reverse}
 use Rattle.hk_sheet.specs.declared.error.SheetError.{SheetError}
 use Rattle.hk_sheet.specs.Faults.{first_of, faults_of_names, is_name, is_among}
-use Rattle.hk_sheet.specs.Code.{texts}
+use Rattle.hk_sheet.specs.declared.raw.RawTask.{RawTask}
+use Rattle.hk_sheet.specs.Raw.{raw_names}
 
 is_eq-reverse : (o : Ordering) → is_eq (ordering_reverse o) ≡ is_eq o
 is_eq-reverse Less = refl
@@ -35,12 +36,12 @@ one_more_name old new name earlier updates has q =
     updates.0 q ∙ (rw (is_eq-slice_cmp name.now q.now, has q) (cond-or (bytes_eq name.now q.now) (is_among earlier q.now)) ∙ ap (λ same. same || is_among earlier q.now) (bytes_eq-flip name.now q.now))
 
 -- after a name that is right, the first fault is that of the names behind it
-pub next_name : (names : List (Bor (List ℕ))) (i : ℕ) (name : Bor (List ℕ)) (earlier : List (List ℕ)) (whole : Option SheetError) (d : Bor (List ℕ)) → i < length names → name ≡ get_or names i d
-    → is_name name.now ≡ true → is_among earlier name.now ≡ false → first_of (faults_of_names earlier i (texts (drop i names))) ≡ whole
-    → first_of (faults_of_names (name.now ∷ earlier) (i + 1) (texts (drop (i + 1) names))) ≡ whole
-next_name names i name earlier whole d h at right free so_far =
-    let list : drop i names ≡ name ∷ drop (i + 1) names = drop_more names i d h ∙ ap (λ n. n ∷ drop (i + 1) names) (sym at) in
-    let here = rw (list, right, free) at so_far in
+pub next_name : (tasks : List RawTask) (i : ℕ) (task : RawTask) (name : List ℕ) (earlier : List (List ℕ)) (whole : Option SheetError) (d : RawTask) → i < length tasks → task ≡ get_or tasks i d → name ≡ task.name
+    → is_name name ≡ true → is_among earlier name ≡ false → first_of (faults_of_names earlier i (raw_names (drop i tasks))) ≡ whole
+    → first_of (faults_of_names (name ∷ earlier) (i + 1) (raw_names (drop (i + 1) tasks))) ≡ whole
+next_name tasks i task name earlier whole d h at named right free so_far =
+    let names : raw_names (drop i tasks) ≡ name ∷ raw_names (drop (i + 1) tasks) = ap raw_names (drop_more tasks i d h) ∙ ap (λ n. n ∷ raw_names (drop (i + 1) tasks)) (ap (λ (t : RawTask). t.name) (sym at) ∙ sym named) in
+    let here = rw (names, right, free) at so_far in
     here
 
 -- what was added wasn't there

@@ -1,20 +1,20 @@
 -- What holds of a table that has no fault.
-use Rattle.std.proofs.Common.{◌≡◌, ℕ, ◌-◌, ◌<◌, ◌≤◌, nat_le, Bool, true, false, ◌&&◌, pos, negsuc, List, [], ◌∷◌, ◌++◌, length, map, codes, is_some, Option, Some, None, option_map, refl, ap, sym, ◌∙◌, arith}
+use Rattle.std.proofs.Common.{◌≡◌, ℕ, ◌-◌, ◌<◌, ◌≤◌, nat_le, Bool, true, false, ◌&&◌, pos, negsuc, List, [], ◌∷◌, ◌++◌, length, map, Option, Some, None, option_map, refl, arith}
 use Rattle.std.proofs.lemmas.Bool.{and_parts, false≢true}
 use Rattle.std.proofs.lemmas.Bool.Decides.{nat_tests}
 use Rattle.std.specs.List.{AllByRecursion, list_all}
-use Rattle.toml.specs.Data.{Data, string, integer, float, boolean, datetime, array, table, Members, get_member, as_table}
-use Rattle.hk_sheet.specs.Rules.{number, pair, ticks_of_run, one_table, top_rules, Wrong, Rule, needs, may_have, elements_of, number_of, number_held, number_at, is_in, wrong_unless, wrong_in}
+use Rattle.toml.specs.Data.{Data, string, integer, float, boolean, datetime, array, table, Members, get_member}
+use Rattle.hk_sheet.specs.Rules.{number, pair, ticks_of_run, Wrong, Rule, keys_in, needs, may_have, elements_of, number_of, number_held, number_at, is_in, wrong_unless, wrong_in}
 use Rattle.hk_sheet.specs.Reading.{held, value_at, numbers_at, first_of_pair, second_of_pair}
-use Rattle.hk_sheet.specs.Faults.{unknown_fault, error_of, fault_of_value, fault_of_key, fault_of_table}
+use Rattle.hk_sheet.specs.Faults.{unknown_fault, error_of, fault_of_value, fault_of_key, fault_of_keys, fault_of_table}
 use Rattle.hk_sheet.specs.Valid.{IsFrom}
-use Rattle.hk_sheet.proofs.FaultOrder.{first_of-cons, neither, none_of}
+use Rattle.hk_sheet.proofs.FaultOrder.{neither, none_of}
 
 -- no key of the table has a fault
 pub no_key_fault : (path : List ℕ) (rules : List Rule) (entries : Members) → fault_of_table path rules entries ≡ None → AllByRecursion (λ rule. fault_of_key path entries rule ≡ None) rules
 unfolding fault_of_table
 no_key_fault path rules entries none =
-    none_of (fault_of_key path entries) rules (neither (unknown_fault path rules entries) _ (sym (first_of-cons (unknown_fault path rules entries) (map (fault_of_key path entries) rules)) ∙ none)).1
+    none_of (fault_of_key path entries) rules (neither (unknown_fault path (keys_in rules) entries) (fault_of_keys path entries rules) none).1
 
 -- a value that nothing is wrong with
 right : (path : List ℕ) (w : Option Wrong) → option_map (error_of path) w ≡ None → w ≡ None
@@ -102,20 +102,3 @@ ticks_key path key ticks entries some none =
     let ds = elements_of (value_at key entries) in
     let both = and_parts (nat_le (length ds) 4096) (list_all (is_in 0 (ticks - 1)) ds) (ticks_value path key ticks (get_member key entries) none) in
     (ticks_in ticks ds some both.1, rw (length-map number_of ds) (few (length ds) 4096 both.0))
-
--- a table that is there
-of_kind : (kind : Bool) → wrong_unless kind true ≡ None → kind ≡ true
-of_kind true none = refl
-of_kind false none = cc
-
-table_value : (path key : List ℕ) (o : Option Data) → fault_of_value (path ++ key) (needs key one_table) o ≡ None → is_some (as_table (held o)) ≡ true
-table_value path key None none = cc
-table_value path key (Some d) none = of_kind (is_some (as_table d)) (right (path ++ key) (wrong_in one_table d) none)
-
-pub heap_there : (document : Members) → fault_of_table [] top_rules document ≡ None → None ≡ as_table (value_at (codes "heap") document) → ⊥
-unfolding top_rules
-heap_there document none missing =
-    let keys = no_key_fault [] top_rules document none in
-    let there = table_value [] (codes "heap") (get_member (codes "heap") document) keys.1.1.0 in
-    let lost : is_some (as_table (value_at (codes "heap") document)) ≡ false = ap is_some (sym missing) in
-    false≢true (sym lost ∙ there)

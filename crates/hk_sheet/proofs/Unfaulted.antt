@@ -1,5 +1,5 @@
 -- The document of a sheet has no fault.
-use Rattle.std.proofs.Common.{◌≡◌, ℕ, ◌+◌, ◌-◌, ◌<◌, ◌≤◌, ◌==◌, if◌then◌else◌, Bool, true, false, List, [], ◌∷◌, ◌++◌, length, map, codes, Option, Some, None, is_some, Ok, refl, ap, sym, arith}
+use Rattle.std.proofs.Common.{◌≡◌, ℕ, ◌+◌, ◌-◌, ◌<◌, ◌≤◌, ◌==◌, if◌then◌else◌, Bool, true, false, List, [], ◌∷◌, length, map, codes, Option, Some, None, is_some, Ok, refl, ap, sym, arith}
 use Rattle.std.specs.List.{AllByRecursion, list_all}
 use Rattle.std.specs.Str.{bytes_eq}
 use Rattle.std.proofs.lemmas.Bool.{both_ways, false_from_ne_true, le-leb, le-ltb, or_from, or_parts}
@@ -21,27 +21,19 @@ use Rattle.hk_sheet.specs.declared.sheet.HeapKeys.{HeapKeys}
 use Rattle.hk_sheet.specs.declared.sheet.High.{High}
 use Rattle.hk_sheet.specs.declared.sheet.Low.{Low}
 use Rattle.hk_sheet.specs.declared.sheet.Sheet.{Sheet}
-use Rattle.hk_sheet.specs.Rules.{Kind, number, pair, ticks_of_run, text, one_table, tables, Rule, needs, may_have, wrong_in, is_in, is_integer, number_at, is_second, top_rules, register_rules, heap_rules, arrival_rules, high_rules, low_rules}
+use Rattle.hk_sheet.specs.Rules.{Kind, number, pair, ticks_of_run, text, one_table, tables, Rule, needs, may_have, wrong_in, is_in, is_integer, number_at, is_second, top_rules, keys_in, register_rules, heap_rules, arrival_rules, time_rules, task_rules}
 use Rattle.hk_sheet.specs.Reading.{text_at, timing_in, arrivals_in, high_in, low_in, highs_of, lows_of, heap_of, sheet_in}
-use Rattle.hk_sheet.specs.Faults.{first_of, unknown_keys, unknown_fault, fault_of_key, fault_of_table, faults_of_tasks, task_path, is_name, is_among, faults_of_names, faults_of_ticks, fault_of_arrivals, fault_of_high_arrivals, fault_of_low_arrivals, fault_of_script, fault_of_geometry, tasks_of, names_of, faults_of_tables, fault_of, sheet_of}
+use Rattle.hk_sheet.specs.Faults.{first_of, is_known, unknown_keys, unknown_fault, fault_of_key, fault_of_table, faults_of_tasks, task_path, is_name, is_among, faults_of_names, faults_of_ticks, fault_of_arrivals, fault_of_high_arrivals, fault_of_low_arrivals, fault_of_script, fault_of_geometry, tasks_of, names_of, fault_of_tables, fault_of_contents, fault_of, sheet_of}
 use Rattle.hk_sheet.specs.Printing.{is_wide, version_of, heap_table, number_data, numbers_data, heap_entries, high_entries, low_entries, high_data, low_data, document_of}
 use Rattle.hk_sheet.specs.Valid.{is_breadth, IsFrom, IsHeap, AreSpaced, AreArrivals, IsTiming, IsHigh, IsLow, AreDistinct, names_in, IsSheet}
+use Rattle.hk_sheet.proofs.FaultOrder.{AreNone, all_append}
 use Rattle.hk_sheet.proofs.Redeclared.{elements_again, script_again, high_again, low_again, second_again, heap_of-document, highs_of-document, lows_of-document, sheet_again}
 
 -- FAULTS
 
--- none of these is a fault
-abbrev pub AreNone : List (Option SheetError) → Type 0
-AreNone faults = AllByRecursion (λ fault. fault ≡ None) faults
-
 pub first_of_none : (faults : List (Option SheetError)) → AreNone faults → first_of faults ≡ None
 first_of_none [] none = refl
-first_of_none (None ∷ faults) none = first_of_none faults none.1
-first_of_none (Some fault ∷ faults) none = let is : Some fault ≡ None = none.0 in cc
-
-pub none_append : (faults more : List (Option SheetError)) → AreNone faults → AreNone more → AreNone (faults ++ more)
-none_append [] more none after = after
-none_append (fault ∷ faults) more none after = (none.0, none_append faults more none.1 after)
+first_of_none (fault ∷ faults) none = rw none.0 (first_of_none faults none.1)
 
 pub none_map : {A : Type 0} (fault : A → Option SheetError) (xs : List A) → AllByRecursion (λ x. fault x ≡ None) xs → AreNone (map fault xs)
 none_map fault [] none = tt
@@ -106,7 +98,7 @@ also : {A B : Type 0} → A → B → A × B
 also first rest = (first, rest)
 
 -- a table with no unknown key and no fault of a key
-table_unfaulted : (path : List ℕ) (rules : List Rule) (entries : Members) → unknown_keys rules entries ≡ [] → AllByRecursion (λ rule. fault_of_key path entries rule ≡ None) rules → fault_of_table path rules entries ≡ None
+table_unfaulted : (path : List ℕ) (rules : List Rule) (entries : Members) → unknown_keys (keys_in rules) entries ≡ [] → AllByRecursion (λ rule. fault_of_key path entries rule ≡ None) rules → fault_of_table path rules entries ≡ None
 unfolding fault_of_table unknown_fault
 table_unfaulted path rules entries known none = rw known (first_of_none _ (none_map (fault_of_key path entries) rules none))
 
@@ -117,7 +109,7 @@ wide_registers fields registers is wide = record { at_least = grind (arith, nat_
 -- the heap, in version 2 and in version 1
 module _ (path : List ℕ) (heap : HeapKeys) (is : IsHeap heap) where
   heap_by_version : (second : Bool) → is_wide heap ≡ second → fault_of_table path (heap_rules second) (heap_table second heap) ≡ None
-  unfolding heap_rules register_rules
+  unfolding heap_rules register_rules is_known
   heap_by_version true wide =
       let entries = heap_table true heap in
       let many = wide_registers heap.fields heap.registers is.breadth wide in
@@ -145,11 +137,11 @@ module _ (path : List ℕ) (heap : HeapKeys) (is : IsHeap heap) where
 -- a high task
 high_fields : (path name : List ℕ) (timing : Timing) (words lag : ℕ) (arrives : Arrivals) (script : List Statement) (ticks : ℕ)
     → IsTiming timing → words ≤ 16777216 → lag ≤ 16777216 → AreArrivals ticks timing.period arrives
-    → let entries = high_entries (record { name = name; timing = timing; words = words; lag = lag; arrivals = arrives; script = script }) in fault_of_table path (high_rules ticks entries) entries ≡ None
-unfolding high_rules arrival_rules
+    → let entries = high_entries (record { name = name; timing = timing; words = words; lag = lag; arrivals = arrives; script = script }) in fault_of_table path (task_rules true ticks entries) entries ≡ None
+unfolding task_rules time_rules arrival_rules is_known
 high_fields path name timing words lag (Every first step) script ticks times few small arrive =
     let entries = high_entries (record { name = name; timing = timing; words = words; lag = lag; arrivals = Every first step; script = script }) in
-    table_unfaulted path (high_rules ticks entries) entries refl
+    table_unfaulted path (task_rules true ticks entries) entries refl
     (also (key_text path (codes "name") entries name refl)
     (also (key_number path (codes "period") entries 1 16777216 timing.period refl times.period.at_least times.period.at_most)
     (also (key_number path (codes "deadline") entries 1 timing.period timing.deadline refl times.deadline.at_least times.deadline.at_most)
@@ -163,7 +155,7 @@ high_fields path name timing words lag (Every first step) script ticks times few
     tt))))))))))
 high_fields path name timing words lag (arrivals.List numbers) script ticks times few small arrive =
     let entries = high_entries (record { name = name; timing = timing; words = words; lag = lag; arrivals = arrivals.List numbers; script = script }) in
-    table_unfaulted path (high_rules ticks entries) entries refl
+    table_unfaulted path (task_rules true ticks entries) entries refl
     (also (key_text path (codes "name") entries name refl)
     (also (key_number path (codes "period") entries 1 16777216 timing.period refl times.period.at_least times.period.at_most)
     (also (key_number path (codes "deadline") entries 1 timing.period timing.deadline refl times.deadline.at_least times.deadline.at_most)
@@ -175,16 +167,16 @@ high_fields path name timing words lag (arrivals.List numbers) script ticks time
     (also (key_text path (codes "script") entries (text_of script) refl)
     tt)))))))))
 
-high_unfaulted : (path : List ℕ) (ticks : ℕ) (heap : HeapKeys) (task : High) → IsHigh ticks heap task → fault_of_table path (high_rules ticks (high_entries task)) (high_entries task) ≡ None
+high_unfaulted : (path : List ℕ) (ticks : ℕ) (heap : HeapKeys) (task : High) → IsHigh ticks heap task → fault_of_table path (task_rules true ticks (high_entries task)) (high_entries task) ≡ None
 high_unfaulted path ticks heap task is = high_fields path task.name task.timing task.words task.lag task.arrivals task.script ticks is.timing is.words is.lag is.arrivals
 
 -- a low task
 low_fields : (path name : List ℕ) (arrives : Arrivals) (script : List Statement) (ticks : ℕ) → AreArrivals ticks 1 arrives
-    → let entries = low_entries (record { name = name; arrivals = arrives; script = script }) in fault_of_table path (low_rules ticks entries) entries ≡ None
-unfolding low_rules arrival_rules
+    → let entries = low_entries (record { name = name; arrivals = arrives; script = script }) in fault_of_table path (task_rules false ticks entries) entries ≡ None
+unfolding task_rules time_rules arrival_rules is_known
 low_fields path name (Every first step) script ticks arrive =
     let entries = low_entries (record { name = name; arrivals = Every first step; script = script }) in
-    table_unfaulted path (low_rules ticks entries) entries refl
+    table_unfaulted path (task_rules false ticks entries) entries refl
     (also (key_text path (codes "name") entries name refl)
     (also (key_number path (codes "first") entries 0 16777216 first refl (omega arith) arrive.0)
     (also (key_number path (codes "every") entries 1 16777216 step refl arrive.1.at_least arrive.1.at_most)
@@ -192,13 +184,13 @@ low_fields path name (Every first step) script ticks arrive =
     tt))))
 low_fields path name (arrivals.List numbers) script ticks arrive =
     let entries = low_entries (record { name = name; arrivals = arrivals.List numbers; script = script }) in
-    table_unfaulted path (low_rules ticks entries) entries refl
+    table_unfaulted path (task_rules false ticks entries) entries refl
     (also (key_text path (codes "name") entries name refl)
     (also (key_fits path (codes "arrivals") entries (ticks_of_run ticks) (numbers_data numbers) refl (ticks_fit ticks numbers arrive.0 arrive.1))
     (also (key_text path (codes "script") entries (text_of script) refl)
     tt)))
 
-low_unfaulted : (path : List ℕ) (ticks : ℕ) (heap : HeapKeys) (task : Low) → IsLow ticks heap task → fault_of_table path (low_rules ticks (low_entries task)) (low_entries task) ≡ None
+low_unfaulted : (path : List ℕ) (ticks : ℕ) (heap : HeapKeys) (task : Low) → IsLow ticks heap task → fault_of_table path (task_rules false ticks (low_entries task)) (low_entries task) ≡ None
 low_unfaulted path ticks heap task is = low_fields path task.name task.arrivals task.script ticks is.arrivals
 
 -- the version is 1 or 2
@@ -208,7 +200,7 @@ version_from false = record { at_least = omega arith; at_most = omega arith }
 
 -- the document's own table
 top_unfaulted : (sheet : Sheet) → IsSheet sheet → fault_of_table [] top_rules (document_of sheet) ≡ None
-unfolding top_rules document_of
+unfolding top_rules document_of is_known
 top_unfaulted sheet is =
     table_unfaulted [] top_rules (document_of sheet) refl
     (also (key_number [] (codes "version") (document_of sheet) 1 2 (version_of sheet.heap) refl (version_from (is_wide sheet.heap)).at_least (version_from (is_wide sheet.heap)).at_most)
@@ -219,24 +211,24 @@ top_unfaulted sheet is =
     tt)))))
 
 -- the tables of the tasks
-highs_unfaulted : (kind : List ℕ) (ticks index : ℕ) (heap : HeapKeys) (tasks : List High) → AllByRecursion (IsHigh ticks heap) tasks → AreNone (faults_of_tasks kind (high_rules ticks) index (map high_entries tasks))
+highs_unfaulted : (kind : List ℕ) (ticks index : ℕ) (heap : HeapKeys) (tasks : List High) → AllByRecursion (IsHigh ticks heap) tasks → AreNone (faults_of_tasks kind (task_rules true ticks) index (map high_entries tasks))
 highs_unfaulted kind ticks index heap [] are = tt
 highs_unfaulted kind ticks index heap (t ∷ tasks) are = (high_unfaulted (task_path kind index) ticks heap t are.0, highs_unfaulted kind ticks (index + 1) heap tasks are.1)
 
-lows_unfaulted : (kind : List ℕ) (ticks index : ℕ) (heap : HeapKeys) (tasks : List Low) → AllByRecursion (IsLow ticks heap) tasks → AreNone (faults_of_tasks kind (low_rules ticks) index (map low_entries tasks))
+lows_unfaulted : (kind : List ℕ) (ticks index : ℕ) (heap : HeapKeys) (tasks : List Low) → AllByRecursion (IsLow ticks heap) tasks → AreNone (faults_of_tasks kind (task_rules false ticks) index (map low_entries tasks))
 lows_unfaulted kind ticks index heap [] are = tt
 lows_unfaulted kind ticks index heap (t ∷ tasks) are = (low_unfaulted (task_path kind index) ticks heap t are.0, lows_unfaulted kind ticks (index + 1) heap tasks are.1)
 
-tables_unfaulted : (sheet : Sheet) → IsSheet sheet → AreNone (faults_of_tables (document_of sheet))
-unfolding faults_of_tables document_of
+tables_unfaulted : (sheet : Sheet) → IsSheet sheet → fault_of_tables (document_of sheet) ≡ None
+unfolding fault_of_tables document_of
 tables_unfaulted sheet is =
-    let highs : AreNone (faults_of_tasks (codes "high") (high_rules sheet.ticks) 0 (highs_of (document_of sheet))) =
+    let highs : AreNone (faults_of_tasks (codes "high") (task_rules true sheet.ticks) 0 (highs_of (document_of sheet))) =
     rw (highs_of-document sheet) (highs_unfaulted (codes "high") sheet.ticks 0 sheet.heap sheet.high is.high) in
-    let lows : AreNone (faults_of_tasks (codes "low") (low_rules sheet.ticks) 0 (lows_of (document_of sheet))) =
+    let lows : AreNone (faults_of_tasks (codes "low") (task_rules false sheet.ticks) 0 (lows_of (document_of sheet))) =
     rw (lows_of-document sheet) (lows_unfaulted (codes "low") sheet.ticks 0 sheet.heap sheet.low is.low) in
     let heap : fault_of_table (codes "heap.") (heap_rules (is_second (document_of sheet))) (heap_entries sheet.heap) ≡ None =
     rw (second_again sheet) (heap_unfaulted (codes "heap.") sheet.heap is.heap) in
-    (top_unfaulted sheet is, (heap, none_append _ _ highs lows))
+    first_of_none (_ ∷ _ ∷ _ ∷ _ ∷ []) (top_unfaulted sheet is, (heap, (first_of_none _ highs, (first_of_none _ lows, tt))))
 
 -- FIELDS
 
@@ -323,10 +315,6 @@ lows_have_names : (ticks : ℕ) (heap : HeapKeys) (tasks : List Low) → AllByRe
 lows_have_names ticks heap [] are = tt
 lows_have_names ticks heap (t ∷ tasks) are = (are.0.name, lows_have_names ticks heap tasks are.1)
 
-all_append : {A : Type 0} (P : A → Type 0) (xs ys : List A) → AllByRecursion P xs → AllByRecursion P ys → AllByRecursion P (xs ++ ys)
-all_append P [] ys front back = back
-all_append P (x ∷ xs) ys front back = (front.0, all_append P xs ys front.1 back)
-
 sheet_named : (sheet : Sheet) → IsSheet sheet → AreNone (faults_of_names [] 0 (names_of (document_of sheet)))
 sheet_named sheet is =
     rw (names_again sheet is)
@@ -377,24 +365,22 @@ geometry_fits : (sheet : Sheet) → IsSheet sheet → fault_of_geometry (sheet_i
 unfolding fault_of_geometry
 geometry_fits sheet is = rw (sheet_again sheet is, is.geometry)
 
-document_unfaulted : (sheet : Sheet) → IsSheet sheet → fault_of (document_of sheet) ≡ None
-unfolding fault_of
-document_unfaulted sheet is =
+contents_unfaulted : (sheet : Sheet) → IsSheet sheet → fault_of_contents (document_of sheet) ≡ None
+unfolding fault_of_contents
+contents_unfaulted sheet is =
     let document = document_of sheet in
     let scripts : AreNone (map (fault_of_script (heap_of document)) (tasks_of document)) =
     rw (highs_of-document sheet, lows_of-document sheet, heap_of-document sheet is.heap.breadth, map-append (fault_of_script sheet.heap) (map high_entries sheet.high) (map low_entries sheet.low))
-    (none_append _ _
+    (all_append _ _ _
     (none_at_highs sheet.ticks sheet.heap (fault_of_script sheet.heap) sheet.high (λ task keeps. high_scripted sheet.heap task is.heap.breadth keeps.script) is.high)
     (none_at_lows sheet.ticks sheet.heap (fault_of_script sheet.heap) sheet.low (λ task keeps. low_scripted sheet.heap task is.heap.breadth keeps.script) is.low)) in
     let highs : AreNone (map fault_of_high_arrivals (highs_of document)) = rw (highs_of-document sheet) (none_at_highs sheet.ticks sheet.heap fault_of_high_arrivals sheet.high (high_arrives sheet.ticks sheet.heap is.heap.breadth) is.high) in
     let lows : AreNone (map fault_of_low_arrivals (lows_of document)) = rw (lows_of-document sheet) (none_at_lows sheet.ticks sheet.heap fault_of_low_arrivals sheet.low (low_arrives sheet.ticks sheet.heap is.heap.breadth) is.low) in
-    let geometry : AreNone (fault_of_geometry (sheet_in document) ∷ []) = (geometry_fits sheet is, tt) in
-    first_of_none _
-    (none_append _ (fault_of_geometry (sheet_in document) ∷ [])
-    (none_append _ _
-    (none_append _ _
-    (none_append _ _
-    (none_append _ _ (tables_unfaulted sheet is) (sheet_named sheet is)) highs) lows) scripts) geometry)
+    first_of_none (_ ∷ _ ∷ _ ∷ _ ∷ []) (first_of_none _ (sheet_named sheet is), (first_of_none _ (all_append _ _ _ highs lows), (first_of_none _ scripts, (geometry_fits sheet is, tt))))
+
+document_unfaulted : (sheet : Sheet) → IsSheet sheet → fault_of (document_of sheet) ≡ None
+unfolding fault_of
+document_unfaulted sheet is = rw (tables_unfaulted sheet is, contents_unfaulted sheet is)
 
 -- the document of a sheet that can be read is read as that sheet
 pub document_again : (sheet : Sheet) → IsSheet sheet → sheet_of (document_of sheet) ≡ Ok sheet

@@ -18,12 +18,12 @@ use Rattle.hk_sheet.specs.declared.sheet.HeapKeys.{HeapKeys}
 use Rattle.hk_sheet.specs.declared.sheet.High.{High}
 use Rattle.hk_sheet.specs.declared.sheet.Low.{Low}
 use Rattle.hk_sheet.specs.declared.sheet.Sheet.{Sheet}
-use Rattle.hk_sheet.specs.Rules.{Rule, needs, may_have, text, number, number_at, is_second, has_list, register_rules, arrival_rules, top_rules, heap_rules, high_rules, low_rules}
+use Rattle.hk_sheet.specs.Rules.{Rule, needs, text, number_at, is_second, has_list, register_rules, arrival_rules, top_rules, heap_rules, time_rules, task_rules}
 use Rattle.hk_sheet.specs.Reading.{text_at, table_at, numbers_at, highs_of, lows_of, registers_in, fields_in, heap_in, heap_of, arrivals_in, timing_in, script_in, read_script, high_in, low_in, sheet_in}
-use Rattle.hk_sheet.specs.Faults.{first_of, counted, fault_of_key, fault_of_table, faults_of_tasks, task_path, is_name, is_among, faults_of_names, names_of, faults_of_ticks, fault_of_arrivals, fault_of_high_arrivals, fault_of_low_arrivals, fault_of_text, fault_of_script, sizes_of, fault_of_geometry, fault_of}
+use Rattle.hk_sheet.specs.Faults.{first_of, counted, fault_of_key, fault_of_table, faults_of_tasks, task_path, is_name, is_among, faults_of_names, names_of, faults_of_ticks, fault_of_arrivals, fault_of_high_arrivals, fault_of_low_arrivals, fault_of_text, fault_of_script, sizes_of, fault_of_geometry, tasks_of, fault_of_tables, fault_of_contents, fault_of}
 use Rattle.hk_sheet.specs.Valid.{is_breadth, IsFrom, IsHeap, AreSpaced, AreArrivals, IsHigh, IsLow, AreDistinct, names_in, IsSheet}
 use Rattle.hk_sheet.proofs.NameOrder.{bytes_eq-flip}
-use Rattle.hk_sheet.proofs.FaultOrder.{first_of-cons, neither, none_of, none_each, high_faults, low_faults, fault_of-in_order}
+use Rattle.hk_sheet.proofs.FaultOrder.{first_of-append, neither, none_of}
 use Rattle.hk_sheet.proofs.Ranges.{no_key_fault, number_key, optional_key, pair_key, ticks_key}
 
 -- THE HEAP
@@ -73,7 +73,7 @@ names_right : (earlier : List (List ℕ)) (index : ℕ) (names : List (List ℕ)
 names_right earlier index [] none = tt
 names_right earlier index (name ∷ rest) none =
     let fault = if is_name name && not (is_among earlier name) then None else Some (error.Name (counted index)) in
-    let parts = neither fault (first_of (faults_of_names (name ∷ earlier) (index + 1) rest)) (sym (first_of-cons fault (faults_of_names (name ∷ earlier) (index + 1) rest)) ∙ none) in
+    let parts = neither fault (first_of (faults_of_names (name ∷ earlier) (index + 1) rest)) none in
     ((and_parts (is_name name) (not (is_among earlier name)) (name_right index _ parts.0)).0, names_right (name ∷ earlier) (index + 1) rest parts.1)
 
 -- a name that stands before them isn't among them
@@ -82,7 +82,7 @@ apart : (name : List ℕ) (earlier : List (List ℕ)) (index : ℕ) (names : Lis
 apart name earlier index [] tells none = refl
 apart name earlier index (other ∷ rest) tells none =
     let fault = if is_name other && not (is_among earlier other) then None else Some (error.Name (counted index)) in
-    let parts = neither fault (first_of (faults_of_names (other ∷ earlier) (index + 1) rest)) (sym (first_of-cons fault (faults_of_names (other ∷ earlier) (index + 1) rest)) ∙ none) in
+    let parts = neither fault (first_of (faults_of_names (other ∷ earlier) (index + 1) rest)) none in
     let new = not_true _ (and_parts (is_name other) (not (is_among earlier other)) (name_right index _ parts.0)).1 in
     rw (bytes_eq-flip name other, tells other new)
     (apart name (other ∷ earlier) (index + 1) rest (λ another is. tells another (or_false (bytes_eq another other) (is_among earlier another) is).1) parts.1)
@@ -91,7 +91,7 @@ names_distinct : (earlier : List (List ℕ)) (index : ℕ) (names : List (List �
 names_distinct earlier index [] none = tt
 names_distinct earlier index (name ∷ rest) none =
     let fault = if is_name name && not (is_among earlier name) then None else Some (error.Name (counted index)) in
-    let parts = neither fault (first_of (faults_of_names (name ∷ earlier) (index + 1) rest)) (sym (first_of-cons fault (faults_of_names (name ∷ earlier) (index + 1) rest)) ∙ none) in
+    let parts = neither fault (first_of (faults_of_names (name ∷ earlier) (index + 1) rest)) none in
     let free = apart name (name ∷ earlier) (index + 1) rest (λ other is. (or_false (bytes_eq other name) (is_among earlier other) is).0) parts.1 in
     (λ among. false≢true (sym free ∙ among), names_distinct (name ∷ earlier) (index + 1) rest parts.1)
 
@@ -109,7 +109,7 @@ spaced task gap place [] none = tt
 spaced task gap place (tick ∷ []) none = tt
 spaced task gap place (earlier ∷ later ∷ rest) none =
     let fault = if nat_lt later (earlier + gap) then Some (error.Arrivals task (counted place) earlier later) else None in
-    let parts = neither fault (first_of (faults_of_ticks task gap (place + 1) (later ∷ rest))) (sym (first_of-cons fault (faults_of_ticks task gap (place + 1) (later ∷ rest))) ∙ none) in
+    let parts = neither fault (first_of (faults_of_ticks task gap (place + 1) (later ∷ rest))) none in
     (apart_enough task place earlier later gap parts.0, spaced task gap (place + 1) (later ∷ rest) parts.1)
 
 step_enough : (task : List ℕ) (gap first step : ℕ) → (if nat_lt step gap then Some (error.Arrivals task 1 first (first + step)) else None) ≡ None → gap ≤ step
@@ -158,11 +158,11 @@ module _ (path : List ℕ) (ticks gap : ℕ) (some : 1 ≤ ticks) (entries : Mem
 below_deadline : (deadline jitter : ℕ) → 1 ≤ deadline → jitter ≤ deadline - 1 → jitter < deadline
 below_deadline deadline jitter some within = omega arith
 
-high_right : (heap : HeapKeys) (path : List ℕ) (ticks : ℕ) (entries : Members) → 1 ≤ ticks → fault_of_table path (high_rules ticks entries) entries ≡ None → is_name (text_at (codes "name") entries) ≡ true
+high_right : (heap : HeapKeys) (path : List ℕ) (ticks : ℕ) (entries : Members) → 1 ≤ ticks → fault_of_table path (task_rules true ticks entries) entries ≡ None → is_name (text_at (codes "name") entries) ≡ true
     → fault_of_high_arrivals entries ≡ None → fault_of_script heap entries ≡ None → IsHigh ticks heap (high_in heap entries)
-unfolding high_rules high_in timing_in
+unfolding task_rules time_rules high_in timing_in
 high_right heap path ticks entries some keys_none name arrivals_none script_none =
-    let keys = no_key_fault path (high_rules ticks entries) entries keys_none in
+    let keys = no_key_fault path (task_rules true ticks entries) entries keys_none in
     record {
       name = name;
       timing = record {
@@ -178,35 +178,35 @@ high_right heap path ticks entries some keys_none name arrivals_none script_none
       script = script_of_table heap entries script_none;
     }
 
-low_right : (heap : HeapKeys) (path : List ℕ) (ticks : ℕ) (entries : Members) → 1 ≤ ticks → fault_of_table path (low_rules ticks entries) entries ≡ None → is_name (text_at (codes "name") entries) ≡ true
+low_right : (heap : HeapKeys) (path : List ℕ) (ticks : ℕ) (entries : Members) → 1 ≤ ticks → fault_of_table path (task_rules false ticks entries) entries ≡ None → is_name (text_at (codes "name") entries) ≡ true
     → fault_of_low_arrivals entries ≡ None → fault_of_script heap entries ≡ None → IsLow ticks heap (low_in heap entries)
-unfolding low_rules low_in
+unfolding task_rules time_rules low_in
 low_right heap path ticks entries some keys_none name arrivals_none script_none =
-    let keys = no_key_fault path (low_rules ticks entries) entries keys_none in
+    let keys = no_key_fault path (task_rules false ticks entries) entries keys_none in
     record {
       name = name;
       arrivals = arrivals_right path ticks 1 some entries (has_list entries) (needs (codes "script") text ∷ []) refl keys.1 arrivals_none;
       script = script_of_table heap entries script_none;
     }
 
-highs_right : (heap : HeapKeys) (ticks index : ℕ) (tasks : List Members) → 1 ≤ ticks → first_of (faults_of_tasks (codes "high") (high_rules ticks) index tasks) ≡ None
+highs_right : (heap : HeapKeys) (ticks index : ℕ) (tasks : List Members) → 1 ≤ ticks → first_of (faults_of_tasks (codes "high") (task_rules true ticks) index tasks) ≡ None
     → AllByRecursion (λ entries. is_name (text_at (codes "name") entries) ≡ true) tasks → AllByRecursion (λ entries. fault_of_high_arrivals entries ≡ None) tasks
     → AllByRecursion (λ entries. fault_of_script heap entries ≡ None) tasks → AllByRecursion (IsHigh ticks heap) (map (high_in heap) tasks)
 highs_right heap ticks index [] some keys names arrivals scripts = tt
 highs_right heap ticks index (entries ∷ rest) some keys names arrivals scripts =
-    let fault = fault_of_table (task_path (codes "high") index) (high_rules ticks entries) entries in
-    let later = faults_of_tasks (codes "high") (high_rules ticks) (index + 1) rest in
-    let parts = neither fault (first_of later) (sym (first_of-cons fault later) ∙ keys) in
+    let fault = fault_of_table (task_path (codes "high") index) (task_rules true ticks entries) entries in
+    let later = faults_of_tasks (codes "high") (task_rules true ticks) (index + 1) rest in
+    let parts = neither fault (first_of later) keys in
     (high_right heap (task_path (codes "high") index) ticks entries some parts.0 names.0 arrivals.0 scripts.0, highs_right heap ticks (index + 1) rest some parts.1 names.1 arrivals.1 scripts.1)
 
-lows_right : (heap : HeapKeys) (ticks index : ℕ) (tasks : List Members) → 1 ≤ ticks → first_of (faults_of_tasks (codes "low") (low_rules ticks) index tasks) ≡ None
+lows_right : (heap : HeapKeys) (ticks index : ℕ) (tasks : List Members) → 1 ≤ ticks → first_of (faults_of_tasks (codes "low") (task_rules false ticks) index tasks) ≡ None
     → AllByRecursion (λ entries. is_name (text_at (codes "name") entries) ≡ true) tasks → AllByRecursion (λ entries. fault_of_low_arrivals entries ≡ None) tasks
     → AllByRecursion (λ entries. fault_of_script heap entries ≡ None) tasks → AllByRecursion (IsLow ticks heap) (map (low_in heap) tasks)
 lows_right heap ticks index [] some keys names arrivals scripts = tt
 lows_right heap ticks index (entries ∷ rest) some keys names arrivals scripts =
-    let fault = fault_of_table (task_path (codes "low") index) (low_rules ticks entries) entries in
-    let later = faults_of_tasks (codes "low") (low_rules ticks) (index + 1) rest in
-    let parts = neither fault (first_of later) (sym (first_of-cons fault later) ∙ keys) in
+    let fault = fault_of_table (task_path (codes "low") index) (task_rules false ticks entries) entries in
+    let later = faults_of_tasks (codes "low") (task_rules false ticks) (index + 1) rest in
+    let parts = neither fault (first_of later) keys in
     (low_right heap (task_path (codes "low") index) ticks entries some parts.0 names.0 arrivals.0 scripts.0, lows_right heap ticks (index + 1) rest some parts.1 names.1 arrivals.1 scripts.1)
 
 -- what holds of all of two lists holds of each
@@ -233,20 +233,28 @@ names_read document = rw (high_names (heap_of document) (highs_of document), low
 -- THE SHEET
 
 pub sheet_right : (document : Members) → fault_of document ≡ None → IsSheet (sheet_in document)
-unfolding top_rules sheet_in heap_of
+unfolding fault_of fault_of_tables fault_of_contents top_rules sheet_in heap_of
 sheet_right document none =
-    let (top, heap, highs, lows, names, high_arrivals, low_arrivals, high_scripts, low_scripts, geometry) =
-    none_each (fault_of_table [] top_rules document) (fault_of_table (codes "heap.") (heap_rules (is_second document)) (table_at (codes "heap") document)) (high_faults document) (low_faults document)
-    (first_of (faults_of_names [] 0 (names_of document))) (first_of (map fault_of_high_arrivals (highs_of document))) (first_of (map fault_of_low_arrivals (lows_of document)))
-    (first_of (map (fault_of_script (heap_of document)) (highs_of document))) (first_of (map (fault_of_script (heap_of document)) (lows_of document))) (fault_of_geometry (sheet_in document))
-    (sym (fault_of-in_order document) ∙ none) in
+    let of_high = highs_of document in
+    let of_low = lows_of document in
+    let script = fault_of_script (heap_of document) in
+    let parts = neither (fault_of_tables document) (fault_of_contents document) none in
+    let (top, rest) = neither (fault_of_table [] top_rules document) _ parts.0 in
+    let (heap, tasks) = neither (fault_of_table (codes "heap.") (heap_rules (is_second document)) (table_at (codes "heap") document)) _ rest in
+    let (highs, last) = neither (first_of (faults_of_tasks (codes "high") (task_rules true (number_at (codes "ticks") document)) 0 of_high)) _ tasks in
+    let lows = (neither (first_of (faults_of_tasks (codes "low") (task_rules false (number_at (codes "ticks") document)) 0 of_low)) None last).0 in
+    let (names, behind) = neither (first_of (faults_of_names [] 0 (names_of document))) _ parts.1 in
+    let (gaps, others) = neither (first_of (map fault_of_high_arrivals of_high ++ map fault_of_low_arrivals of_low)) _ behind in
+    let (texts, geometry) = neither (first_of (map script (tasks_of document))) _ others in
+    let arrivals = neither _ _ (sym (first_of-append (map fault_of_high_arrivals of_high) (map fault_of_low_arrivals of_low)) ∙ gaps) in
+    let scripts = neither _ _ (sym (ap first_of (map-append script of_high of_low) ∙ first_of-append (map script of_high) (map script of_low)) ∙ texts) in
     let ticks = number_key [] (codes "ticks") 1 16777216 document (no_key_fault [] top_rules document top).1.0 in
     let right = split_all (λ name. is_name name ≡ true) (highs_of document) (lows_of document) (names_right [] 0 (names_of document) names) in
     record {
       ticks = ticks;
       heap = heap_right (is_second document) (table_at (codes "heap") document) heap;
-      high = highs_right (heap_of document) (number_at (codes "ticks") document) 0 (highs_of document) ticks.at_least highs right.0 (none_of fault_of_high_arrivals (highs_of document) high_arrivals) (none_of (fault_of_script (heap_of document)) (highs_of document) high_scripts);
-      low = lows_right (heap_of document) (number_at (codes "ticks") document) 0 (lows_of document) ticks.at_least lows right.1 (none_of fault_of_low_arrivals (lows_of document) low_arrivals) (none_of (fault_of_script (heap_of document)) (lows_of document) low_scripts);
+      high = highs_right (heap_of document) (number_at (codes "ticks") document) 0 (highs_of document) ticks.at_least highs right.0 (none_of fault_of_high_arrivals of_high arrivals.0) (none_of script of_high scripts.0);
+      low = lows_right (heap_of document) (number_at (codes "ticks") document) 0 (lows_of document) ticks.at_least lows right.1 (none_of fault_of_low_arrivals of_low arrivals.1) (none_of script of_low scripts.1);
       names = subst AreDistinct (sym (names_read document)) (names_distinct [] 0 (names_of document) names);
-      geometry = geometry_right (sheet_in document) geometry;
+      geometry = geometry_right (sheet_in document) (neither (fault_of_geometry (sheet_in document)) None geometry).0;
     }

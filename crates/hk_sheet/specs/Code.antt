@@ -1,7 +1,5 @@
 -- What the code's types say, and what its functions answer.
-use Rattle.std.specs.Prelude.{◌≡◌, ℕ, pos, Bool, not, List, ◌++◌, map, filter, Option, Some, None, option_map, Result, Ok, Err, String}
-use Rattle.std.specs.List.{list_any}
-use Rattle.std.specs.Str.{bytes_eq}
+use Rattle.std.specs.Prelude.{◌≡◌, ℕ, pos, List, map, Option, Some, None, Result, Ok, Err, String}
 use denote.Ref.{Bor}
 use Rattle.std.specs.BTreeMap.{BTreeMap}
 use Rattle.std.specs.declared.alloc.Global.{Global}
@@ -13,7 +11,6 @@ use Rattle.hk_sheet.specs.declared.error.SheetError.TheVariants as error
 use Rattle.hk_sheet.specs.declared.values.Wrong as the_wrong
 use Rattle.hk_sheet.specs.declared.values.Wrong.TheVariants as fault
 use Rattle.hk_sheet.specs.Rules.{Wrong, no_such_kind, out_of_range}
-use Rattle.hk_sheet.specs.Faults.{keys_of, least, shown}
 
 -- the natural number that a value is
 abbrev pub natural_of : Data → Option ℕ
@@ -27,17 +24,6 @@ seen = map (λ t. table_view t.now)
 abbrev pub texts : List (Bor (List ℕ)) → List (List ℕ)
 texts = map (λ t. t.now)
 
--- a key is one of some or of some more
-unfoldable pub is_listed : (own more : List (List ℕ)) → List ℕ → Bool
-is_listed own more key = list_any (λ other. bytes_eq other key) (own ++ more)
-
--- the least key of a table that isn't listed, and its fault; paths in the table begin so
-abbrev pub unlisted : (own more : List (List ℕ)) → Members → Option (List ℕ)
-unlisted own more entries = least (filter (λ key. not (is_listed own more key)) (keys_of entries))
-
-abbrev pub fault_of_unlisted : (path : List ℕ) → Option (List ℕ) → Option SheetError
-fault_of_unlisted path key = option_map (λ key. error.Unknown (shown (path ++ key))) key
-
 -- the value of a kind was found, as it is seen, or what is wrong, unless memory ran out
 abbrev pub Finds : {A B : Type 0} → (see : A → B) → Option Wrong → B → Result A the_wrong.Wrong → Type 0
 Finds see wrong value (Ok found) = (wrong ≡ None) × (see found ≡ value)
@@ -50,11 +36,6 @@ abbrev pub fault_of_wrong : (path : List ℕ) → the_wrong.Wrong → Option She
 fault_of_wrong path fault.Kind = Some (error.Kind path)
 fault_of_wrong path fault.Range = Some (error.Range path)
 fault_of_wrong path fault.Memory = None
-
--- the first fault, and the other one where there is none
-abbrev pub or_else : Option SheetError → Option SheetError → Option SheetError
-or_else None other = other
-or_else (Some fault) other = Some fault
 
 -- a refusal is the fault, unless memory ran out
 abbrev pub Refuses : SheetError → Option SheetError → Type 0

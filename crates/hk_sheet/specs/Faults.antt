@@ -1,7 +1,7 @@
 -- The first fault of a document, in the stated order: the tables one after another, the document's own first, then the
 -- heap's, the high tasks' and the low tasks'; in a table an unknown key, and then key by key. After all tables the names,
 -- then the arrivals, then the scripts of all tasks, and at last the geometry.
-use Rattle.std.specs.Prelude.{ℕ, ◌+◌, ◌-◌, ◌^◌, min, nat_lt, nat_le, Bool, not, ◌&&◌, ◌||◌, ◌==◌, bytes_eq, List, [], ◌∷◌, ◌++◌, length, map, filter, flat_map, fold, take, codes, decimal, Option, Some, None, option_map, Result, Ok, Err, if◌then◌else◌}
+use Rattle.std.specs.Prelude.{ℕ, ◌+◌, ◌-◌, ◌^◌, min, nat_lt, nat_le, Bool, true, false, not, ◌&&◌, ◌||◌, ◌==◌, bytes_eq, List, [], ◌∷◌, ◌++◌, length, map, filter, flat_map, fold, take, codes, decimal, Option, Some, None, option_map, Result, Ok, Err, if◌then◌else◌}
 use Rattle.std.specs.Char.{is_ascii_graphic, is_ascii_lowercase, is_ascii_digit}
 use Rattle.std.specs.List.{list_all, list_any}
 use Rattle.std.specs.Ordering.{is_lt, nat_cmp}
@@ -19,14 +19,18 @@ use Rattle.hk_sheet.specs.declared.error.SheetError.{SheetError}
 use Rattle.hk_sheet.specs.declared.error.SheetError.TheVariants as error
 use Rattle.hk_sheet.specs.declared.sheet.HeapKeys.{HeapKeys}
 use Rattle.hk_sheet.specs.declared.sheet.Sheet.{Sheet}
-use Rattle.hk_sheet.specs.Rules.{Rule, Wrong, no_such_kind, out_of_range, wrong_in, number_at, is_second, top_rules, heap_rules, high_rules, low_rules}
+use Rattle.hk_sheet.specs.Rules.{Rule, Wrong, no_such_kind, out_of_range, wrong_in, number_at, is_second, keys_in, top_rules, heap_rules, task_rules}
 use Rattle.hk_sheet.specs.Reading.{text_at, table_at, highs_of, lows_of, arrivals_in, heap_of, sheet_in}
+
+-- the first fault, and the other one where there is none
+abbrev pub or_else : Option SheetError → Option SheetError → Option SheetError
+or_else None other = other
+or_else (Some fault) other = Some fault
 
 -- the first fault of some, in their order
 abbrev pub first_of : List (Option SheetError) → Option SheetError
 first_of [] = None
-first_of (None ∷ rest) = first_of rest
-first_of (Some fault ∷ rest) = Some fault
+first_of (fault ∷ rest) = or_else fault (first_of rest)
 
 -- KEYS
 
@@ -35,13 +39,13 @@ abbrev pub keys_of : Members → List (List ℕ)
 keys_of no_members = []
 keys_of (member key value rest) = key ∷ keys_of rest
 
--- a key is that of a rule
-abbrev pub is_known : List Rule → List ℕ → Bool
-is_known rules key = list_any (λ rule. bytes_eq (rule.key) key) rules
+-- a key is one of these
+unfoldable pub is_known : (known : List (List ℕ)) → List ℕ → Bool
+is_known known key = list_any (λ other. bytes_eq other key) known
 
--- the keys of a table that no rule has
-abbrev pub unknown_keys : List Rule → Members → List (List ℕ)
-unknown_keys rules entries = filter (λ key. not (is_known rules key)) (keys_of entries)
+-- the keys of a table that are none of these
+abbrev pub unknown_keys : (known : List (List ℕ)) → Members → List (List ℕ)
+unknown_keys known entries = filter (λ key. not (is_known known key)) (keys_of entries)
 
 -- the lesser of two keys, and the least of some, by their bytes
 abbrev pub lesser : List ℕ → List ℕ → List ℕ
@@ -63,8 +67,8 @@ unfoldable pub shown : List ℕ → List ℕ
 shown path = take 80 (flat_map shown_byte path)
 
 -- the least unknown key of a table; paths in the table begin so
-unfoldable pub unknown_fault : (path : List ℕ) → List Rule → Members → Option SheetError
-unknown_fault path rules entries = option_map (λ key. error.Unknown (shown (path ++ key))) (least (unknown_keys rules entries))
+unfoldable pub unknown_fault : (path : List ℕ) → (known : List (List ℕ)) → Members → Option SheetError
+unknown_fault path known entries = option_map (λ key. error.Unknown (shown (path ++ key))) (least (unknown_keys known entries))
 
 -- the fault of a key: it is needed and missing, or its value isn't of its kind, or out of its range
 abbrev pub error_of : List ℕ → Wrong → SheetError
@@ -78,9 +82,13 @@ fault_of_value path rule (Some value) = option_map (error_of path) (wrong_in rul
 abbrev pub fault_of_key : (path : List ℕ) → Members → Rule → Option SheetError
 fault_of_key path entries rule = fault_of_value (path ++ rule.key) rule (get_member rule.key entries)
 
+-- the first fault of some keys, in their order
+abbrev pub fault_of_keys : (path : List ℕ) → Members → List Rule → Option SheetError
+fault_of_keys path entries rules = first_of (map (fault_of_key path entries) rules)
+
 -- the first fault of a table: the least unknown key, and then the keys in their order
 unfoldable pub fault_of_table : (path : List ℕ) → List Rule → Members → Option SheetError
-fault_of_table path rules entries = first_of (unknown_fault path rules entries ∷ map (fault_of_key path entries) rules)
+fault_of_table path rules entries = or_else (unknown_fault path (keys_in rules) entries) (fault_of_keys path entries rules)
 
 -- how paths begin in the table of a task, as `high[0].`
 abbrev pub task_path : List ℕ → ℕ → List ℕ
@@ -180,23 +188,27 @@ tasks_of document = highs_of document ++ lows_of document
 abbrev pub names_of : Members → List (List ℕ)
 names_of document = map (text_at (codes "name")) (tasks_of document)
 
--- the faults of the tables, of which each is looked at only where those before have none
-unfoldable pub faults_of_tables : Members → List (Option SheetError)
-faults_of_tables document =
+-- the first fault of the tables, of which each is looked at only where those before have none
+unfoldable pub fault_of_tables : Members → Option SheetError
+fault_of_tables document = first_of (
     fault_of_table [] top_rules document
     ∷ fault_of_table (codes "heap.") (heap_rules (is_second document)) (table_at (codes "heap") document)
-    ∷ faults_of_tasks (codes "high") (high_rules (number_at (codes "ticks") document)) 0 (highs_of document)
-    ++ faults_of_tasks (codes "low") (low_rules (number_at (codes "ticks") document)) 0 (lows_of document)
+    ∷ first_of (faults_of_tasks (codes "high") (task_rules true (number_at (codes "ticks") document)) 0 (highs_of document))
+    ∷ first_of (faults_of_tasks (codes "low") (task_rules false (number_at (codes "ticks") document)) 0 (lows_of document))
+    ∷ [])
+
+-- the first fault of what the tables say: of the names, the arrivals and the scripts of all tasks, and of the geometry
+unfoldable pub fault_of_contents : Members → Option SheetError
+fault_of_contents document = first_of (
+    first_of (faults_of_names [] 0 (names_of document))
+    ∷ first_of (map fault_of_high_arrivals (highs_of document) ++ map fault_of_low_arrivals (lows_of document))
+    ∷ first_of (map (fault_of_script (heap_of document)) (tasks_of document))
+    ∷ fault_of_geometry (sheet_in document)
+    ∷ [])
 
 -- the first fault of a document
 unfoldable pub fault_of : Members → Option SheetError
-fault_of document = first_of (
-    faults_of_tables document
-    ++ faults_of_names [] 0 (names_of document)
-    ++ map fault_of_high_arrivals (highs_of document)
-    ++ map fault_of_low_arrivals (lows_of document)
-    ++ map (fault_of_script (heap_of document)) (tasks_of document)
-    ++ fault_of_geometry (sheet_in document) ∷ [])
+fault_of document = or_else (fault_of_tables document) (fault_of_contents document)
 
 -- the sheet of a document, or its first fault
 abbrev pub unless_fault : Option SheetError → Sheet → Result Sheet SheetError

@@ -1,5 +1,5 @@
 -- The tables of a sheet and their keys: what each key may hold, and whether it is needed.
-use Rattle.std.specs.Prelude.{ℕ, ◌-◌, nat_le, nat_eq, Bool, true, false, not, ◌&&◌, ◌==◌, pos, List, [], ◌∷◌, ◌++◌, length, codes, is_some, Option, Some, None, if◌then◌else◌}
+use Rattle.std.specs.Prelude.{ℕ, ◌-◌, nat_le, nat_eq, Bool, true, false, not, ◌&&◌, ◌==◌, pos, List, [], ◌∷◌, ◌++◌, length, map, codes, is_some, Option, Some, None, if◌then◌else◌}
 use Rattle.std.specs.List.{list_all}
 use Rattle.toml.specs.Data.{Data, integer, array, Items, no_items, item, Members, get_member, as_integer, as_str, as_array, as_table}
 
@@ -65,6 +65,10 @@ needs key kind = record { key = key; kind = kind; needed = true }
 abbrev pub may_have : List ℕ → Kind → Rule
 may_have key kind = record { key = key; kind = kind; needed = false }
 
+-- the keys of some rules
+abbrev pub keys_in : List Rule → List (List ℕ)
+keys_in rules = map (λ (rule : Rule). rule.key) rules
+
 -- the number at a key, and 0 where there is none
 abbrev pub number_of : Data → ℕ
 number_of (integer (pos n)) = n
@@ -117,19 +121,22 @@ unfoldable pub arrival_rules : (ticks : ℕ) → (listed : Bool) → List Rule
 arrival_rules ticks true = needs (codes "arrivals") (ticks_of_run ticks) ∷ []
 arrival_rules ticks false = needs (codes "first") (number 0 16777216) ∷ needs (codes "every") (number 1 16777216) ∷ []
 
--- a high task of a run of so many ticks: its deadline is at most its period, and its jitter is below its deadline
-unfoldable pub high_rules : (ticks : ℕ) → Members → List Rule
-high_rules ticks entries =
-    needs (codes "name") text
-    ∷ needs (codes "period") (number 1 16777216)
+-- the times of a task, which only a high one has: its deadline is at most its period, and its jitter is below its deadline
+unfoldable pub time_rules : (high : Bool) → Members → List Rule
+time_rules true entries =
+    needs (codes "period") (number 1 16777216)
     ∷ needs (codes "deadline") (number 1 (number_at (codes "period") entries))
     ∷ needs (codes "cost") (number 1 16777216)
     ∷ needs (codes "words") (number 0 16777216)
     ∷ may_have (codes "jitter") (number 0 (number_at (codes "deadline") entries - 1))
     ∷ may_have (codes "lag") (number 0 16777216)
-    ∷ arrival_rules ticks (has_list entries)
-    ++ needs (codes "script") text ∷ []
+    ∷ []
+time_rules false entries = []
 
--- a low task
-unfoldable pub low_rules : (ticks : ℕ) → Members → List Rule
-low_rules ticks entries = needs (codes "name") text ∷ arrival_rules ticks (has_list entries) ++ needs (codes "script") text ∷ []
+-- when the jobs of a task arrive, and what they do
+abbrev pub job_rules : (ticks : ℕ) → (listed : Bool) → List Rule
+job_rules ticks listed = arrival_rules ticks listed ++ needs (codes "script") text ∷ []
+
+-- a task, high or low, of a run of so many ticks
+unfoldable pub task_rules : (high : Bool) → (ticks : ℕ) → Members → List Rule
+task_rules high ticks entries = needs (codes "name") text ∷ time_rules high entries ++ job_rules ticks (has_list entries)

@@ -1,14 +1,14 @@
 //! The keys of a table: what each of them holds, or its fault.
-ghost use Rattle.std.specs.Prelude.{◌≡◌, ◌≤◌, ◌++◌, not, filter, codes, is_some, option_map, None, Some, IfOk, MatchResult};
+ghost use Rattle.std.specs.Prelude.{◌≡◌, ◌≤◌, ◌++◌, codes, is_some, option_map, None, Some, IfOk, MatchResult};
 ghost use Rattle.std.specs.List.{list_any};
 ghost use Rattle.std.specs.Str.{bytes_eq};
 ghost use Rattle.toml.specs.Data.{get_member};
 ghost use Rattle.toml.specs.View.{view, table_view};
 ghost use Rattle.hk_sheet.specs.Rules.{number, pair, ticks_of_run, text, one_table, tables, needs, may_have, number_at};
 ghost use Rattle.hk_sheet.specs.Reading.{text_at, table_at, tables_at, numbers_at, first_of_pair, second_of_pair};
-ghost use Rattle.hk_sheet.specs.Faults.{fault_of_key};
+ghost use Rattle.hk_sheet.specs.Faults.{is_known, unknown_keys, least, unknown_fault, fault_of_key};
 ghost use Rattle.hk_sheet.specs.declared.error.SheetError.TheVariants.{Missing};
-ghost use Rattle.hk_sheet.specs.Code.{seen, texts, is_listed, unlisted, fault_of_unlisted, fault_of_wrong, Refuses, Checks, Gives, Shows};
+ghost use Rattle.hk_sheet.specs.Code.{seen, texts, fault_of_wrong, Refuses, Checks, Gives, Shows};
 
 use crate::paths::{key_at, shown_at};
 use crate::values::{Wrong, number_in, pair_in, table_in, tables_in, text_in, ticks_in};
@@ -37,9 +37,9 @@ fn is_among(listed: &[&str], key: &str) -> bool
 }
 
 /// Whether a key is one of some or of some more.
-#[tactic(auto, unfolding(crate::specs::Code::is_listed))]
+#[tactic(auto, unfolding(crate::specs::Faults::is_known))]
 fn is_listed(own: &[&str], more: &[&str], key: &str) -> bool
-    ensures { result ≡ is_listed (texts own.now) (texts more.now) key.now }
+    ensures { result ≡ is_known (texts own.now ++ texts more.now) key.now }
 {
     is_among(own, key) || is_among(more, key)
 }
@@ -61,7 +61,7 @@ impl<'a> Keys<'a> {
 
     /// The least key that is none of these. The keys of a table ascend, so it is the first one.
     fn unlisted(&self, own: &[&str], more: &[&str]) -> Option<&'a str>
-        ensures { option_map (λ key. key.now) result ≡ unlisted (texts own.now) (texts more.now) (table_view self.now.table.now) }
+        ensures { option_map (λ key. key.now) result ≡ least (unknown_keys (texts own.now ++ texts more.now) (table_view self.now.table.now)) }
     {
         let table = self.table;
         for key in table.keys() {
@@ -73,8 +73,9 @@ impl<'a> Keys<'a> {
     }
 
     /// Checks that there are no other keys than these.
+    #[tactic(auto, unfolding(crate::specs::Faults::unknown_fault))]
     pub(crate) fn only(&self, own: &[&str], more: &[&str]) -> Result<(), SheetError>
-        ensures { Checks (fault_of_unlisted self.now.path.now (unlisted (texts own.now) (texts more.now) (table_view self.now.table.now))) result }
+        ensures { Checks (unknown_fault self.now.path.now (texts own.now ++ texts more.now) (table_view self.now.table.now)) result }
     {
         match self.unlisted(own, more) {
             Some(key) => Err(SheetError::Unknown(shown_at(self.alloc, self.path, key)?)),

@@ -1,12 +1,13 @@
 //! A sheet as its tables say it, before the names, the arrivals, the scripts and the geometry are judged.
-ghost use Rattle.std.specs.Prelude.{◌≡◌, ◌≤◌, [], codes, map, All, IfOk};
+ghost use Rattle.std.specs.Prelude.{◌≡◌, ℕ, ◌≤◌, ◌++◌, [], ◌∷◌, codes, map, All, IfOk};
+ghost use Rattle.toml.specs.Data.{Members};
 ghost use Rattle.toml.specs.View.{table_view};
 ghost use Rattle.hk_script.specs.Limits.{limits_of};
 ghost use Rattle.hk_script.specs.Texts.{script_of};
-ghost use Rattle.hk_sheet.specs.Rules.{text, needs, has_list, arrival_rules, register_rules, top_rules};
+ghost use Rattle.hk_sheet.specs.Rules.{text, needs, keys_in, has_list, arrival_rules, register_rules, time_rules, job_rules, task_rules, heap_rules, top_rules};
 ghost use Rattle.hk_sheet.specs.Reading.{text_at, registers_in, arrivals_in, heap_in};
-ghost use Rattle.hk_sheet.specs.Faults.{fault_of_key, fault_of_table};
-ghost use Rattle.hk_sheet.specs.Raw.{times_in, raw_high, raw_low, time_rules, last_keys, register_keys, fault_of_keys, heap_fault, high_fault, low_fault, fault_of_each, raw_fault, Fits64, IsFitHigh, IsFitLow, IsTop, IsRaw};
+ghost use Rattle.hk_sheet.specs.Faults.{first_of, fault_of_key, fault_of_keys, fault_of_table, faults_of_tasks, fault_of_tables};
+ghost use Rattle.hk_sheet.specs.Raw.{times_in, raw_task, Fits64, IsFit, IsTop, IsRaw};
 ghost use Rattle.hk_sheet.specs.Valid.{IsHeap};
 ghost use Rattle.hk_sheet.specs.Code.{seen, texts, Checks, Gives, Shows};
 
@@ -18,7 +19,7 @@ use crate::sheet::{HeapKeys, MAX_BOARD, MAX_RATE, MAX_SIZE, MAX_TICKS, Name};
 use hk_rta::Timing;
 use hk_script::{Script, ScriptError, parse_in};
 use hk_words::{MAX_FIELDS, MAX_REGISTERS, MIN_REGISTERS, REGISTERS, USUAL_FIELDS};
-use std::alloc::Global;
+use std::alloc::{AllocError, Global};
 use toml::Table;
 
 /// The times of a high task in ticks, the most words that one of its jobs takes, and how many ticks longer each job is
@@ -40,35 +41,42 @@ pub(crate) struct Top<'a> {
     pub(crate) lows: Vec<&'a Table>,
 }
 
-/// A high task as its table says it. Its script is what the text spells, or why it spells none.
+/// A task as its table says it; a high one has times. Its script is what the text spells, or why it spells none.
 #[derive(Drop)]
-pub(crate) struct RawHigh {
+pub(crate) struct RawTask {
     pub(crate) name: Name,
-    pub(crate) times: Times,
+    pub(crate) times: Option<Times>,
     pub(crate) arrivals: Arrivals,
     pub(crate) script: Result<Script, ScriptError>,
 }
 
-/// A low task as its table says it, with its script likewise.
-#[derive(Drop)]
-pub(crate) struct RawLow {
-    pub(crate) name: Name,
-    pub(crate) arrivals: Arrivals,
-    pub(crate) script: Result<Script, ScriptError>,
-}
-
-/// A sheet as its tables say it: every key is known and there, of its kind and in its range.
+/// A sheet as its tables say it, the high tasks before the low ones: every key is known and there, of its kind and in its
+/// range.
 #[derive(Drop)]
 pub(crate) struct RawSheet {
     pub(crate) ticks: u64,
     pub(crate) heap: HeapKeys,
-    pub(crate) highs: Vec<RawHigh>,
-    pub(crate) lows: Vec<RawLow>,
+    pub(crate) tasks: Vec<RawTask>,
 }
 
-/// The keys of a task behind its own ones: when its jobs arrive, in a list or not, and what they do.
+/// The first keys of a task, high or low: its name, and the times of a high one.
+#[tactic(auto, unfolding(crate::specs::Rules::time_rules))]
+fn first_keys(high: bool) -> &'static [&'static str]
+    ensures { (entries : Members) → texts result.now ≡ keys_in (needs (codes "name") text ∷ time_rules high entries) }
+{
+    if high {
+        &[
+            "name", "period", "deadline", "cost", "words", "jitter", "lag",
+        ]
+    } else {
+        &["name"]
+    }
+}
+
+/// The keys of a task behind them: when its jobs arrive, in a list or not, and what they do.
+#[tactic(auto, unfolding(crate::specs::Rules::arrival_rules))]
 fn last_keys(listed: bool) -> &'static [&'static str]
-    ensures { texts result.now ≡ last_keys listed }
+    ensures { (ticks : ℕ) → texts result.now ≡ keys_in (job_rules ticks listed) }
 {
     if listed {
         &["arrivals", "script"]
@@ -78,31 +86,36 @@ fn last_keys(listed: bool) -> &'static [&'static str]
 }
 
 /// The key of the registers, which a sheet of version 2 has.
+#[tactic(auto, unfolding(crate::specs::Rules::register_rules))]
 fn register_keys(second: bool) -> &'static [&'static str]
-    ensures { texts result.now ≡ register_keys second }
+    ensures { texts result.now ≡ keys_in (register_rules second) }
 {
     if second { &["registers"] } else { &[] }
 }
 
 impl Keys<'_> {
-    /// The times of a high task.
-    #[tactic(auto, unfolding(crate::specs::Raw::time_rules, crate::specs::Raw::times_in, crate::specs::Reading::timing_in))]
-    fn times(&self) -> Result<Times, SheetError>
-        ensures { let entries = table_view self.now.table.now in Gives (fault_of_keys self.now.path.now entries (time_rules entries)) (times_in entries) result }
+    /// The times of a task, which only a high one has.
+    #[tactic(auto, unfolding(crate::specs::Rules::time_rules, crate::specs::Raw::times_in, crate::specs::Reading::timing_in))]
+    fn times(&self, high: bool) -> Result<Option<Times>, SheetError>
+        ensures { let entries = table_view self.now.table.now in Gives (fault_of_keys self.now.path.now entries (time_rules high entries)) (times_in high entries) result }
     {
-        let period = self.number("period", 1, MAX_TICKS)?;
-        let deadline = self.number("deadline", 1, period)?;
-        let cost = self.number("cost", 1, MAX_TICKS)?;
-        let words = self.number("words", 0, MAX_TICKS)?;
-        let jitter = self.number_or_0("jitter", deadline - 1)?;
-        let lag = self.number_or_0("lag", MAX_TICKS)?;
-        let timing = Timing {
-            cost,
-            period,
-            deadline,
-            jitter,
-        };
-        Ok(Times { timing, words, lag })
+        if high {
+            let period = self.number("period", 1, MAX_TICKS)?;
+            let deadline = self.number("deadline", 1, period)?;
+            let cost = self.number("cost", 1, MAX_TICKS)?;
+            let words = self.number("words", 0, MAX_TICKS)?;
+            let jitter = self.number_or_0("jitter", deadline - 1)?;
+            let lag = self.number_or_0("lag", MAX_TICKS)?;
+            let timing = Timing {
+                cost,
+                period,
+                deadline,
+                jitter,
+            };
+            Ok(Some(Times { timing, words, lag }))
+        } else {
+            Ok(None)
+        }
     }
 
     /// When the jobs of a task arrive, in a run of so many ticks.
@@ -132,6 +145,25 @@ impl Keys<'_> {
         }
     }
 
+    /// A task, high or low, beside this heap, in a run of so many ticks.
+    fn task(&self, high: bool, run: u64, heap: &HeapKeys) -> Result<RawTask, SheetError>
+        requires { IsHeap heap.now }
+        ensures read { let entries = table_view self.now.table.now in Gives (fault_of_table self.now.path.now (task_rules high run entries) entries) (raw_task high heap.now entries) result }
+        ensures fits { IfOk result IsFit }
+    {
+        self.only(first_keys(high), last_keys(self.has("arrivals")))?;
+        let name = self.name("name")?;
+        let times = self.times(high)?;
+        let arrivals = self.arrivals(run)?;
+        let script = self.script(heap)?;
+        Ok(RawTask {
+            name,
+            times,
+            arrivals,
+            script,
+        })
+    }
+
     /// The registers of a task, in a sheet of version 2 or of another.
     #[tactic(auto, unfolding(crate::specs::Rules::register_rules))]
     fn registers(&self, second: bool) -> Result<u64, SheetError>
@@ -146,103 +178,44 @@ impl Keys<'_> {
     }
 }
 
-/// A high task beside this heap, in a run of so many ticks. Paths in its table begin so.
-#[tactic(auto, unfolding(crate::specs::Raw::high_fault, crate::specs::Raw::raw_high))]
-fn raw_high<'a>(
+/// The tasks of one kind, high or low, beside this heap, in a run of so many ticks.
+fn raw_tasks(
     alloc: Global,
-    path: &'a str,
-    run: u64,
-    heap: &HeapKeys,
-    table: &'a Table,
-) -> Result<RawHigh, SheetError>
-    requires { IsHeap heap.now }
-    ensures read { let entries = table_view table.now in Gives (high_fault run path.now entries) (raw_high heap.now entries) result }
-    ensures fits { IfOk result IsFitHigh }
-{
-    let keys = Keys { alloc, path, table };
-    let own = [
-        "name", "period", "deadline", "cost", "words", "jitter", "lag",
-    ];
-    keys.only(&own, last_keys(keys.has("arrivals")))?;
-    let name = keys.name("name")?;
-    let times = keys.times()?;
-    let arrivals = keys.arrivals(run)?;
-    let script = keys.script(heap)?;
-    Ok(RawHigh {
-        name,
-        times,
-        arrivals,
-        script,
-    })
-}
-
-/// A low task beside this heap, in a run of so many ticks. Paths in its table begin so.
-#[tactic(auto, unfolding(crate::specs::Raw::low_fault, crate::specs::Raw::raw_low))]
-fn raw_low<'a>(
-    alloc: Global,
-    path: &'a str,
-    run: u64,
-    heap: &HeapKeys,
-    table: &'a Table,
-) -> Result<RawLow, SheetError>
-    requires { IsHeap heap.now }
-    ensures read { let entries = table_view table.now in Gives (low_fault run path.now entries) (raw_low heap.now entries) result }
-    ensures fits { IfOk result IsFitLow }
-{
-    let keys = Keys { alloc, path, table };
-    keys.only(&["name"], last_keys(keys.has("arrivals")))?;
-    let name = keys.name("name")?;
-    let arrivals = keys.arrivals(run)?;
-    let script = keys.script(heap)?;
-    Ok(RawLow {
-        name,
-        arrivals,
-        script,
-    })
-}
-
-/// The high tasks beside this heap, in a run of so many ticks.
-fn raw_highs(
-    alloc: Global,
+    kind: &str,
+    high: bool,
     run: u64,
     heap: &HeapKeys,
     tables: &[&Table],
-) -> Result<Vec<RawHigh>, SheetError>
+) -> Result<Vec<RawTask>, SheetError>
     requires { IsHeap heap.now }
-    ensures read { Shows (λ v. v.items) (fault_of_each (codes "high") (high_fault run) 0 (seen tables.now)) (map (raw_high heap.now) (seen tables.now)) result }
-    ensures fits { IfOk result (λ v. All IsFitHigh v.items) }
+    ensures read { Shows (λ v. v.items) (first_of (faults_of_tasks kind.now (task_rules high run) 0 (seen tables.now))) (map (raw_task high heap.now) (seen tables.now)) result }
+    ensures fits { IfOk result (λ v. All IsFit v.items) }
 {
     let mut tasks = Vec::with_capacity(alloc, tables.len())?;
     for (index, table) in tables.iter().enumerate() {
-        let path = task_path(alloc, "high", index)?;
-        tasks.push(raw_high(alloc, path.as_str(), run, heap, table)?)?;
+        let path = task_path(alloc, kind, index)?;
+        let keys = Keys {
+            alloc,
+            path: path.as_str(),
+            table,
+        };
+        tasks.push(keys.task(high, run, heap)?)?;
     }
     Ok(tasks)
 }
 
-/// The low tasks beside this heap, in a run of so many ticks.
-fn raw_lows(
-    alloc: Global,
-    run: u64,
-    heap: &HeapKeys,
-    tables: &[&Table],
-) -> Result<Vec<RawLow>, SheetError>
-    requires { IsHeap heap.now }
-    ensures read { Shows (λ v. v.items) (fault_of_each (codes "low") (low_fault run) 0 (seen tables.now)) (map (raw_low heap.now) (seen tables.now)) result }
-    ensures fits { IfOk result (λ v. All IsFitLow v.items) }
+/// Some tasks, and others behind them.
+fn joined(mut tasks: Vec<RawTask>, more: Vec<RawTask>) -> Result<Vec<RawTask>, AllocError>
+    ensures { IfOk result (λ v. v.items ≡ tasks.items ++ more.items) }
 {
-    let mut tasks = Vec::with_capacity(alloc, tables.len())?;
-    for (index, table) in tables.iter().enumerate() {
-        let path = task_path(alloc, "low", index)?;
-        tasks.push(raw_low(alloc, path.as_str(), run, heap, table)?)?;
-    }
+    tasks.extend(more)?;
     Ok(tasks)
 }
 
 /// The heap, in a sheet of version 2 or of another.
-#[tactic(auto, unfolding(crate::specs::Raw::heap_fault, crate::specs::Raw::size_rules, crate::specs::Reading::heap_in))]
+#[tactic(auto, unfolding(crate::specs::Faults::fault_of_table, crate::specs::Rules::heap_rules, crate::specs::Reading::heap_in))]
 fn heap_in(alloc: Global, second: bool, table: &Table) -> Result<HeapKeys, SheetError>
-    ensures { Gives (heap_fault second (table_view table.now)) (heap_in second (table_view table.now)) result }
+    ensures { Gives (fault_of_table (codes "heap.") (heap_rules second) (table_view table.now)) (heap_in second (table_view table.now)) result }
 {
     let keys = Keys {
         alloc,
@@ -270,7 +243,7 @@ fn heap_in(alloc: Global, second: bool, table: &Table) -> Result<HeapKeys, Sheet
 }
 
 /// What a document says of its own keys.
-#[tactic(auto, unfolding(crate::specs::Faults::fault_of_table, crate::specs::Faults::unknown_fault, crate::specs::Rules::top_rules, crate::specs::Code::is_listed))]
+#[tactic(auto, unfolding(crate::specs::Faults::fault_of_table, crate::specs::Rules::top_rules))]
 fn top_in(alloc: Global, document: &Table) -> Result<Top<'_>, SheetError>
     ensures fault { Checks (fault_of_table [] top_rules (table_view document.now)) result }
     ensures read { IfOk result (IsTop (table_view document.now)) }
@@ -296,19 +269,18 @@ fn top_in(alloc: Global, document: &Table) -> Result<Top<'_>, SheetError>
 }
 
 /// A sheet as the tables of a document say it, or their first fault.
-#[tactic(auto, unfolding(crate::specs::Raw::raw_fault))]
+#[tactic(auto, unfolding(crate::specs::Faults::fault_of_tables))]
 pub(crate) fn raw_sheet(alloc: Global, document: &Table) -> Result<RawSheet, SheetError>
-    ensures fault { Checks (raw_fault (table_view document.now)) result }
+    ensures fault { Checks (fault_of_tables (table_view document.now)) result }
     ensures read { IfOk result (IsRaw (table_view document.now)) }
 {
     let top = top_in(alloc, document)?;
     let heap = heap_in(alloc, top.second, top.heap)?;
-    let highs = raw_highs(alloc, top.ticks, &heap, &top.highs)?;
-    let lows = raw_lows(alloc, top.ticks, &heap, &top.lows)?;
+    let highs = raw_tasks(alloc, "high", true, top.ticks, &heap, &top.highs)?;
+    let lows = raw_tasks(alloc, "low", false, top.ticks, &heap, &top.lows)?;
     Ok(RawSheet {
         ticks: top.ticks,
         heap,
-        highs,
-        lows,
+        tasks: joined(highs, lows)?,
     })
 }

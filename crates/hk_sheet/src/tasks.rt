@@ -1,16 +1,16 @@
 //! What is judged of a sheet when its tables are read: the names, the arrivals and the scripts of all tasks, and the
 //! geometry.
-ghost use Rattle.std.specs.Prelude.{◌≡◌, ◌+◌, ◌<◌, ◌^◌, [], map, All, IfOk};
+ghost use Rattle.std.specs.Prelude.{◌≡◌, ◌+◌, ◌<◌, ◌^◌, ◌++◌, [], map, All, IfOk};
 ghost use Rattle.std.specs.List.{list_all};
 ghost use Rattle.hk_sheet.specs.declared.arrivals.Arrivals.TheVariants.{Every};
 ghost use Rattle.hk_sheet.specs.Faults.{first_of, is_name_byte, is_name, counted, faults_of_names, faults_of_ticks, fault_of_arrivals, fault_of_geometry};
 ghost use Rattle.hk_sheet.specs.Valid.{IsHeap};
-ghost use Rattle.hk_sheet.specs.Raw.{Fits64, IsFitHigh, IsFitLow, raw_names, high_gap_fault, low_gap_fault, high_script_fault, low_script_fault, high_of, low_of, sheet_of_raw, judged_fault};
-ghost use Rattle.hk_sheet.specs.Code.{texts, Checks, Gives};
+ghost use Rattle.hk_sheet.specs.Raw.{raw_names, Fits64, IsFit, gap_with, gap_fault, script_fault, high_with, low_with, highs_among, lows_among, sheet_of_raw, judged_fault};
+ghost use Rattle.hk_sheet.specs.Code.{Checks, Gives};
 
 use crate::SheetError;
 use crate::arrivals::Arrivals;
-use crate::raw::{RawHigh, RawLow, RawSheet};
+use crate::raw::{RawSheet, RawTask};
 use crate::sheet::{High, Highs, Low, Lows, MAX_NAME, Name, Sheet};
 use std::alloc::{AllocError, Global};
 use std::collections::BTreeSet;
@@ -39,24 +39,6 @@ fn is_name(bytes: &[u8]) -> bool
     first.is_ascii_lowercase() && are_name_bytes(rest) && bytes.len() <= MAX_NAME
 }
 
-/// The names of the high tasks and the low ones.
-fn names<'a>(
-    alloc: Global,
-    highs: &'a [RawHigh],
-    lows: &'a [RawLow],
-) -> Result<Vec<&'a [u8]>, AllocError>
-    ensures { IfOk result (λ v. texts v.items ≡ raw_names highs.now lows.now) }
-{
-    let mut names = Vec::new(alloc);
-    for task in highs {
-        names.push(task.name.items.as_slice())?;
-    }
-    for task in lows {
-        names.push(task.name.items.as_slice())?;
-    }
-    Ok(names)
-}
-
 /// A count as an error shows it.
 fn counted(number: u64) -> u32
     ensures { result ≡ counted number }
@@ -64,25 +46,18 @@ fn counted(number: u64) -> u32
     number.min(u32::MAX.into()) as u32
 }
 
-/// Checks that each name is one, and none that stands before.
-fn check_names(alloc: Global, names: &[&[u8]]) -> Result<(), SheetError>
-    ensures { Checks (first_of (faults_of_names [] 0 (texts names.now))) result }
+/// Checks that the name of each task is one, and none that stands before.
+fn check_names(alloc: Global, tasks: &[RawTask]) -> Result<(), SheetError>
+    ensures { Checks (first_of (faults_of_names [] 0 (raw_names tasks.now))) result }
 {
     let mut earlier = BTreeSet::new(alloc);
-    for (index, name) in names.iter().enumerate() {
-        if !is_name(name) || !earlier.insert(*name)? {
+    for (index, task) in tasks.iter().enumerate() {
+        let name = task.name.items.as_slice();
+        if !is_name(name) || !earlier.insert(name)? {
             return Err(SheetError::Name(counted(index as u64)));
         }
     }
     Ok(())
-}
-
-/// Checks the names of the high tasks and the low ones.
-fn check_task_names(alloc: Global, highs: &[RawHigh], lows: &[RawLow]) -> Result<(), SheetError>
-    ensures { Checks (first_of (faults_of_names [] 0 (raw_names highs.now lows.now))) result }
-{
-    let names = names(alloc, highs, lows)?;
-    check_names(alloc, &names)
 }
 
 /// A name once more.
@@ -143,90 +118,71 @@ fn check_gaps(alloc: Global, task: &Name, gap: u64, arrivals: &Arrivals) -> Resu
     }
 }
 
-/// Checks that the arrivals of each high task are its period apart.
-fn check_high_gaps(alloc: Global, tasks: &[RawHigh]) -> Result<(), SheetError>
-    requires { All IsFitHigh tasks.now }
-    ensures { Checks (first_of (map high_gap_fault tasks.now)) result }
+/// How far apart the arrivals of a task are at least: its period, or one tick.
+fn gap(task: &RawTask) -> u64
+    ensures { result ≡ gap_with task.now.times }
+{
+    match &task.times {
+        Some(times) => times.timing.period,
+        None => 1,
+    }
+}
+
+/// Checks that the arrivals of each task are its gap apart.
+fn check_all_gaps(alloc: Global, tasks: &[RawTask]) -> Result<(), SheetError>
+    requires { All IsFit tasks.now }
+    ensures { Checks (first_of (map gap_fault tasks.now)) result }
 {
     for task in tasks {
-        check_gaps(alloc, &task.name, task.times.timing.period, &task.arrivals)?;
+        check_gaps(alloc, &task.name, gap(task), &task.arrivals)?;
     }
     Ok(())
 }
 
-/// Checks that the arrivals of each low task rise.
-fn check_low_gaps(alloc: Global, tasks: &[RawLow]) -> Result<(), SheetError>
-    requires { All IsFitLow tasks.now }
-    ensures { Checks (first_of (map low_gap_fault tasks.now)) result }
+/// Adds a task, of which the script is judged, to the high ones or the low ones.
+fn add_task(highs: &mut Vec<High>, lows: &mut Vec<Low>, task: RawTask) -> Result<(), SheetError>
+    ensures fault { Checks (script_fault task) result }
+    ensures highs { IfOk result (λ _. highs.new.items ≡ highs.old.items ++ high_with task task.times) }
+    ensures lows { IfOk result (λ _. lows.new.items ≡ lows.old.items ++ low_with task task.times) }
 {
-    for task in tasks {
-        check_gaps(alloc, &task.name, 1, &task.arrivals)?;
-    }
-    Ok(())
-}
-
-/// A high task, of which the script is judged.
-fn judged_high(raw: RawHigh) -> Result<High, SheetError>
-    ensures { Gives (high_script_fault raw) (high_of raw) result }
-{
-    let RawHigh {
+    let RawTask {
         name,
         times,
         arrivals,
         script,
-    } = raw;
-    match script {
-        Ok(script) => Ok(High {
+    } = task;
+    let script = match script {
+        Ok(script) => script,
+        Err(error) => return Err(SheetError::Script(name, error)),
+    };
+    match times {
+        Some(times) => highs.push(High {
             name,
             timing: times.timing,
             words: times.words,
             lag: times.lag,
             arrivals,
             script,
-        }),
-        Err(error) => Err(SheetError::Script(name, error)),
-    }
-}
-
-/// A low task, of which the script is judged.
-fn judged_low(raw: RawLow) -> Result<Low, SheetError>
-    ensures { Gives (low_script_fault raw) (low_of raw) result }
-{
-    let RawLow {
-        name,
-        arrivals,
-        script,
-    } = raw;
-    match script {
-        Ok(script) => Ok(Low {
+        })?,
+        None => lows.push(Low {
             name,
             arrivals,
             script,
-        }),
-        Err(error) => Err(SheetError::Script(name, error)),
+        })?,
     }
+    Ok(())
 }
 
-/// The high tasks, of which the scripts are judged.
-fn judged_highs(alloc: Global, tasks: Vec<RawHigh>) -> Result<Highs, SheetError>
-    ensures { Gives (first_of (map high_script_fault tasks.items)) (map high_of tasks.items) result }
+/// The high tasks and the low ones among some, of which the scripts are judged.
+fn judged_tasks(alloc: Global, tasks: Vec<RawTask>) -> Result<(Highs, Lows), SheetError>
+    ensures { Gives (first_of (map script_fault tasks.items)) (highs_among tasks.items, lows_among tasks.items) result }
 {
-    let mut items = Vec::with_capacity(alloc, tasks.len())?;
+    let mut highs = Vec::new(alloc);
+    let mut lows = Vec::new(alloc);
     for task in tasks {
-        items.push(judged_high(task)?)?;
+        add_task(&mut highs, &mut lows, task)?;
     }
-    Ok(Highs { items })
-}
-
-/// The low tasks, of which the scripts are judged.
-fn judged_lows(alloc: Global, tasks: Vec<RawLow>) -> Result<Lows, SheetError>
-    ensures { Gives (first_of (map low_script_fault tasks.items)) (map low_of tasks.items) result }
-{
-    let mut items = Vec::with_capacity(alloc, tasks.len())?;
-    for task in tasks {
-        items.push(judged_low(task)?)?;
-    }
-    Ok(Lows { items })
+    Ok((Highs { items: highs }, Lows { items: lows }))
 }
 
 /// Checks that the heap and the tasks of a sheet are a geometry.
@@ -245,18 +201,17 @@ fn check_geometry(sheet: &Sheet) -> Result<(), SheetError>
 #[tactic(auto, unfolding(crate::specs::Raw::judged_fault))]
 pub(crate) fn judged(alloc: Global, raw: RawSheet) -> Result<Sheet, SheetError>
     requires right { IsHeap raw.heap }
-    requires fit_highs { All IsFitHigh raw.highs.items }
-    requires fit_lows { All IsFitLow raw.lows.items }
+    requires fit { All IsFit raw.tasks.items }
     ensures { Gives (judged_fault raw) (sheet_of_raw raw) result }
 {
-    check_task_names(alloc, &raw.highs, &raw.lows)?;
-    check_high_gaps(alloc, &raw.highs)?;
-    check_low_gaps(alloc, &raw.lows)?;
+    check_names(alloc, &raw.tasks)?;
+    check_all_gaps(alloc, &raw.tasks)?;
+    let (high, low) = judged_tasks(alloc, raw.tasks)?;
     let sheet = Sheet {
         ticks: raw.ticks,
         heap: raw.heap,
-        high: judged_highs(alloc, raw.highs)?,
-        low: judged_lows(alloc, raw.lows)?,
+        high,
+        low,
     };
     check_geometry(&sheet)?;
     Ok(sheet)

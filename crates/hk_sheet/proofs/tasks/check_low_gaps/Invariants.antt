@@ -1,8 +1,0 @@
-use Rattle.std.proofs.Common.{◌≡◌, drop, map}
-use Rattle.hk_sheet.specs.Faults.{first_of}
-use Rattle.hk_sheet.specs.Raw.{low_gap_fault}
-use Rattle.hk_sheet.proofs.tasks.check_low_gaps.Given as goal
-
--- the first fault is that of the tasks that are left
-abbrev pub invariant-loop-task : goal.invariant-loop-task
-invariant-loop-task l = first_of (map low_gap_fault (drop l.task-index l.tasks)) ≡ first_of (map low_gap_fault l.tasks)

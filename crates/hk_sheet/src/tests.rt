@@ -7,9 +7,11 @@ mod ranges;
 mod tasks;
 mod versions;
 
-use crate::{SheetError, read};
+ghost use Rattle.hk_sheet.specs.Valid.{IsSheet};
+
+use crate::{HeapKeys, High, Low, Sheet, SheetError, read};
 use hk_script::ScriptError;
-use hk_words::GeoError;
+use hk_words::{GeoError, Geometry};
 use std::alloc::{AllocError, Global};
 use std::process::Abort;
 use std::test::Fail;
@@ -95,50 +97,63 @@ fn geometry_word(error: GeoError) -> &'static str {
     }
 }
 
-/// The refusal that a text gets, without its first word, and `read` where it is a sheet.
-fn answer(alloc: Global, text: &[u8]) -> Result<String, AllocError> {
-    let error = match read(alloc, text) {
-        Ok(_) => return String::from_str(alloc, "read"),
-        Err(error) => error,
-    };
+/// A word with a key or the name of a task behind it.
+fn line(alloc: Global, word: &str, bytes: &[u8]) -> Result<String, AllocError> {
+    let shown = show(alloc, bytes)?;
+    format!(in alloc; "{word} {shown}")
+}
+
+/// Arrivals of a task that come too close, as a refusal says it.
+fn arrivals_line(
+    alloc: Global,
+    task: &[u8],
+    place: u32,
+    earlier: u64,
+    later: u64,
+) -> Result<String, AllocError> {
+    let task = show(alloc, task)?;
+    format!(in alloc; "arrivals {task} {place} {earlier} {later}")
+}
+
+/// The script of a task that is none, as a refusal says it.
+fn task_line(alloc: Global, task: &[u8], error: ScriptError) -> Result<String, AllocError> {
+    let task = show(alloc, task)?;
+    let error = script_line(alloc, error)?;
+    format!(in alloc; "script {task} {error}")
+}
+
+/// Why sizes are no geometry, as a whole refusal.
+fn geometry_line(alloc: Global, error: GeoError) -> Result<String, AllocError> {
+    let word = geometry_word(error);
+    format!(in alloc; "geometry {word}")
+}
+
+/// A refusal, without its first word.
+fn refusal(alloc: Global, error: &SheetError) -> Result<String, AllocError> {
     match error {
         SheetError::Text => String::from_str(alloc, "text"),
-        SheetError::Missing(key) => {
-            let key = show(alloc, &key.items)?;
-            format!(in alloc; "missing {key}")
-        }
-        SheetError::Unknown(key) => {
-            let key = show(alloc, &key.items)?;
-            format!(in alloc; "unknown {key}")
-        }
-        SheetError::Kind(key) => {
-            let key = show(alloc, &key.items)?;
-            format!(in alloc; "kind {key}")
-        }
-        SheetError::Range(key) => {
-            let key = show(alloc, &key.items)?;
-            format!(in alloc; "range {key}")
-        }
+        SheetError::Missing(key) => line(alloc, "missing", &key.items),
+        SheetError::Unknown(key) => line(alloc, "unknown", &key.items),
+        SheetError::Kind(key) => line(alloc, "kind", &key.items),
+        SheetError::Range(key) => line(alloc, "range", &key.items),
         SheetError::Name(index) => format!(in alloc; "name {index}"),
         SheetError::Arrivals {
             task,
             place,
             earlier,
             later,
-        } => {
-            let task = show(alloc, &task.items)?;
-            format!(in alloc; "arrivals {task} {place} {earlier} {later}")
-        }
-        SheetError::Script(task, error) => {
-            let task = show(alloc, &task.items)?;
-            let error = script_line(alloc, error)?;
-            format!(in alloc; "script {task} {error}")
-        }
-        SheetError::Geometry(error) => {
-            let word = geometry_word(error);
-            format!(in alloc; "geometry {word}")
-        }
+        } => arrivals_line(alloc, &task.items, *place, *earlier, *later),
+        SheetError::Script(task, error) => task_line(alloc, &task.items, *error),
+        SheetError::Geometry(error) => geometry_line(alloc, *error),
         SheetError::Memory => Err(AllocError),
+    }
+}
+
+/// The refusal that a text gets, without its first word, and `read` where it is a sheet.
+fn answer(alloc: Global, text: &[u8]) -> Result<String, AllocError> {
+    match read(alloc, text) {
+        Ok(_) => String::from_str(alloc, "read"),
+        Err(error) => refusal(alloc, &error),
     }
 }
 
@@ -277,42 +292,74 @@ fn refuses_what_is_not_text(rt: HostRuntime) -> Result<(), Fail> {
     Ok(())
 }
 
+/// The numbers of the heap of the sheet.
+const KEYS: HeapKeys = HeapKeys {
+    live: 62,
+    alloc: 512,
+    reserve: 129,
+    rate: 11,
+    refs: 2,
+    nums: 3,
+    registers: 8,
+    fields: 62,
+};
+
+/// A task is the high one of the sheet.
+fn expect_high(rt: &impl Abort, high: &High) {
+    let timing = high.timing;
+    assert_eq!(rt;
+        (
+            high.name.items.as_slice(),
+            [timing.period, timing.deadline, timing.cost, high.words],
+            [high.arrivals.at(0), high.arrivals.at(2)],
+            high.script.statements().len()
+        ),
+        (b"a".as_slice(), [10, 9, 8, 7], [Some(6), Some(28)], 1)
+    );
+}
+
+/// A task is the first low one of the sheet.
+fn expect_low(rt: &impl Abort, low: &Low) {
+    assert_eq!(rt;
+        (
+            low.name.items.as_slice(),
+            [low.arrivals.at(2), low.arrivals.at(3)]
+        ),
+        (b"b".as_slice(), [Some(9), None])
+    );
+}
+
+/// A geometry is the one of the sheet.
+fn expect_geometry(rt: &impl Abort, geometry: Geometry) {
+    let board = geometry.board();
+    assert_eq!(rt;
+        (
+            [geometry.live(), geometry.alloc(), geometry.reserve()],
+            [geometry.high(), geometry.low()],
+            [board.refs(), board.nums()]
+        ),
+        ([62, 512, 129], [1, 2], [2, 3])
+    );
+}
+
+/// The values of the sheet.
+fn expect_values(rt: &impl Abort, sheet: &Sheet)
+    requires { IsSheet sheet.now }
+{
+    assert_eq!(rt; (sheet.ticks, sheet.heap), (100, KEYS));
+    match (sheet.high.items.as_slice(), sheet.low.items.as_slice()) {
+        ([high], [low, _]) => {
+            expect_high(rt, high);
+            expect_low(rt, low);
+        }
+        _ => panic!(rt; "a high task and two low ones"),
+    }
+    expect_geometry(rt, sheet.geometry());
+}
+
 #[test]
 fn reads_each_value(rt: HostRuntime) -> Result<(), Fail> {
-    let sheet = read(rt.alloc(), SHEET.as_bytes())?;
-    assert_eq!(rt; sheet.ticks, 100);
-    assert_eq!(rt;
-        (sheet.heap.live, sheet.heap.alloc, sheet.heap.reserve),
-        (62, 512, 129)
-    );
-    assert_eq!(rt;
-        (sheet.heap.rate, sheet.heap.refs, sheet.heap.nums),
-        (11, 2, 3)
-    );
-    assert_eq!(rt; (sheet.heap.registers, sheet.heap.fields), (8, 62));
-    assert_eq!(rt; (sheet.high.items.len(), sheet.low.items.len()), (1, 2));
-    let high = &sheet.high.items[0];
-    assert_eq!(rt; high.name.items.as_slice(), b"a".as_slice());
-    assert_eq!(rt;
-        (high.timing.period, high.timing.deadline, high.timing.cost),
-        (10, 9, 8)
-    );
-    assert_eq!(rt; high.words, 7);
-    assert_eq!(rt;
-        (high.arrivals.at(0), high.arrivals.at(2)),
-        (Some(6), Some(28))
-    );
-    assert_eq!(rt; high.script.statements().len(), 1);
-    let low = &sheet.low.items[0];
-    assert_eq!(rt; low.name.items.as_slice(), b"b".as_slice());
-    assert_eq!(rt; (low.arrivals.at(2), low.arrivals.at(3)), (Some(9), None));
-    let geometry = sheet.geometry();
-    assert_eq!(rt;
-        (geometry.live(), geometry.alloc(), geometry.reserve()),
-        (62, 512, 129)
-    );
-    assert_eq!(rt; (geometry.high(), geometry.low()), (1, 2));
-    assert_eq!(rt; (geometry.board().refs(), geometry.board().nums()), (2, 3));
+    expect_values(&rt, &read(rt.alloc(), SHEET.as_bytes())?);
     Ok(())
 }
 
@@ -370,12 +417,22 @@ fn with_arrivals(alloc: Global, tasks: u64, arrivals: u64) -> Result<String, All
     Ok(sheet)
 }
 
+/// Compares the answer to a low task with so many arrivals with the wanted one.
+fn expect_arrivals(
+    rt: &impl Abort,
+    alloc: Global,
+    arrivals: u64,
+    wanted: &str,
+) -> Result<(), AllocError> {
+    let text = with_arrivals(alloc, 1, arrivals)?;
+    expect(rt, alloc, text.as_bytes(), wanted)
+}
+
 #[test]
 fn counts_arrivals(rt: HostRuntime) -> Result<(), Fail> {
-    for (arrivals, wanted) in [(0, "read"), (4096, "read"), (4097, "range low[0].arrivals")] {
-        let text = with_arrivals(rt.alloc(), 1, arrivals)?;
-        expect(&rt, rt.alloc(), text.as_bytes(), wanted)?;
-    }
+    expect_arrivals(&rt, rt.alloc(), 0, "read")?;
+    expect_arrivals(&rt, rt.alloc(), 4096, "read")?;
+    expect_arrivals(&rt, rt.alloc(), 4097, "range low[0].arrivals")?;
     Ok(())
 }
 

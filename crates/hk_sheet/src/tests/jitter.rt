@@ -1,8 +1,9 @@
 //! Release jitter. Each wanted line and tick is worked out from the rules of the sheet.
 use super::{Case, edited, expect_each};
-use crate::{Arrivals, High, Name, read};
+use crate::{Arrivals, High, Name, Sheet, read};
 use hk_rta::Timing;
 use std::alloc::Global;
+use std::process::Abort;
 use std::test::Fail;
 
 /// The keys of the jitter.
@@ -90,36 +91,56 @@ fn refuses_jitter(rt: HostRuntime) -> Result<(), Fail> {
     Ok(())
 }
 
-#[test]
-fn reads_jitter(rt: HostRuntime) -> Result<(), Fail> {
-    let text = edited(
-        &rt,
-        rt.alloc(),
-        &[
-            ("period = 10", "period = 4"),
-            ("deadline = 9", "deadline = 4"),
-            ("words = 7", "words = 7\njitter = 3\nlag = 3"),
-            ("first = 6\nevery = 11", "arrivals = [0, 4, 8]"),
-        ],
-    )?;
-    let sheet = read(rt.alloc(), text.as_bytes())?;
-    let high = sheet.high.items.first().ok_or("a high task")?;
-    assert_eq!(rt; (high.timing.jitter, high.lag), (3, 3));
-    assert_eq!(rt;
-        [high.ready(0), high.ready(1), high.ready(2), high.ready(3)],
-        [Some(0), Some(7), Some(10), None]
-    );
+/// A job, and the tick at which it is ready.
+type Ready = (u64, Option<u64>);
+
+/// Compares when the jobs of a task are ready with the wanted ticks.
+fn expect_ready(rt: &impl Abort, task: &High, wanted: &[Ready]) {
+    for (job, tick) in wanted {
+        assert_eq!(rt; task.ready(*job), *tick);
+    }
+}
+
+/// Compares the jitter and the lag of a sheet's high task, and when its jobs are ready, with the wanted ones.
+fn expect_jitter(rt: &impl Abort, sheet: &Sheet, numbers: (u64, u64), wanted: &[Ready]) {
+    match sheet.high.items.as_slice() {
+        [high] => {
+            assert_eq!(rt; (high.timing.jitter, high.lag), numbers);
+            expect_ready(rt, high, wanted);
+        }
+        _ => panic!(rt; "a high task"),
+    }
+}
+
+/// Reads the sheet with parts changed, and compares its jitter.
+fn expect_edited(
+    rt: &impl Abort,
+    alloc: Global,
+    edits: &[(&str, &str)],
+    numbers: (u64, u64),
+    wanted: &[Ready],
+) -> Result<(), Fail> {
+    let text = edited(rt, alloc, edits)?;
+    expect_jitter(rt, &read(alloc, text.as_bytes())?, numbers, wanted);
     Ok(())
 }
 
 #[test]
+fn reads_jitter(rt: HostRuntime) -> Result<(), Fail> {
+    let edits = [
+        ("period = 10", "period = 4"),
+        ("deadline = 9", "deadline = 4"),
+        ("words = 7", "words = 7\njitter = 3\nlag = 3"),
+        ("first = 6\nevery = 11", "arrivals = [0, 4, 8]"),
+    ];
+    let wanted = [(0, Some(0)), (1, Some(7)), (2, Some(10)), (3, None)];
+    expect_edited(&rt, rt.alloc(), &edits, (3, 3), &wanted)
+}
+
+#[test]
 fn reads_no_jitter(rt: HostRuntime) -> Result<(), Fail> {
-    let text = edited(&rt, rt.alloc(), &[])?;
-    let sheet = read(rt.alloc(), text.as_bytes())?;
-    let high = sheet.high.items.first().ok_or("a high task")?;
-    assert_eq!(rt; (high.timing.jitter, high.lag), (0, 0));
-    assert_eq!(rt; [high.ready(0), high.ready(2)], [Some(6), Some(28)]);
-    Ok(())
+    let wanted = [(0, Some(6)), (2, Some(28))];
+    expect_edited(&rt, rt.alloc(), &[], (0, 0), &wanted)
 }
 
 /// A task that arrives at multiples of a step after a first tick.
@@ -141,23 +162,30 @@ fn task(alloc: Global, first: u64, step: u64, jitter: u64, lag: u64) -> Result<H
     })
 }
 
+/// Compares when the jobs of such a task are ready with the wanted ticks.
+fn expect_task(
+    rt: &impl Abort,
+    alloc: Global,
+    (first, step): (u64, u64),
+    (jitter, lag): (u64, u64),
+    wanted: &[Ready],
+) -> Result<(), Fail> {
+    expect_ready(rt, &task(alloc, first, step, jitter, lag)?, wanted);
+    Ok(())
+}
+
 #[test]
 fn ready_at_the_ends_of_numbers(rt: HostRuntime) -> Result<(), Fail> {
+    const MAX: u64 = u64::MAX;
     let alloc = rt.alloc();
     // 2^40 * 2^30 = 2^70 = 8^23 * 2, which leaves 2 where it is divided by 7.
-    let far = task(alloc, 5, 0, 6, 1 << 30)?;
-    assert_eq!(rt; far.ready(1 << 40), Some(7));
+    expect_task(&rt, alloc, (5, 0), (6, 1 << 30), &[(1 << 40, Some(7))])?;
     // The second job is delayed by a tick past the last number.
-    let late = task(alloc, u64::MAX, 0, 1, 1)?;
-    assert_eq!(rt; [late.ready(0), late.ready(1)], [Some(u64::MAX), None]);
+    let one_late = [(0, Some(MAX)), (1, None)];
+    expect_task(&rt, alloc, (MAX, 0), (1, 1), &one_late)?;
     // The arrival itself is past it.
-    let past = task(alloc, u64::MAX, 1, 0, 0)?;
-    assert_eq!(rt; [past.ready(0), past.ready(1)], [Some(u64::MAX), None]);
+    expect_task(&rt, alloc, (MAX, 1), (0, 0), &one_late)?;
     // The greatest jitter never goes round before the greatest number.
-    let wide = task(alloc, 0, 0, u64::MAX, u64::MAX)?;
-    assert_eq!(rt;
-        [wide.ready(1), wide.ready(2)],
-        [Some(u64::MAX), Some(u64::MAX - 1)]
-    );
-    Ok(())
+    let round = [(1, Some(MAX)), (2, Some(MAX - 1))];
+    expect_task(&rt, alloc, (0, 0), (MAX, MAX), &round)
 }

@@ -177,67 +177,45 @@ fn expect(rt: &impl Abort, alloc: Global, text: &[u8], wanted: &str) -> Result<(
     Ok(())
 }
 
-/// A sheet with parts changed, and the answer to it.
-struct Case {
-    /// Parts of the sheet with what stands in their place.
-    edits: &'static [(&'static str, &'static str)],
-    wanted: &'static str,
-}
+/// Parts of the sheet with what stands in their place, and the answer to the sheet that has been changed so.
+type Case = (&'static [(&'static str, &'static str)], &'static str);
 
 /// Compares the answers to edited sheets with the wanted ones.
 fn expect_each(rt: &impl Abort, alloc: Global, cases: &[Case]) -> Result<(), AllocError> {
-    for case in cases {
-        let text = edited(rt, alloc, case.edits)?;
-        expect(rt, alloc, text.as_bytes(), case.wanted)?;
+    for (edits, wanted) in cases {
+        let text = edited(rt, alloc, edits)?;
+        expect(rt, alloc, text.as_bytes(), wanted)?;
     }
     Ok(())
 }
 
 /// The sheet, and the same one in other words.
 const SAME: &[Case] = &[
-    Case {
-        edits: &[],
-        wanted: "read",
-    },
-    Case {
-        edits: &[("version", "\u{feff}version")],
-        wanted: "read",
-    },
-    Case {
-        edits: &[("ticks = 100", "ticks = 0x6_4 # a hundred")],
-        wanted: "read",
-    },
-    Case {
-        edits: &[
+    (&[], "read"),
+    (&[("version", "\u{feff}version")], "read"),
+    (&[("ticks = 100", "ticks = 0x6_4 # a hundred")], "read"),
+    (
+        &[
             ("[heap]\nlive", "heap.live"),
             ("\nalloc", "\nheap.alloc"),
             ("\nreserve", "\nheap.reserve"),
             ("\nrate", "\nheap.rate"),
             ("\nboard", "\nheap.board"),
         ],
-        wanted: "read",
-    },
-    Case {
-        edits: &[(
+        "read",
+    ),
+    (
+        &[(
             HEAP,
             "heap = {live = 62, alloc = 512, reserve = 129, rate = 11, board = [2, 3]}\n",
         )],
-        wanted: "read",
-    },
-    Case {
-        edits: &[(HIGH, "")],
-        wanted: "read",
-    },
-    Case {
-        edits: &[(LOW, ""), (LAST, "")],
-        wanted: "read",
-    },
-    Case {
-        edits: &[(HIGH, ""), ("ticks", "high = []\nticks")],
-        wanted: "read",
-    },
-    Case {
-        edits: &[
+        "read",
+    ),
+    (&[(HIGH, "")], "read"),
+    (&[(LOW, ""), (LAST, "")], "read"),
+    (&[(HIGH, ""), ("ticks", "high = []\nticks")], "read"),
+    (
+        &[
             (LOW, ""),
             (LAST, ""),
             (
@@ -245,12 +223,9 @@ const SAME: &[Case] = &[
                 "low = [{name = 'b', arrivals = [], script = 'work 1'}]\nticks",
             ),
         ],
-        wanted: "read",
-    },
-    Case {
-        edits: &[("[3, 4, 9]", "[]")],
-        wanted: "read",
-    },
+        "read",
+    ),
+    (&[("[3, 4, 9]", "[]")], "read"),
 ];
 
 #[test]
@@ -261,22 +236,10 @@ fn reads_other_words(rt: HostRuntime) -> Result<(), Fail> {
 
 /// No TOML.
 const NO_TOML: &[Case] = &[
-    Case {
-        edits: &[("version = 1", "version =")],
-        wanted: "text",
-    },
-    Case {
-        edits: &[("version = 1", "version = 1\nversion = 1")],
-        wanted: "text",
-    },
-    Case {
-        edits: &[("ticks = 100", "ticks = 9223372036854775808")],
-        wanted: "text",
-    },
-    Case {
-        edits: &[("\"a\"", "\"a")],
-        wanted: "text",
-    },
+    (&[("version = 1", "version =")], "text"),
+    (&[("version = 1", "version = 1\nversion = 1")], "text"),
+    (&[("ticks = 100", "ticks = 9223372036854775808")], "text"),
+    (&[("\"a\"", "\"a")], "text"),
 ];
 
 #[test]

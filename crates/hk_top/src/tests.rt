@@ -12,7 +12,7 @@ mod versions;
 
 use crate::run_tool;
 use hk_io::{MemSink, MemSource, Status};
-use std::alloc::{AllocError, Global};
+use std::alloc::Global;
 use std::process::Abort;
 
 /// The smallest sheet.
@@ -127,94 +127,96 @@ struct Ended {
     sink: MemSink,
 }
 
+/// Words as the program is given them.
+fn strings(rt: &impl Abort, alloc: Global, words: &[&str]) -> Vec<String> {
+    let mut strings = Vec::new(alloc);
+    for word in words {
+        let string = String::from_str(alloc, word).expect(rt, "no memory");
+        strings.push(string).expect(rt, "no memory");
+    }
+    strings
+}
+
+/// A source of a text, of which the calls with these numbers fail.
+fn source(rt: &impl Abort, alloc: Global, text: &str, fails: &[u64]) -> MemSource {
+    let bytes = text.as_bytes().to_vec(alloc).expect(rt, "no memory");
+    MemSource::new(bytes, fails.to_vec(alloc).expect(rt, "no memory"))
+}
+
+/// A sink of so much room, of which the calls with these numbers fail.
+fn sink(rt: &impl Abort, alloc: Global, room: usize, fails: &[u64]) -> MemSink {
+    let fails = fails.to_vec(alloc).expect(rt, "no memory");
+    MemSink::new(alloc, room, fails).expect(rt, "no memory")
+}
+
 /// Runs some words on an input, where the calls with these numbers fail, and the sink has so much room.
 fn run(
+    rt: &impl Abort,
     alloc: Global,
     words: &[&str],
     input: &str,
     fails: (&[u64], &[u64]),
     room: usize,
-) -> Result<Ended, AllocError> {
-    let mut given = Vec::new(alloc);
-    for word in words {
-        given.push(String::from_str(alloc, word)?)?;
-    }
+) -> Ended {
     let (source_fails, sink_fails) = fails;
-    let bytes = input.as_bytes().to_vec(alloc)?;
-    let mut source = MemSource::new(bytes, source_fails.to_vec(alloc)?);
-    let Ok(mut sink) = MemSink::new(alloc, room, sink_fails.to_vec(alloc)?) else {
-        return Err(AllocError);
-    };
-    let status = run_tool(alloc, given.as_slice(), &mut source, &mut sink);
-    Ok(Ended {
+    let words = strings(rt, alloc, words);
+    let mut source = source(rt, alloc, input, source_fails);
+    let mut sink = sink(rt, alloc, room, sink_fails);
+    let status = run_tool(alloc, words.as_slice(), &mut source, &mut sink);
+    Ended {
         status,
         source,
         sink,
-    })
+    }
+}
+
+/// Compares how a run ended.
+fn expect_status(rt: &impl Abort, ended: &Ended, status: Status) {
+    assert_eq!(rt; ended.status, status);
 }
 
 /// Compares how a run ended, and what it wrote.
 fn expect_end(rt: &impl Abort, ended: &Ended, status: Status, text: &str) {
-    assert_eq!(rt; ended.status, status);
+    expect_status(rt, ended, status);
     assert_eq!(rt; ended.sink.bytes(), text.as_bytes());
 }
 
+/// Compares that a write failed, and that a first part of a text was written, and not all of it.
+fn expect_part(rt: &impl Abort, ended: &Ended, text: &str) {
+    let part = ended.sink.bytes();
+    expect_status(rt, ended, Status::WriteFault);
+    assert!(rt; text.as_bytes().starts_with(part) && part.len() < text.len());
+}
+
 /// Compares what some words write for an input, and how the program ends.
-fn expect(
-    rt: &impl Abort,
-    alloc: Global,
-    words: &[&str],
-    input: &str,
-    status: Status,
-    text: &str,
-) -> Result<(), AllocError> {
-    let ended = run(alloc, words, input, (&[], &[]), 65536)?;
+fn expect(rt: &impl Abort, alloc: Global, words: &[&str], input: &str, status: Status, text: &str) {
+    let ended = run(rt, alloc, words, input, (&[], &[]), 65536);
     expect_end(rt, &ended, status, text);
-    Ok(())
 }
 
 /// Compares what the word `run` writes for an input, and how it ends.
-fn expect_run(
-    rt: &impl Abort,
-    alloc: Global,
-    input: &str,
-    status: Status,
-    text: &str,
-) -> Result<(), AllocError> {
-    expect(rt, alloc, RUN, input, status, text)
+fn expect_run(rt: &impl Abort, alloc: Global, input: &str, status: Status, text: &str) {
+    expect(rt, alloc, RUN, input, status, text);
 }
 
 /// A sheet with a part of its text changed.
-fn edited(
-    rt: &impl Abort,
-    alloc: Global,
-    sheet: &str,
-    old: &str,
-    new: &str,
-) -> Result<String, AllocError> {
-    let Some((before, after)) = sheet.split_once(old) else {
-        panic!(rt; "the sheet lacks {old:?}");
-    };
-    format!(in alloc; "{before}{new}{after}")
+fn edited(rt: &impl Abort, alloc: Global, sheet: &str, old: &str, new: &str) -> String {
+    let (before, after) = sheet.split_once(old).expect(rt, old);
+    format!(in alloc; "{before}{new}{after}").expect(rt, "no memory")
 }
 
 /// A sheet with parts of its text changed, one after another.
-fn changed(
-    rt: &impl Abort,
-    alloc: Global,
-    sheet: &str,
-    changes: &[(&str, &str)],
-) -> Result<String, AllocError> {
-    let mut text = String::from_str(alloc, sheet)?;
+fn changed(rt: &impl Abort, alloc: Global, sheet: &str, changes: &[(&str, &str)]) -> String {
+    let mut text = String::from_str(alloc, sheet).expect(rt, "no memory");
     for (old, new) in changes {
-        text = edited(rt, alloc, text.as_str(), old, new)?;
+        text = edited(rt, alloc, text.as_str(), old, new);
     }
-    Ok(text)
+    text
 }
 
 /// Runs a case, and compares how it ends and what it writes.
-fn expect_case(rt: &impl Abort, alloc: Global, case: &Case) -> Result<(), AllocError> {
-    let input = changed(rt, alloc, case.sheet, case.changes)?;
+fn expect_case(rt: &impl Abort, alloc: Global, case: &Case) {
+    let input = changed(rt, alloc, case.sheet, case.changes);
     expect(
         rt,
         alloc,
@@ -222,13 +224,12 @@ fn expect_case(rt: &impl Abort, alloc: Global, case: &Case) -> Result<(), AllocE
         input.as_str(),
         case.status,
         case.text,
-    )
+    );
 }
 
 /// Runs cases, and compares how each ends and what it writes.
-fn expect_cases(rt: &impl Abort, alloc: Global, cases: &[Case]) -> Result<(), AllocError> {
+fn expect_cases(rt: &impl Abort, alloc: Global, cases: &[Case]) {
     for case in cases {
-        expect_case(rt, alloc, case)?;
+        expect_case(rt, alloc, case);
     }
-    Ok(())
 }

@@ -1,9 +1,8 @@
 //! A controller of three loops and two low tasks.
-use super::{CHECK, RUN, TRACE, expect, run};
+use super::{CHECK, RUN, TRACE, expect, expect_status, run};
 use hk_io::Status;
-use std::alloc::{AllocError, Global};
+use std::alloc::Global;
 use std::process::Abort;
-use std::test::Fail;
 
 /// Loops of 5, 10 and 20 ms at 100 ticks a millisecond, for 400 ms.
 pub(super) const CONTROLLER: &str = r#"version = 1
@@ -121,19 +120,16 @@ const ENDS: &[&str] = &[
 ];
 
 #[test]
-fn analyses_the_controller(rt: HostRuntime) -> Result<(), Fail> {
-    expect(&rt, rt.alloc(), CHECK, CONTROLLER, Status::Done, ANALYSIS)?;
-    Ok(())
+fn analyses_the_controller(rt: HostRuntime) {
+    expect(&rt, rt.alloc(), CHECK, CONTROLLER, Status::Done, ANALYSIS);
 }
 
 /// What is written of the controller's run.
-fn written(rt: &impl Abort, alloc: Global, words: &[&str]) -> Result<String, AllocError> {
-    let ended = run(alloc, words, CONTROLLER, (&[], &[]), 1_048_576)?;
-    assert_eq!(rt; ended.status, Status::Done);
-    let Ok(text) = str::from_utf8(ended.sink.bytes()) else {
-        panic!(rt; "no text");
-    };
-    String::from_str(alloc, text)
+fn written(rt: &impl Abort, alloc: Global, words: &[&str]) -> String {
+    let ended = run(rt, alloc, words, CONTROLLER, (&[], &[]), 1_048_576);
+    expect_status(rt, &ended, Status::Done);
+    let text = str::from_utf8(ended.sink.bytes()).expect(rt, "no text");
+    String::from_str(alloc, text).expect(rt, "no memory")
 }
 
 /// How often a line stands in a text.
@@ -148,35 +144,33 @@ fn count_lines(text: &str, wanted: &str) -> u64 {
 }
 
 #[test]
-fn runs_the_controller(rt: HostRuntime) -> Result<(), Fail> {
-    let report = written(&rt, rt.alloc(), RUN)?;
+fn runs_the_controller(rt: HostRuntime) {
+    let report = written(&rt, rt.alloc(), RUN);
     assert!(rt; report.as_str().starts_with(ANALYSIS));
     for line in ENDS {
         assert_eq!(rt; count_lines(report.as_str(), line), 1);
     }
-    Ok(())
 }
 
 /// A text without the lines that a trace adds.
-fn untraced(alloc: Global, text: &str) -> Result<String, AllocError> {
+fn untraced(rt: &impl Abort, alloc: Global, text: &str) -> String {
     let mut rest = String::new(alloc);
     for line in text.lines() {
         if !line.starts_with("t ") && !line.starts_with("ended ") {
-            rest.push_str(line)?;
-            rest.push_str("\n")?;
+            rest.push_str(line).expect(rt, "no memory");
+            rest.push('\n').expect(rt, "no memory");
         }
     }
-    Ok(rest)
+    rest
 }
 
 #[test]
-fn traces_the_controller(rt: HostRuntime) -> Result<(), Fail> {
+fn traces_the_controller(rt: HostRuntime) {
     let alloc = rt.alloc();
-    let trace = written(&rt, alloc, TRACE)?;
-    let report = written(&rt, alloc, RUN)?;
-    let rest = untraced(alloc, trace.as_str())?;
+    let trace = written(&rt, alloc, TRACE);
+    let report = written(&rt, alloc, RUN);
+    let rest = untraced(&rt, alloc, trace.as_str());
     assert!(rt; rest.as_str() == report.as_str());
     assert_eq!(rt; count_lines(trace.as_str(), "t 89 high fast"), 1);
     assert_eq!(rt; count_lines(trace.as_str(), "ended 89 fast 0 90"), 1);
-    Ok(())
 }

@@ -1,11 +1,10 @@
 //! A job that disturbs the collector while it copies the board, at one tick after another; and runs over a source or a sink that
 //! fails at one call after another, until nothing fails.
 use super::controller::CONTROLLER;
-use super::{CHECK, RUN, changed, expect_run, run};
+use super::{CHECK, RUN, changed, expect_end, expect_part, expect_run, run};
 use hk_io::Status;
-use std::alloc::{AllocError, Global};
+use std::alloc::Global;
 use std::process::Abort;
-use std::test::Fail;
 
 /// `a` makes five words, for which the collector does 55 events from tick 7 on. It loads the board's header in tick 37, and
 /// ends the attempt in tick 46.
@@ -52,14 +51,14 @@ end 100
 const GETS: &[(u64, u64)] = &[(7, 55), (37, 55), (38, 65), (46, 65), (47, 55), (61, 55)];
 
 /// Compares the run in which the job that gets a number arrives at this tick.
-fn expect_get(rt: &impl Abort, alloc: Global, arrival: u64, events: u64) -> Result<(), AllocError> {
-    let arrivals = format!(in alloc; "arrivals = [{arrival}]")?;
+fn expect_get(rt: &impl Abort, alloc: Global, arrival: u64, events: u64) {
+    let arrivals = format!(in alloc; "arrivals = [{arrival}]").expect(rt, "no memory");
     let changes = [
         ("cost = 8", "cost = 4"),
         ("arrivals = [38]", arrivals.as_str()),
         ("set v0 7\nput r0 0 v0\n", ""),
     ];
-    let sheet = changed(rt, alloc, SHEET, &changes)?;
+    let sheet = changed(rt, alloc, SHEET, &changes);
     let (tick, idle) = (arrival.wrapping_add(3), 89_u64.wrapping_sub(events));
     let report = format!(in alloc;
         "heap work 4213 attempt 34 busy 134 debt 123
@@ -71,64 +70,60 @@ done p jobs 1 latest 4
 cycles 1 collector {events} idle {idle}
 end 100
 "
-    )?;
-    expect_run(rt, alloc, sheet.as_str(), Status::Done, report.as_str())
+    )
+    .expect(rt, "no memory");
+    expect_run(rt, alloc, sheet.as_str(), Status::Done, report.as_str());
 }
 
 #[test]
-fn get_while_the_board_is_copied(rt: HostRuntime) -> Result<(), Fail> {
+fn get_while_the_board_is_copied(rt: HostRuntime) {
     for (arrival, events) in GETS {
-        expect_get(&rt, rt.alloc(), *arrival, *events)?;
+        expect_get(&rt, rt.alloc(), *arrival, *events);
     }
-    Ok(())
 }
 
 /// Compares that the run over a sink whose call of this number fails leaves a first part of the report; or that it is done.
-fn is_written(rt: &impl Abort, alloc: Global, call: u64) -> Result<bool, AllocError> {
-    let ended = run(alloc, RUN, SHEET, (&[], &[call]), 1000)?;
-    if ended.status == Status::Done {
-        assert_eq!(rt; ended.sink.bytes(), REPORT.as_bytes());
-        return Ok(true);
+fn is_written(rt: &impl Abort, alloc: Global, call: u64) -> bool {
+    let ended = run(rt, alloc, RUN, SHEET, (&[], &[call]), 1000);
+    let is_done = ended.status == Status::Done;
+    if is_done {
+        expect_end(rt, &ended, Status::Done, REPORT);
+    } else {
+        expect_part(rt, &ended, REPORT);
     }
-    assert_eq!(rt; ended.status, Status::WriteFault);
-    assert!(rt; REPORT.as_bytes().starts_with(ended.sink.bytes()));
-    assert!(rt; ended.sink.bytes().len() < REPORT.len());
-    Ok(false)
+    is_done
 }
 
 #[test]
-fn each_write_fails_until_the_run_is_done(rt: HostRuntime) -> Result<(), Fail> {
+fn each_write_fails_until_the_run_is_done(rt: HostRuntime) {
     let mut done_at = None;
     for call in 0..1000_u64 {
-        if is_written(&rt, rt.alloc(), call)? {
+        if is_written(&rt, rt.alloc(), call) {
             done_at = Some(call);
             break;
         }
     }
     assert!(&rt; matches!(done_at, Some(call) if call > 0));
-    Ok(())
 }
 
 /// Compares that the check over a source whose call of this number fails writes nothing; or that it is done.
-fn is_read(rt: &impl Abort, alloc: Global, call: u64) -> Result<bool, AllocError> {
-    let ended = run(alloc, CHECK, CONTROLLER, (&[call], &[]), 1000)?;
-    if ended.status == Status::Done {
-        return Ok(true);
+fn is_read(rt: &impl Abort, alloc: Global, call: u64) -> bool {
+    let ended = run(rt, alloc, CHECK, CONTROLLER, (&[call], &[]), 1000);
+    let is_done = ended.status == Status::Done;
+    if !is_done {
+        expect_end(rt, &ended, Status::ReadFault, "");
     }
-    assert_eq!(rt; ended.status, Status::ReadFault);
-    assert!(rt; ended.sink.bytes().is_empty());
-    Ok(false)
+    is_done
 }
 
 #[test]
-fn each_read_fails_until_the_check_is_done(rt: HostRuntime) -> Result<(), Fail> {
+fn each_read_fails_until_the_check_is_done(rt: HostRuntime) {
     let mut done_at = None;
     for call in 0..1000_u64 {
-        if is_read(&rt, rt.alloc(), call)? {
+        if is_read(&rt, rt.alloc(), call) {
             done_at = Some(call);
             break;
         }
     }
     assert!(&rt; matches!(done_at, Some(call) if call > 0));
-    Ok(())
 }

@@ -1,9 +1,8 @@
 //! The smallest sheet with a part of its text changed: how the run ends, and what is written.
 use super::{REPORT, SMALLEST, edited, expect_run};
 use hk_io::Status;
-use std::alloc::{AllocError, Global};
+use std::alloc::Global;
 use std::process::Abort;
-use std::test::Fail;
 
 /// A part of the smallest sheet, what stands in its place, how the run ends, and what is written.
 struct Edit {
@@ -14,12 +13,11 @@ struct Edit {
 }
 
 /// Runs the smallest sheet with a part changed, and compares how it ends and what it writes.
-fn expect_edits(rt: &impl Abort, alloc: Global, edits: &[Edit]) -> Result<(), AllocError> {
+fn expect_edits(rt: &impl Abort, alloc: Global, edits: &[Edit]) {
     for edit in edits {
-        let input = edited(rt, alloc, SMALLEST, edit.old, edit.new)?;
-        expect_run(rt, alloc, input.as_str(), edit.status, edit.text)?;
+        let input = edited(rt, alloc, SMALLEST, edit.old, edit.new);
+        expect_run(rt, alloc, input.as_str(), edit.status, edit.text);
     }
-    Ok(())
 }
 
 /// Sheets that are run.
@@ -67,9 +65,8 @@ const ANSWERED: &[Edit] = &[
 ];
 
 #[test]
-fn runs_edited_sheets(rt: HostRuntime) -> Result<(), Fail> {
-    expect_edits(&rt, rt.alloc(), ANSWERED)?;
-    Ok(())
+fn runs_edited_sheets(rt: HostRuntime) {
+    expect_edits(&rt, rt.alloc(), ANSWERED);
 }
 
 /// Keys and values that are refused.
@@ -144,9 +141,8 @@ const KEYS: &[Edit] = &[
 ];
 
 #[test]
-fn refuses_keys_and_values(rt: HostRuntime) -> Result<(), Fail> {
-    expect_edits(&rt, rt.alloc(), KEYS)?;
-    Ok(())
+fn refuses_keys_and_values(rt: HostRuntime) {
+    expect_edits(&rt, rt.alloc(), KEYS);
 }
 
 /// Names, arrivals and scripts that are refused.
@@ -222,9 +218,8 @@ const NAMES_AND_SCRIPTS: &[Edit] = &[
 ];
 
 #[test]
-fn refuses_names_and_scripts(rt: HostRuntime) -> Result<(), Fail> {
-    expect_edits(&rt, rt.alloc(), NAMES_AND_SCRIPTS)?;
-    Ok(())
+fn refuses_names_and_scripts(rt: HostRuntime) {
+    expect_edits(&rt, rt.alloc(), NAMES_AND_SCRIPTS);
 }
 
 /// Heaps that are none.
@@ -263,9 +258,8 @@ const GEOMETRIES: &[Edit] = &[
 ];
 
 #[test]
-fn refuses_geometries(rt: HostRuntime) -> Result<(), Fail> {
-    expect_edits(&rt, rt.alloc(), GEOMETRIES)?;
-    Ok(())
+fn refuses_geometries(rt: HostRuntime) {
+    expect_edits(&rt, rt.alloc(), GEOMETRIES);
 }
 
 /// Sheets that aren't admitted, and the neighbour of one that is.
@@ -311,9 +305,8 @@ const ADMISSIONS: &[Edit] = &[
 ];
 
 #[test]
-fn refuses_what_is_not_admitted(rt: HostRuntime) -> Result<(), Fail> {
-    expect_edits(&rt, rt.alloc(), ADMISSIONS)?;
-    Ok(())
+fn refuses_what_is_not_admitted(rt: HostRuntime) {
+    expect_edits(&rt, rt.alloc(), ADMISSIONS);
 }
 
 /// Statements on the heap in the smallest sheet: no register but the first refers to an object.
@@ -344,7 +337,6 @@ end 10
 ];
 
 #[test]
-fn runs_statements_on_the_heap(rt: HostRuntime) -> Result<(), Fail> {
-    expect_edits(&rt, rt.alloc(), ON_THE_HEAP)?;
-    Ok(())
+fn runs_statements_on_the_heap(rt: HostRuntime) {
+    expect_edits(&rt, rt.alloc(), ON_THE_HEAP);
 }

@@ -4,9 +4,8 @@ use super::{
     expect_cases,
 };
 use hk_io::Status;
-use std::alloc::{AllocError, Global};
+use std::alloc::Global;
 use std::process::Abort;
-use std::test::Fail;
 
 /// What the sheet of the smallest run is changed into for 20 ticks and a low task.
 const LONGER_WITH_LOW: &[(&str, &str)] = &[
@@ -75,9 +74,8 @@ end 10
 ];
 
 #[test]
-fn smallest_sheet(rt: HostRuntime) -> Result<(), Fail> {
-    expect_cases(&rt, rt.alloc(), OF_SMALLEST)?;
-    Ok(())
+fn smallest_sheet(rt: HostRuntime) {
+    expect_cases(&rt, rt.alloc(), OF_SMALLEST);
 }
 
 /// Three tasks, whose response times are 1, 3 and 10; with a deadline of 9 the last one is refused.
@@ -158,9 +156,8 @@ end 12
 ];
 
 #[test]
-fn three_tasks(rt: HostRuntime) -> Result<(), Fail> {
-    expect_cases(&rt, rt.alloc(), OF_THREE)?;
-    Ok(())
+fn three_tasks(rt: HostRuntime) {
+    expect_cases(&rt, rt.alloc(), OF_THREE);
 }
 
 /// A high and a low task, where the rate is just enough, and one less.
@@ -245,9 +242,8 @@ end 20
 ];
 
 #[test]
-fn high_and_low(rt: HostRuntime) -> Result<(), Fail> {
-    expect_cases(&rt, rt.alloc(), OF_A_LOW_TASK)?;
-    Ok(())
+fn high_and_low(rt: HostRuntime) {
+    expect_cases(&rt, rt.alloc(), OF_A_LOW_TASK);
 }
 
 /// Inputs that are no sheet.
@@ -297,9 +293,8 @@ const NO_SHEETS: &[Case] = &[
 ];
 
 #[test]
-fn no_sheets(rt: HostRuntime) -> Result<(), Fail> {
-    expect_cases(&rt, rt.alloc(), NO_SHEETS)?;
-    Ok(())
+fn no_sheets(rt: HostRuntime) {
+    expect_cases(&rt, rt.alloc(), NO_SHEETS);
 }
 
 /// Ticks that went to the same, the first and the one behind the last, and the lines behind them.
@@ -312,16 +307,17 @@ struct Span {
 }
 
 /// The lines of a trace between the first lines and the last.
-fn traced(alloc: Global, head: &str, spans: &[Span], tail: &str) -> Result<String, AllocError> {
-    let mut text = String::from_str(alloc, head)?;
+fn traced(rt: &impl Abort, alloc: Global, head: &str, spans: &[Span], tail: &str) -> String {
+    let mut text = String::from_str(alloc, head).expect(rt, "no memory");
     for span in spans {
         for tick in span.first..span.end {
-            text.push_str(format!(in alloc; "t {tick} {}\n", span.who)?.as_str())?;
+            let line = format!(in alloc; "t {tick} {}\n", span.who).expect(rt, "no memory");
+            text.push_str(line.as_str()).expect(rt, "no memory");
         }
-        text.push_str(span.behind)?;
+        text.push_str(span.behind).expect(rt, "no memory");
     }
-    text.push_str(tail)?;
-    Ok(text)
+    text.push_str(tail).expect(rt, "no memory");
+    text
 }
 
 /// Two high tasks, of which the second puts a number into the board and reads it while the collector copies it.
@@ -418,12 +414,11 @@ const SPOILS_SPANS: &[Span] = &[
 ];
 
 #[test]
-fn trace_of_a_spoiled_copy(rt: HostRuntime) -> Result<(), Fail> {
+fn trace_of_a_spoiled_copy(rt: HostRuntime) {
     let alloc = rt.alloc();
-    let trace = traced(alloc, SPOILS_HEAD, SPOILS_SPANS, SPOILS_TAIL)?;
-    expect(&rt, alloc, TRACE, SPOILS, Status::Done, trace.as_str())?;
-    expect(&rt, alloc, CHECK, SPOILS, Status::Done, SPOILS_HEAD)?;
-    Ok(())
+    let trace = traced(&rt, alloc, SPOILS_HEAD, SPOILS_SPANS, SPOILS_TAIL);
+    expect(&rt, alloc, TRACE, SPOILS, Status::Done, trace.as_str());
+    expect(&rt, alloc, CHECK, SPOILS, Status::Done, SPOILS_HEAD);
 }
 
 /// The first task alone, in a heap that has room for one word less than are live.
@@ -463,23 +458,16 @@ const OVER_SPANS: &[Span] = &[
 ];
 
 #[test]
-fn trace_of_a_run_that_stands_still(rt: HostRuntime) -> Result<(), Fail> {
+fn trace_of_a_run_that_stands_still(rt: HostRuntime) {
     let alloc = rt.alloc();
     let head = "heap work 3693 attempt 34 busy 96 debt 89\nhigh a response 7 deadline 1000\n";
-    let trace = traced(alloc, head, OVER_SPANS, "live 23 10 above 8\n")?;
-    let input = changed(&rt, alloc, SPOILS, OVER)?;
-    expect_over(&rt, alloc, input.as_str(), head, trace.as_str())?;
-    Ok(())
+    let trace = traced(&rt, alloc, head, OVER_SPANS, "live 23 10 above 8\n");
+    let input = changed(&rt, alloc, SPOILS, OVER);
+    expect_over(&rt, alloc, input.as_str(), head, trace.as_str());
 }
 
 /// Compares the analysis and the trace of a run that stands still.
-fn expect_over(
-    rt: &impl Abort,
-    alloc: Global,
-    input: &str,
-    head: &str,
-    trace: &str,
-) -> Result<(), AllocError> {
-    expect(rt, alloc, CHECK, input, Status::Done, head)?;
-    expect(rt, alloc, TRACE, input, Status::Live, trace)
+fn expect_over(rt: &impl Abort, alloc: Global, input: &str, head: &str, trace: &str) {
+    expect(rt, alloc, CHECK, input, Status::Done, head);
+    expect(rt, alloc, TRACE, input, Status::Live, trace);
 }

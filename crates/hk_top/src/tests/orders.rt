@@ -1,9 +1,8 @@
 //! Several tasks, lists of arrivals, and the order of refusals.
 use super::{Case, RUN, SMALLEST, THREE, edited, expect_cases, expect_run};
 use hk_io::Status;
-use std::alloc::{AllocError, Global};
+use std::alloc::Global;
 use std::process::Abort;
-use std::test::Fail;
 
 /// Three tasks. In the first 12 ticks a has 0, 4 and 8, b has 1, 2, 6 and 7, and c has 3, 5 and 9.
 const TASKS: &[Case] = &[
@@ -52,9 +51,8 @@ end 12
 ];
 
 #[test]
-fn runs_tasks_in_their_order(rt: HostRuntime) -> Result<(), Fail> {
-    expect_cases(&rt, rt.alloc(), TASKS)?;
-    Ok(())
+fn runs_tasks_in_their_order(rt: HostRuntime) {
+    expect_cases(&rt, rt.alloc(), TASKS);
 }
 
 /// Lists of arrivals.
@@ -97,9 +95,8 @@ end 20
 ];
 
 #[test]
-fn looks_at_lists_of_arrivals(rt: HostRuntime) -> Result<(), Fail> {
-    expect_cases(&rt, rt.alloc(), ARRIVALS)?;
-    Ok(())
+fn looks_at_lists_of_arrivals(rt: HostRuntime) {
+    expect_cases(&rt, rt.alloc(), ARRIVALS);
 }
 
 /// A low task, behind the smallest sheet.
@@ -156,36 +153,29 @@ end 10
 ];
 
 #[test]
-fn admits_by_the_work_of_the_collector(rt: HostRuntime) -> Result<(), Fail> {
-    expect_cases(&rt, rt.alloc(), WORK)?;
-    Ok(())
+fn admits_by_the_work_of_the_collector(rt: HostRuntime) {
+    expect_cases(&rt, rt.alloc(), WORK);
 }
 
 /// So many statements, in lines of their own.
-fn statements(alloc: Global, count: u64) -> Result<String, AllocError> {
+fn statements(rt: &impl Abort, alloc: Global, count: u64) -> String {
     let mut script = String::new(alloc);
     for _ in 0..count {
-        script.push_str("set v0 1\n")?;
+        script.push_str("set v0 1\n").expect(rt, "no memory");
     }
-    Ok(script)
+    script
 }
 
 /// Compares what the smallest sheet calls for with so many statements in its script.
-fn expect_statements(
-    rt: &impl Abort,
-    alloc: Global,
-    count: u64,
-    status: Status,
-    text: &str,
-) -> Result<(), AllocError> {
-    let script = statements(alloc, count)?;
-    let input = edited(rt, alloc, SMALLEST, "work 1\nout v0", script.as_str())?;
-    expect_run(rt, alloc, input.as_str(), status, text)
+fn expect_statements(rt: &impl Abort, alloc: Global, count: u64, status: Status, text: &str) {
+    let script = statements(rt, alloc, count);
+    let input = edited(rt, alloc, SMALLEST, "work 1\nout v0", script.as_str());
+    expect_run(rt, alloc, input.as_str(), status, text);
 }
 
 /// One less than the most statements, the most, and one more.
 #[test]
-fn counts_statements(rt: HostRuntime) -> Result<(), Fail> {
+fn counts_statements(rt: HostRuntime) {
     for (count, status, text) in [
         (
             1023,
@@ -199,7 +189,6 @@ fn counts_statements(rt: HostRuntime) -> Result<(), Fail> {
         ),
         (1025, Status::Sheet, "sheet script a long\n"),
     ] {
-        expect_statements(&rt, rt.alloc(), count, status, text)?;
+        expect_statements(&rt, rt.alloc(), count, status, text);
     }
-    Ok(())
 }

@@ -1,9 +1,8 @@
 //! Runs of one task.
 use super::expect_run;
 use hk_io::Status;
-use std::alloc::{AllocError, Global};
+use std::alloc::Global;
 use std::process::Abort;
-use std::test::Fail;
 
 /// A sheet of one task, and its report behind the line on the heap's work. Times are in ticks.
 #[derive(Clone, Copy)]
@@ -30,30 +29,37 @@ const CASE: Case = Case {
     report: "",
 };
 
+/// The sheet of a case.
+fn sheet(rt: &impl Abort, alloc: Global, case: &Case) -> String {
+    let Case {
+        ticks,
+        period,
+        deadline,
+        cost,
+        first,
+        every,
+        script,
+        ..
+    } = *case;
+    let head = format!(in alloc;
+        "version = 1\nticks = {ticks}\n[heap]\nlive = 62\nalloc = 512\nreserve = 129\nrate = 11\nboard = [2, 2]\n[[high]]\nname = \"a\"\n"
+    ).expect(rt, "no memory");
+    let times = format!(in alloc;
+        "period = {period}\ndeadline = {deadline}\ncost = {cost}\nwords = 0\nfirst = {first}\nevery = {every}\n"
+    ).expect(rt, "no memory");
+    format!(in alloc; "{head}{times}script = \"{script}\"\n").expect(rt, "no memory")
+}
+
 /// Runs sheets of one task, and compares their reports with the wanted ones.
-fn expect_runs(rt: &impl Abort, alloc: Global, cases: &[Case]) -> Result<(), AllocError> {
+fn expect_runs(rt: &impl Abort, alloc: Global, cases: &[Case]) {
     for case in cases {
-        let Case {
-            ticks,
-            period,
-            deadline,
-            cost,
-            first,
-            every,
-            script,
-            report,
-        } = *case;
-        let head = format!(in alloc;
-            "version = 1\nticks = {ticks}\n[heap]\nlive = 62\nalloc = 512\nreserve = 129\nrate = 11\nboard = [2, 2]\n[[high]]\nname = \"a\"\n"
-        )?;
-        let times = format!(in alloc;
-            "period = {period}\ndeadline = {deadline}\ncost = {cost}\nwords = 0\nfirst = {first}\nevery = {every}\n"
-        )?;
-        let input = format!(in alloc; "{head}{times}script = \"{script}\"\n")?;
-        let text = format!(in alloc; "heap work 4179 attempt 0 {report}")?;
-        expect_run(rt, alloc, input.as_str(), Status::Done, text.as_str())?;
+        let input = sheet(rt, alloc, case);
+        let text = format!(in alloc; "heap work 4179 attempt 0 {}", case.report).expect(
+            rt,
+            "no memory",
+        );
+        expect_run(rt, alloc, input.as_str(), Status::Done, text.as_str());
     }
-    Ok(())
 }
 
 /// Runs of one script, up to several horizons.
@@ -102,9 +108,8 @@ const HORIZONS: &[Case] = &[
 ];
 
 #[test]
-fn runs_up_to_the_horizon(rt: HostRuntime) -> Result<(), Fail> {
-    expect_runs(&rt, rt.alloc(), HORIZONS)?;
-    Ok(())
+fn runs_up_to_the_horizon(rt: HostRuntime) {
+    expect_runs(&rt, rt.alloc(), HORIZONS);
 }
 
 /// Runs of one script, by other arrivals, costs and deadlines.
@@ -162,9 +167,8 @@ const TIMES: &[Case] = &[
 ];
 
 #[test]
-fn runs_jobs_as_they_arrive(rt: HostRuntime) -> Result<(), Fail> {
-    expect_runs(&rt, rt.alloc(), TIMES)?;
-    Ok(())
+fn runs_jobs_as_they_arrive(rt: HostRuntime) {
+    expect_runs(&rt, rt.alloc(), TIMES);
 }
 
 /// Runs of jobs that leave few ticks to nobody.
@@ -209,9 +213,8 @@ const JOBS: &[Case] = &[
 ];
 
 #[test]
-fn runs_jobs_one_behind_the_other(rt: HostRuntime) -> Result<(), Fail> {
-    expect_runs(&rt, rt.alloc(), JOBS)?;
-    Ok(())
+fn runs_jobs_one_behind_the_other(rt: HostRuntime) {
+    expect_runs(&rt, rt.alloc(), JOBS);
 }
 
 /// Runs of other scripts.
@@ -285,7 +288,6 @@ const SCRIPTS: &[Case] = &[
 ];
 
 #[test]
-fn runs_other_scripts(rt: HostRuntime) -> Result<(), Fail> {
-    expect_runs(&rt, rt.alloc(), SCRIPTS)?;
-    Ok(())
+fn runs_other_scripts(rt: HostRuntime) {
+    expect_runs(&rt, rt.alloc(), SCRIPTS);
 }

@@ -1,14 +1,14 @@
 //! Which words are taken, and what happens where the input or the output fails.
 use super::{
-    ANALYSIS, CHECK, Ended, REPORT, RUN, SMALLEST, TRACE, edited, expect, expect_end, run,
+    ANALYSIS, CHECK, REPORT, RUN, SMALLEST, TRACE, edited, expect, expect_end, expect_part, run,
+    sink, strings,
 };
 use crate::run_tool;
 use hk_io::{MemSink, Status, StdSource};
-use std::alloc::{AllocError, Global};
+use std::alloc::Global;
 use std::io;
 use std::io::{ErrorKind, Read};
 use std::process::Abort;
-use std::test::Fail;
 
 const USAGE: &str = "usage: henri check, run [--trace], gen N, sim N\n";
 
@@ -35,20 +35,18 @@ fn expect_unread(
     fails: &[u64],
     status: Status,
     text: &str,
-) -> Result<(), AllocError> {
-    let ended = run(alloc, words, SMALLEST, (&[0], fails), 100)?;
-    assert_eq!(rt; ended.source.calls(), 0);
+) {
+    let ended = run(rt, alloc, words, SMALLEST, (&[0], fails), 100);
+    assert!(rt; ended.source.calls() == 0);
     expect_end(rt, &ended, status, text);
-    Ok(())
 }
 
 #[test]
-fn refuses_other_words_before_it_reads(rt: HostRuntime) -> Result<(), Fail> {
+fn refuses_other_words_before_it_reads(rt: HostRuntime) {
     for words in WRONG {
-        expect_unread(&rt, rt.alloc(), words, &[], Status::Usage, USAGE)?;
-        expect_unread(&rt, rt.alloc(), words, &[0], Status::WriteFault, "")?;
+        expect_unread(&rt, rt.alloc(), words, &[], Status::Usage, USAGE);
+        expect_unread(&rt, rt.alloc(), words, &[0], Status::WriteFault, "");
     }
-    Ok(())
 }
 
 /// The forms that read a sheet.
@@ -214,64 +212,49 @@ end 10",
     },
 ];
 
-fn expect_failing(rt: &impl Abort, alloc: Global, cases: &[Failing]) -> Result<(), AllocError> {
+fn expect_failing(rt: &impl Abort, alloc: Global, cases: &[Failing]) {
     for case in cases {
         let fails = (case.reads, case.writes);
-        let ended = run(alloc, case.words, SMALLEST, fails, case.room)?;
+        let ended = run(rt, alloc, case.words, SMALLEST, fails, case.room);
         expect_end(rt, &ended, case.status, case.text);
     }
-    Ok(())
 }
 
 #[test]
-fn tells_failures_from_ends(rt: HostRuntime) -> Result<(), Fail> {
-    expect_failing(&rt, rt.alloc(), FAILING)?;
-    Ok(())
-}
-
-/// Compares that a write failed, and that a first part of a text was written, and not all of it.
-fn expect_part(rt: &impl Abort, ended: &Ended, text: &str) {
-    assert_eq!(rt; ended.status, Status::WriteFault);
-    assert!(rt; text.as_bytes().starts_with(ended.sink.bytes()));
-    assert!(rt; ended.sink.bytes().len() < text.len());
+fn tells_failures_from_ends(rt: HostRuntime) {
+    expect_failing(&rt, rt.alloc(), FAILING);
 }
 
 /// Compares that each call to write that fails, so many there are, leaves a first part of a text.
-fn expect_parts(
-    rt: &impl Abort,
-    alloc: Global,
-    input: &str,
-    calls: u64,
-    text: &str,
-) -> Result<(), AllocError> {
+fn expect_parts(rt: &impl Abort, alloc: Global, input: &str, calls: u64, text: &str) {
     for call in 0..calls {
-        let ended = run(alloc, RUN, input, (&[], &[call]), 65536)?;
+        let ended = run(rt, alloc, RUN, input, (&[], &[call]), 65536);
         expect_part(rt, &ended, text);
     }
-    Ok(())
 }
 
 /// The line of a refusal.
 #[test]
-fn leaves_a_prefix_of_a_refusal(rt: HostRuntime) -> Result<(), Fail> {
+fn leaves_a_prefix_of_a_refusal(rt: HostRuntime) {
     let alloc = rt.alloc();
-    let input = edited(&rt, alloc, SMALLEST, "every = 10", "every = 9")?;
+    let input = edited(&rt, alloc, SMALLEST, "every = 10", "every = 9");
     let line = "sheet arrivals a 1 0 9\n";
-    let whole = run(alloc, RUN, input.as_str(), (&[], &[]), line.len())?;
+    let whole = run(&rt, alloc, RUN, input.as_str(), (&[], &[]), line.len());
     expect_end(&rt, &whole, Status::Sheet, line);
-    expect_parts(&rt, alloc, input.as_str(), whole.sink.calls(), line)?;
-    Ok(())
+    expect_parts(&rt, alloc, input.as_str(), whole.sink.calls(), line);
 }
 
 /// The report of 4,000 jobs, each of which puts out at its second tick.
-fn longer_report(alloc: Global) -> Result<String, AllocError> {
-    let mut text = String::from_str(alloc, ANALYSIS)?;
+fn longer_report(rt: &impl Abort, alloc: Global) -> String {
+    let mut text = String::from_str(alloc, ANALYSIS).expect(rt, "no memory");
     for job in 0..4000_u32 {
         let tick = 10 * u64::from(job) + 1;
-        text.push_str(format!(in alloc; "out {tick} a 0\n")?.as_str())?;
+        let line = format!(in alloc; "out {tick} a 0\n").expect(rt, "no memory");
+        text.push_str(line.as_str()).expect(rt, "no memory");
     }
-    text.push_str("done a jobs 4000 latest 2\ncycles 0 collector 0 idle 32000\nend 40000\n")?;
-    Ok(text)
+    let last = "done a jobs 4000 latest 2\ncycles 0 collector 0 idle 32000\nend 40000\n";
+    text.push_str(last).expect(rt, "no memory");
+    text
 }
 
 /// Compares that a run went out in several pieces, each of them large.
@@ -281,13 +264,12 @@ fn expect_large_pieces(rt: &impl Abort, sink: &MemSink) {
 }
 
 #[test]
-fn leaves_a_prefix_of_a_longer_report(rt: HostRuntime) -> Result<(), Fail> {
+fn leaves_a_prefix_of_a_longer_report(rt: HostRuntime) {
     let alloc = rt.alloc();
-    let input = edited(&rt, alloc, SMALLEST, "ticks = 10", "ticks = 40000")?;
-    let text = longer_report(alloc)?;
-    let whole = run(alloc, RUN, input.as_str(), (&[], &[]), 65536)?;
-    assert_eq!(rt; whole.status, Status::Done);
-    assert!(rt; whole.sink.bytes() == text.as_bytes());
+    let input = edited(&rt, alloc, SMALLEST, "ticks = 10", "ticks = 40000");
+    let text = longer_report(&rt, alloc);
+    let whole = run(&rt, alloc, RUN, input.as_str(), (&[], &[]), 65536);
+    expect_end(&rt, &whole, Status::Done, text.as_str());
     expect_large_pieces(&rt, &whole.sink);
     expect_parts(
         &rt,
@@ -295,30 +277,28 @@ fn leaves_a_prefix_of_a_longer_report(rt: HostRuntime) -> Result<(), Fail> {
         input.as_str(),
         whole.sink.calls(),
         text.as_str(),
-    )?;
-    Ok(())
+    );
 }
 
 /// The smallest sheet with a comment at the end that fills it up to so many bytes.
-fn filled(alloc: Global, length: usize) -> Result<String, AllocError> {
-    let mut input = String::from_str(alloc, SMALLEST)?;
-    input.push('#')?;
+fn filled(rt: &impl Abort, alloc: Global, length: usize) -> String {
+    let mut input = String::from_str(alloc, SMALLEST).expect(rt, "no memory");
+    input.push('#').expect(rt, "no memory");
     for _ in input.len()..length {
-        input.push('x')?;
+        input.push('x').expect(rt, "no memory");
     }
-    Ok(input)
+    input
 }
 
 #[test]
-fn takes_inputs_up_to_their_longest(rt: HostRuntime) -> Result<(), Fail> {
-    let input = filled(rt.alloc(), 1_048_576)?;
-    expect(&rt, rt.alloc(), RUN, input.as_str(), Status::Done, REPORT)?;
-    Ok(())
+fn takes_inputs_up_to_their_longest(rt: HostRuntime) {
+    let input = filled(&rt, rt.alloc(), 1_048_576);
+    expect(&rt, rt.alloc(), RUN, input.as_str(), Status::Done, REPORT);
 }
 
 #[test]
-fn refuses_longer_inputs(rt: HostRuntime) -> Result<(), Fail> {
-    let input = filled(rt.alloc(), 1_048_577)?;
+fn refuses_longer_inputs(rt: HostRuntime) {
+    let input = filled(&rt, rt.alloc(), 1_048_577);
     for words in FORMS {
         expect(
             &rt,
@@ -327,9 +307,8 @@ fn refuses_longer_inputs(rt: HostRuntime) -> Result<(), Fail> {
             input.as_str(),
             Status::Sheet,
             "sheet long\n",
-        )?;
+        );
     }
-    Ok(())
 }
 
 /// A reader of a text in pieces of 100 bytes at most, that fails at the call with this number and doesn't tell its bytes.
@@ -363,29 +342,24 @@ fn expect_faltering(
     faults: u64,
     status: Status,
     text: &str,
-) -> Result<(), AllocError> {
+) {
     let mut source = StdSource::new(Faltering {
         text: SMALLEST.as_bytes(),
         fails,
         calls: 0,
     });
-    let Ok(mut sink) = MemSink::new(alloc, 1000, Vec::new(alloc)) else {
-        return Err(AllocError);
-    };
-    let words = [String::from_str(alloc, "run")?];
-    let ended = run_tool(alloc, &words, &mut source, &mut sink);
+    let mut sink = sink(rt, alloc, 1000, &[]);
+    let words = strings(rt, alloc, RUN);
+    let ended = run_tool(alloc, words.as_slice(), &mut source, &mut sink);
     assert_eq!(rt; ended, status);
-    assert_eq!(rt; source.faults(), faults);
-    assert_eq!(rt; sink.bytes(), text.as_bytes());
-    Ok(())
+    assert!(rt; source.faults() == faults && sink.bytes() == text.as_bytes());
 }
 
 /// The sheet has 210 bytes: three calls, and one that finds the end.
 #[test]
-fn tells_a_failed_read_of_std_from_the_end(rt: HostRuntime) -> Result<(), Fail> {
+fn tells_a_failed_read_of_std_from_the_end(rt: HostRuntime) {
     for fails in 0..4 {
-        expect_faltering(&rt, rt.alloc(), fails, 1, Status::ReadFault, "")?;
+        expect_faltering(&rt, rt.alloc(), fails, 1, Status::ReadFault, "");
     }
-    expect_faltering(&rt, rt.alloc(), 4, 0, Status::Done, REPORT)?;
-    Ok(())
+    expect_faltering(&rt, rt.alloc(), 4, 0, Status::Done, REPORT);
 }

@@ -1,7 +1,6 @@
 //! Release jitter, and sheets of version 2.
 use super::{CHECK, Case, RUN, SMALLEST, THREE, expect_cases};
 use hk_io::Status;
-use std::test::Fail;
 
 /// A task of version 2 with an object of the most fields in its last register.
 const WIDE: &str = r#"version = 2
@@ -72,9 +71,8 @@ end 12
 ];
 
 #[test]
-fn ready_moments(rt: HostRuntime) -> Result<(), Fail> {
-    expect_cases(&rt, rt.alloc(), READY_MOMENTS)?;
-    Ok(())
+fn ready_moments(rt: HostRuntime) {
+    expect_cases(&rt, rt.alloc(), READY_MOMENTS);
 }
 
 /// The smallest sheet with two registers: frames have fewer registers, so that a cycle is shorter.
@@ -96,9 +94,8 @@ end 10
 }];
 
 #[test]
-fn other_registers(rt: HostRuntime) -> Result<(), Fail> {
-    expect_cases(&rt, rt.alloc(), FEW_REGISTERS)?;
-    Ok(())
+fn other_registers(rt: HostRuntime) {
+    expect_cases(&rt, rt.alloc(), FEW_REGISTERS);
 }
 
 /// Sheets with wide objects and other numbers of registers.
@@ -154,7 +151,6 @@ end 100
 ];
 
 #[test]
-fn wide_sheets(rt: HostRuntime) -> Result<(), Fail> {
-    expect_cases(&rt, rt.alloc(), WIDE_SHEETS)?;
-    Ok(())
+fn wide_sheets(rt: HostRuntime) {
+    expect_cases(&rt, rt.alloc(), WIDE_SHEETS);
 }

@@ -5,7 +5,7 @@ mod runs;
 mod streams;
 mod words;
 
-ghost use Rattle.std.specs.Prelude.{◌≤◌, length};
+ghost use Rattle.std.specs.Prelude.{◌≤◌, IfOk, IfSome, length};
 
 use crate::admission::admit_ceiling;
 use crate::admitted::Held;
@@ -16,7 +16,6 @@ use hk_admit::Refused;
 use hk_sheet::{Name, read};
 use std::alloc::{AllocError, Global};
 use std::process::Abort;
-use std::test::Fail;
 
 /// A high task, by its cost, period, deadline and jitter, and the ticks of its script `work`. A job comes at tick 0 and then every
 /// period.
@@ -65,6 +64,14 @@ fn words_of(alloc: Global, words: &[&str]) -> Result<Vec<String>, AllocError> {
         all.push(String::from_str(alloc, word)?)?;
     }
     Ok(all)
+}
+
+/// The sections that some words tell, None where they tell none.
+fn sections_of(alloc: Global, words: &[&str]) -> Result<Option<Sections>, AllocError>
+    ensures { IfOk result (λ found. IfSome found (λ sections. length sections ≤ 64)) }
+{
+    let words = words_of(alloc, words)?;
+    read_sections(alloc, words.as_slice())
 }
 
 /// The bytes of a name behind a word.
@@ -117,16 +124,20 @@ fn admitted(alloc: Global, text: &str, sections: &Sections) -> Result<String, Al
     }
 }
 
+/// What a case is answered, as a line.
+fn answered(alloc: Global, case: &Case) -> Result<String, AllocError> {
+    let text = text(alloc, case)?;
+    match sections_of(alloc, case.words)? {
+        Some(sections) => admitted(alloc, text.as_str(), &sections),
+        None => String::from_str(alloc, "usage"),
+    }
+}
+
 /// Admits the sheets of a table.
-fn admit_all(rt: &impl Abort, alloc: Global, cases: &[Case]) -> Result<(), Fail> {
+fn admit_all(rt: &impl Abort, alloc: Global, cases: &[Case]) -> Result<(), AllocError> {
     for case in cases {
-        let text = text(alloc, case)?;
-        let words = words_of(alloc, case.words)?;
-        let line = match read_sections(alloc, words.as_slice())? {
-            Some(sections) => admitted(alloc, text.as_str(), &sections)?,
-            None => String::from_str(alloc, "usage")?,
-        };
-        assert_eq!(rt; line.as_str(), case.wanted, "{text}");
+        let line = answered(alloc, case)?;
+        assert_eq!(rt; (case.words, line.as_str()), (case.words, case.wanted));
     }
     Ok(())
 }

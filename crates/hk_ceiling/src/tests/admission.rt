@@ -158,10 +158,12 @@ const REFUSALS: &[Case] = &[
 
 #[test]
 fn responses(rt: HostRuntime) -> Result<(), Fail> {
-    admit_all(&rt, rt.alloc(), RESPONSES)
+    admit_all(&rt, rt.alloc(), RESPONSES)?;
+    Ok(())
 }
 
 #[test]
 fn refusals(rt: HostRuntime) -> Result<(), Fail> {
-    admit_all(&rt, rt.alloc(), REFUSALS)
+    admit_all(&rt, rt.alloc(), REFUSALS)?;
+    Ok(())
 }

@@ -2,7 +2,7 @@
 use crate::ceilings::TaskSection;
 use crate::choice::best;
 use hk_dispatch::Ready;
-use std::alloc::Global;
+use std::alloc::{AllocError, Global};
 use std::process::Abort;
 use std::test::Fail;
 
@@ -16,7 +16,7 @@ struct Job {
 /// A section: its task and its resource, its first tick, and how many it has.
 type Told = (u8, u8, u32, u32);
 
-fn sections_of(alloc: Global, told: &[Told]) -> Result<Vec<TaskSection>, Fail> {
+fn sections_of(alloc: Global, told: &[Told]) -> Result<Vec<TaskSection>, AllocError> {
     let mut sections = Vec::new(alloc);
     for (task, res, start, len) in told {
         sections.push(TaskSection {
@@ -30,7 +30,7 @@ fn sections_of(alloc: Global, told: &[Told]) -> Result<Vec<TaskSection>, Fail> {
 }
 
 /// The rows of the jobs that are ready, where each has had so many ticks.
-fn rows(alloc: Global, jobs: &[Job], had: &[u64], tick: u64) -> Result<Vec<Ready>, Fail> {
+fn rows(alloc: Global, jobs: &[Job], had: &[u64], tick: u64) -> Result<Vec<Ready>, AllocError> {
     let mut rows = Vec::new(alloc);
     for (place, (job, done)) in jobs.iter().zip(had).enumerate() {
         if job.arrival <= tick && *done < job.ticks {
@@ -46,24 +46,60 @@ fn rows(alloc: Global, jobs: &[Job], had: &[u64], tick: u64) -> Result<Vec<Ready
     Ok(rows)
 }
 
-/// A letter for each of the first ticks: that of the job which gets it, or a dot.
-fn order(alloc: Global, told: &[Told], jobs: &[Job], ticks: u64) -> Result<String, Fail> {
-    let sections = sections_of(alloc, told)?;
+/// The task that gets a tick, None where no job is ready.
+fn chosen(
+    alloc: Global,
+    sections: &[TaskSection],
+    jobs: &[Job],
+    had: &[u64],
+    tick: u64,
+) -> Result<Option<u8>, AllocError> {
+    let ready = rows(alloc, jobs, had, tick)?;
+    if ready.is_empty() {
+        return Ok(None);
+    }
+    Ok(Some(ready[best(sections, &ready)].task))
+}
+
+/// Counts a tick of a task, and answers the task's letter, or a dot where there is none.
+fn count(had: &mut [u64], task: Option<u8>) -> char {
+    let Some(task) = task else {
+        return '.';
+    };
+    if let Some(done) = had.get_mut(task as usize) {
+        *done = done.saturating_add(1);
+    }
+    char::from(b'a' + task % 26)
+}
+
+/// A letter for each of the first ticks of three jobs: that of the job which gets it, or a dot.
+fn order(
+    alloc: Global,
+    sections: &[TaskSection],
+    jobs: &[Job],
+    ticks: u64,
+) -> Result<String, AllocError> {
     let mut text = String::new(alloc);
-    let mut had = vec![in alloc; 0u64; jobs.len()]?;
+    let mut had = [0u64; 3];
     for tick in 0..ticks {
-        let ready = rows(alloc, jobs, &had, tick)?;
-        if ready.is_empty() {
-            text.push('.')?;
-            continue;
-        }
-        let row = ready[best(&sections, &ready)];
-        text.push(char::from(b'a' + row.task % 26))?;
-        if let Some(done) = had.get_mut(row.task as usize) {
-            *done = done.saturating_add(1);
-        }
+        let task = chosen(alloc, sections, jobs, &had, tick)?;
+        text.push(count(&mut had, task))?;
     }
     Ok(text)
+}
+
+/// Compares who gets the first twelve ticks.
+fn expect(
+    rt: &impl Abort,
+    alloc: Global,
+    told: &[Told],
+    jobs: &[Job],
+    wanted: &str,
+) -> Result<(), AllocError> {
+    let sections = sections_of(alloc, told)?;
+    let text = order(alloc, &sections, jobs, 12)?;
+    assert_eq!(rt; (told, text.as_str()), (told, wanted));
+    Ok(())
 }
 
 /// Three jobs: the last arrives first.
@@ -131,18 +167,12 @@ const CASES: &[Case] = &[
     },
 ];
 
-/// Runs the jobs with each list of sections.
-fn check_all(rt: &impl Abort, alloc: Global, cases: &[Case]) -> Result<(), Fail> {
-    for case in cases {
-        let text = order(alloc, case.sections, JOBS, 12)?;
-        assert_eq!(rt; text.as_str(), case.wanted);
-    }
-    Ok(())
-}
-
 #[test]
 fn orders(rt: HostRuntime) -> Result<(), Fail> {
-    check_all(&rt, rt.alloc(), CASES)
+    for case in CASES {
+        expect(&rt, rt.alloc(), case.sections, JOBS, case.wanted)?;
+    }
+    Ok(())
 }
 
 /// Two jobs of one resource, where the ticks of an outer job lie between: the one that is inside keeps the resource.
@@ -163,7 +193,6 @@ fn one_holder(rt: HostRuntime) -> Result<(), Fail> {
             ticks: 6,
         },
     ];
-    let text = order(rt.alloc(), SECTIONS, THREE, 12)?;
-    assert_eq!(&rt; text.as_str(), "ccacccbbbbc.");
+    expect(&rt, rt.alloc(), SECTIONS, THREE, "ccacccbbbbc.")?;
     Ok(())
 }

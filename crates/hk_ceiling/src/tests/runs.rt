@@ -63,6 +63,12 @@ pub(super) struct Ended {
     pub(super) sink: MemSink,
 }
 
+/// A source of an input, of which the calls with these numbers fail.
+fn source_of(alloc: Global, input: &str, fails: &[u64]) -> Result<MemSource, AllocError> {
+    let fails = fails.to_vec(alloc)?;
+    Ok(MemSource::new(input.as_bytes().to_vec(alloc)?, fails))
+}
+
 /// Runs some words on an input, where the calls with these numbers fail, and the sink has so much room.
 pub(super) fn run(
     alloc: Global,
@@ -71,13 +77,9 @@ pub(super) fn run(
     fails: (&[u64], &[u64]),
     room: usize,
 ) -> Result<Ended, AllocError> {
+    let mut source = source_of(alloc, input, fails.0)?;
+    let mut sink = MemSink::new(alloc, room, fails.1.to_vec(alloc)?)?;
     let given = words_of(alloc, words)?;
-    let (source_fails, sink_fails) = fails;
-    let bytes = input.as_bytes().to_vec(alloc)?;
-    let mut source = MemSource::new(bytes, source_fails.to_vec(alloc)?);
-    let Ok(mut sink) = MemSink::new(alloc, room, sink_fails.to_vec(alloc)?) else {
-        return Err(AllocError);
-    };
     let status = run_ceiling(alloc, given.as_slice(), &mut source, &mut sink);
     Ok(Ended {
         status,
@@ -86,19 +88,67 @@ pub(super) fn run(
     })
 }
 
-/// Words for a sheet, how the program ends, and what it writes.
-pub(super) struct WholeRun {
-    pub(super) words: &'static [&'static str],
-    pub(super) sheet: &'static str,
-    pub(super) status: Status,
-    pub(super) text: &'static str,
+/// Compares how a run ends, and what is written.
+pub(super) fn expect_run(
+    rt: &impl Abort,
+    alloc: Global,
+    words: &[&str],
+    input: &str,
+    fails: (&[u64], &[u64]),
+    room: usize,
+    wanted: (Status, &str),
+) -> Result<(), AllocError> {
+    let ended = run(alloc, words, input, fails, room)?;
+    let (status, text) = wanted;
+    assert_eq!(rt;
+        (words, ended.status, ended.sink.bytes()),
+        (words, status, text.as_bytes())
+    );
+    Ok(())
 }
 
-pub(super) fn check_all(rt: &impl Abort, alloc: Global, runs: &[WholeRun]) -> Result<(), Fail> {
+/// The same where nothing fails.
+pub(super) fn expect(
+    rt: &impl Abort,
+    alloc: Global,
+    words: &[&str],
+    input: &str,
+    status: Status,
+    text: &str,
+) -> Result<(), AllocError> {
+    expect_run(rt, alloc, words, input, (&[], &[]), 4096, (status, text))
+}
+
+/// Compares the line that says why a sheet isn't admitted with the sections of some words.
+pub(super) fn expect_refused(
+    rt: &impl Abort,
+    alloc: Global,
+    words: &[&str],
+    input: &str,
+    line: &str,
+) -> Result<(), AllocError> {
+    let wanted = (Status::NotAdmitted, line);
+    expect_run(rt, alloc, words, input, (&[], &[]), 100, wanted)
+}
+
+/// Words for a sheet, how the program ends, and what it writes.
+struct WholeRun {
+    words: &'static [&'static str],
+    sheet: &'static str,
+    status: Status,
+    text: &'static str,
+}
+
+fn check_all(rt: &impl Abort, alloc: Global, runs: &[WholeRun]) -> Result<(), AllocError> {
     for wanted in runs {
-        let ended = run(alloc, wanted.words, wanted.sheet, (&[], &[]), 4096)?;
-        assert_eq!(rt; ended.sink.bytes(), wanted.text.as_bytes());
-        assert_eq!(rt; ended.status, wanted.status, "{}", wanted.text);
+        expect(
+            rt,
+            alloc,
+            wanted.words,
+            wanted.sheet,
+            wanted.status,
+            wanted.text,
+        )?;
     }
     Ok(())
 }
@@ -184,7 +234,8 @@ const RUNS: &[WholeRun] = &[
 
 #[test]
 fn reports(rt: HostRuntime) -> Result<(), Fail> {
-    check_all(&rt, rt.alloc(), RUNS)
+    check_all(&rt, rt.alloc(), RUNS)?;
+    Ok(())
 }
 
 /// Words, and the line of their refusal: one past the cost, by its start or its length; no tick; resources above 63 and above
@@ -205,19 +256,12 @@ const SECTIONS: &[(&[&str], &str)] = &[
     (&["c:0:0:3", "a:0:0:1", "c:1:2:2"], "refused section 2\n"),
 ];
 
-/// Runs words that aren't admitted.
-fn refuse_words(rt: &impl Abort, alloc: Global, cases: &[(&[&str], &str)]) -> Result<(), Fail> {
-    for (words, text) in cases {
-        let ended = run(alloc, words, THREE, (&[], &[]), 100)?;
-        assert_eq!(rt; ended.sink.bytes(), text.as_bytes());
-        assert_eq!(rt; ended.status, Status::NotAdmitted);
-    }
-    Ok(())
-}
-
 #[test]
 fn refused_sections(rt: HostRuntime) -> Result<(), Fail> {
-    refuse_words(&rt, rt.alloc(), SECTIONS)
+    for (words, text) in SECTIONS {
+        expect_refused(&rt, rt.alloc(), *words, THREE, text)?;
+    }
+    Ok(())
 }
 
 /// Refusals of the sheet, in the order in which they are looked for.
@@ -249,19 +293,18 @@ const SHEETS: &[Case] = &[
     },
 ];
 
-fn refuse_all(rt: &impl Abort, alloc: Global, cases: &[Case]) -> Result<(), Fail> {
-    for case in cases {
-        let sheet = text(alloc, case)?;
-        let ended = run(alloc, case.words, sheet.as_str(), (&[], &[]), 100)?;
-        assert_eq!(rt; ended.sink.bytes(), case.wanted.as_bytes());
-        assert_eq!(rt; ended.status, Status::NotAdmitted);
-    }
-    Ok(())
+/// Compares the line that says why the sheet of a case isn't admitted.
+fn expect_refusal(rt: &impl Abort, alloc: Global, case: &Case) -> Result<(), AllocError> {
+    let sheet = text(alloc, case)?;
+    expect_refused(rt, alloc, case.words, sheet.as_str(), case.wanted)
 }
 
 #[test]
 fn refused_sheets(rt: HostRuntime) -> Result<(), Fail> {
-    refuse_all(&rt, rt.alloc(), SHEETS)
+    for case in SHEETS {
+        expect_refusal(&rt, rt.alloc(), case)?;
+    }
+    Ok(())
 }
 
 /// Three tasks whose jobs come every period.
@@ -300,10 +343,24 @@ every = 12
 script = "work 3"
 "#;
 
+/// Compares what the program of fixed priorities writes of a sheet that it runs to its end.
+fn expect_by_priorities(
+    rt: &impl Abort,
+    alloc: Global,
+    sheet: &str,
+    text: &str,
+) -> Result<(), AllocError> {
+    let mut source = source_of(alloc, sheet, &[])?;
+    let mut sink = MemSink::new(alloc, 4096, Vec::new(alloc))?;
+    let words = words_of(alloc, &["run"])?;
+    let status = run_tool(alloc, words.as_slice(), &mut source, &mut sink);
+    assert_eq!(rt; (status, sink.bytes()), (Status::Done, text.as_bytes()));
+    Ok(())
+}
+
 /// Without words the text is that of a run by priorities.
 #[test]
 fn no_words(rt: HostRuntime) -> Result<(), Fail> {
-    let alloc = rt.alloc();
     let text = "heap work 4247 attempt 0 busy 10 debt 0
 high a response 1 deadline 4
 high b response 3 deadline 6
@@ -314,18 +371,8 @@ done c jobs 1 latest 10
 cycles 0 collector 0 idle 2
 end 12
 ";
-    let ended = run(alloc, &[], PERIODIC, (&[], &[]), 4096)?;
-    assert_eq!(&rt; ended.status, Status::Done);
-    assert_eq!(&rt; ended.sink.bytes(), text.as_bytes());
-    let words = words_of(alloc, &["run"])?;
-    let bytes = PERIODIC.as_bytes().to_vec(alloc)?;
-    let mut source = MemSource::new(bytes, Vec::new(alloc));
-    let Ok(mut sink) = MemSink::new(alloc, 4096, Vec::new(alloc)) else {
-        return Err(Fail::from(AllocError));
-    };
-    let status = run_tool(alloc, words.as_slice(), &mut source, &mut sink);
-    assert_eq!(&rt; status, Status::Done);
-    assert_eq!(&rt; sink.bytes(), text.as_bytes());
+    expect(&rt, rt.alloc(), &[], PERIODIC, Status::Done, text)?;
+    expect_by_priorities(&rt, rt.alloc(), PERIODIC, text)?;
     Ok(())
 }
 
@@ -367,5 +414,6 @@ const OTHER_ENDS: &[WholeRun] = &[
 
 #[test]
 fn other_ends(rt: HostRuntime) -> Result<(), Fail> {
-    check_all(&rt, rt.alloc(), OTHER_ENDS)
+    check_all(&rt, rt.alloc(), OTHER_ENDS)?;
+    Ok(())
 }

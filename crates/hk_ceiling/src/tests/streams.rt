@@ -1,23 +1,38 @@
 //! Which words are taken, and what happens where the input or the output fails.
-use super::runs::{REPORT, SHARED, THREE, run};
+use super::runs::{REPORT, SHARED, THREE, expect_refused, expect_run, run};
 use hk_io::Status;
-use std::alloc::Global;
+use std::alloc::{AllocError, Global};
 use std::process::Abort;
 use std::test::Fail;
 
 const USAGE: &str = "usage: hk_ceiling [NAME:RES:START:LEN]...\n";
 
-/// Wrong words are refused before anything is read, whatever the input is.
-fn check_usage(rt: &impl Abort, alloc: Global, words: &[&str]) -> Result<(), Fail> {
-    let ended = run(alloc, words, THREE, (&[0], &[]), 100)?;
-    assert_eq!(rt; ended.status, Status::Usage);
-    assert_eq!(rt; ended.source.calls(), 0);
-    assert_eq!(rt; ended.sink.bytes(), USAGE.as_bytes());
-    let failed = run(alloc, words, THREE, (&[], &[0]), 100)?;
-    assert_eq!(rt; failed.status, Status::WriteFault);
-    assert_eq!(rt; failed.source.calls(), 0);
-    assert!(rt; failed.sink.bytes().is_empty());
+/// Compares how wrong words end, what is written, and that nothing is read.
+fn expect_unread(
+    rt: &impl Abort,
+    alloc: Global,
+    words: &[&str],
+    fails: (&[u64], &[u64]),
+    status: Status,
+    text: &str,
+) -> Result<(), AllocError> {
+    let ended = run(alloc, words, THREE, fails, 100)?;
+    assert_eq!(rt;
+        (
+            words,
+            ended.status,
+            ended.source.calls(),
+            ended.sink.bytes()
+        ),
+        (words, status, 0, text.as_bytes())
+    );
     Ok(())
+}
+
+/// Wrong words are refused before anything is read, whatever the input is.
+fn check_usage(rt: &impl Abort, alloc: Global, words: &[&str]) -> Result<(), AllocError> {
+    expect_unread(rt, alloc, words, (&[0], &[]), Status::Usage, USAGE)?;
+    expect_unread(rt, alloc, words, (&[], &[0]), Status::WriteFault, "")
 }
 
 /// Words that tell no section, one of them behind a right one and one before.
@@ -40,25 +55,29 @@ fn refuses_other_words_before_it_reads(rt: HostRuntime) -> Result<(), Fail> {
 /// 64 words are taken, the second of which is a section that is wrong, and 65 aren't.
 #[test]
 fn takes_64_words(rt: HostRuntime) -> Result<(), Fail> {
-    let alloc = rt.alloc();
-    let most = run(alloc, &["a:0:0:1"; 64], THREE, (&[], &[]), 100)?;
-    assert_eq!(&rt; most.status, Status::NotAdmitted);
-    assert_eq!(&rt; most.sink.bytes(), "refused section 1\n".as_bytes());
-    check_usage(&rt, alloc, &["a:0:0:1"; 65])
+    let line = "refused section 1\n";
+    expect_refused(&rt, rt.alloc(), &["a:0:0:1"; 64], THREE, line)?;
+    check_usage(&rt, rt.alloc(), &["a:0:0:1"; 65])?;
+    Ok(())
 }
 
 /// Two calls read the input: all bytes, and the end.
 #[test]
 fn tells_a_failed_read_from_the_end(rt: HostRuntime) -> Result<(), Fail> {
-    let alloc = rt.alloc();
-    for (call, status) in [
-        (0, Status::ReadFault),
-        (1, Status::ReadFault),
-        (2, Status::Done),
+    for (call, status, text) in [
+        (0, Status::ReadFault, ""),
+        (1, Status::ReadFault, ""),
+        (2, Status::Done, REPORT),
     ] {
-        let ended = run(alloc, SHARED, THREE, (&[call], &[]), 4096)?;
-        assert_eq!(&rt; ended.status, status);
-        assert_eq!(&rt; ended.sink.bytes().is_empty(), status == Status::ReadFault);
+        expect_run(
+            &rt,
+            rt.alloc(),
+            SHARED,
+            THREE,
+            (&[call], &[]),
+            4096,
+            (status, text),
+        )?;
     }
     Ok(())
 }
@@ -70,20 +89,37 @@ fn check_prefix(
     words: &[&str],
     text: &str,
     call: u64,
-) -> Result<(), Fail> {
+) -> Result<(), AllocError> {
     let ended = run(alloc, words, THREE, (&[], &[call]), 4096)?;
-    assert_eq!(rt; ended.status, Status::WriteFault);
-    assert!(rt; ended.sink.bytes().len() < text.len());
-    assert!(rt; text.as_bytes().starts_with(ended.sink.bytes()));
+    let part = ended.sink.bytes();
+    assert_eq!(rt;
+        (
+            ended.status,
+            part.len() < text.len(),
+            text.as_bytes().starts_with(part)
+        ),
+        (Status::WriteFault, true, true)
+    );
     Ok(())
 }
 
-/// So it is at each call that writes it.
-fn check_prefixes(rt: &impl Abort, alloc: Global, words: &[&str], text: &str) -> Result<(), Fail> {
+/// How many calls write a text, each of which is whole.
+fn calls_of(rt: &impl Abort, alloc: Global, words: &[&str], text: &str) -> Result<u64, AllocError> {
     let whole = run(alloc, words, THREE, (&[], &[]), 4096)?;
     assert_eq!(rt; whole.sink.bytes(), text.as_bytes());
-    assert!(rt; whole.sink.calls() > 1);
-    for call in 0..whole.sink.calls() {
+    Ok(whole.sink.calls())
+}
+
+/// So it is at each call that writes it.
+fn check_prefixes(
+    rt: &impl Abort,
+    alloc: Global,
+    words: &[&str],
+    text: &str,
+) -> Result<(), AllocError> {
+    let calls = calls_of(rt, alloc, words, text)?;
+    assert!(rt; calls > 1);
+    for call in 0..calls {
         check_prefix(rt, alloc, words, text, call)?;
     }
     Ok(())
@@ -91,22 +127,40 @@ fn check_prefixes(rt: &impl Abort, alloc: Global, words: &[&str], text: &str) ->
 
 #[test]
 fn leaves_a_prefix_where_a_write_fails(rt: HostRuntime) -> Result<(), Fail> {
-    let alloc = rt.alloc();
-    check_prefixes(&rt, alloc, SHARED, REPORT)?;
-    check_prefixes(&rt, alloc, &["d:0:0:1"], "refused section 0\n")
+    check_prefixes(&rt, rt.alloc(), SHARED, REPORT)?;
+    check_prefixes(&rt, rt.alloc(), &["d:0:0:1"], "refused section 0\n")?;
+    Ok(())
+}
+
+/// Compares that as much of the report is written as there is room.
+fn check_room(rt: &impl Abort, alloc: Global, room: usize) -> Result<(), AllocError> {
+    let ended = run(alloc, SHARED, THREE, (&[], &[]), room)?;
+    let part = ended.sink.bytes();
+    assert_eq!(rt;
+        (
+            ended.status,
+            part.len(),
+            REPORT.as_bytes().starts_with(part)
+        ),
+        (Status::WriteFault, room, true)
+    );
+    Ok(())
 }
 
 /// And where there is no more room.
 #[test]
 fn leaves_a_prefix_where_room_ends(rt: HostRuntime) -> Result<(), Fail> {
-    let alloc = rt.alloc();
     for room in [0, 1, 40, REPORT.len() - 1] {
-        let ended = run(alloc, SHARED, THREE, (&[], &[]), room)?;
-        assert_eq!(&rt; ended.status, Status::WriteFault);
-        assert_eq!(&rt; ended.sink.bytes().len(), room);
-        assert!(&rt; REPORT.as_bytes().starts_with(ended.sink.bytes()));
+        check_room(&rt, rt.alloc(), room)?;
     }
-    let enough = run(alloc, SHARED, THREE, (&[], &[]), REPORT.len())?;
-    assert_eq!(&rt; enough.status, Status::Done);
+    expect_run(
+        &rt,
+        rt.alloc(),
+        SHARED,
+        THREE,
+        (&[], &[]),
+        REPORT.len(),
+        (Status::Done, REPORT),
+    )?;
     Ok(())
 }

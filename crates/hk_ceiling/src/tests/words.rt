@@ -1,6 +1,6 @@
 //! Words that tell a section, and words that don't.
-use super::{Case, Task, admit_all, read_sections, words_of};
-use std::alloc::Global;
+use super::{Case, Task, admit_all, sections_of};
+use std::alloc::{AllocError, Global};
 use std::process::Abort;
 use std::test::Fail;
 
@@ -38,12 +38,21 @@ const WRONG: &[&str] = &[
     "a;0;0;2",
 ];
 
+/// Whether some words tell sections.
+fn tells(alloc: Global, words: &[&str]) -> Result<bool, AllocError> {
+    Ok(sections_of(alloc, words)?.is_some())
+}
+
 /// Reads each word alone.
-fn check_all(rt: &impl Abort, alloc: Global, words: &[&str], wanted: bool) -> Result<(), Fail> {
+fn check_all(
+    rt: &impl Abort,
+    alloc: Global,
+    words: &[&str],
+    wanted: bool,
+) -> Result<(), AllocError> {
     for word in words {
-        let one = words_of(alloc, &[*word])?;
-        let found = read_sections(alloc, one.as_slice())?;
-        assert_eq!(rt; found.is_some(), wanted, "{word}");
+        let found = tells(alloc, &[*word])?;
+        assert_eq!(rt; (*word, found), (*word, wanted));
     }
     Ok(())
 }
@@ -51,17 +60,16 @@ fn check_all(rt: &impl Abort, alloc: Global, words: &[&str], wanted: bool) -> Re
 #[test]
 fn forms(rt: HostRuntime) -> Result<(), Fail> {
     check_all(&rt, rt.alloc(), RIGHT, true)?;
-    check_all(&rt, rt.alloc(), WRONG, false)
+    check_all(&rt, rt.alloc(), WRONG, false)?;
+    Ok(())
 }
 
 /// At most 64 words.
 #[test]
 fn many(rt: HostRuntime) -> Result<(), Fail> {
-    let alloc = rt.alloc();
-    let most = words_of(alloc, &["a:0:0:1"; 64])?;
-    assert!(&rt; read_sections(alloc, most.as_slice())?.is_some());
-    let more = words_of(alloc, &["a:0:0:1"; 65])?;
-    assert!(&rt; read_sections(alloc, more.as_slice())?.is_none());
+    let most = tells(rt.alloc(), &["a:0:0:1"; 64])?;
+    let more = tells(rt.alloc(), &["a:0:0:1"; 65])?;
+    assert_eq!(&rt; (most, more), (true, false));
     Ok(())
 }
 
@@ -82,5 +90,6 @@ fn usage(rt: HostRuntime) -> Result<(), Fail> {
             wanted: "usage",
         },
     ];
-    admit_all(&rt, rt.alloc(), CASES)
+    admit_all(&rt, rt.alloc(), CASES)?;
+    Ok(())
 }

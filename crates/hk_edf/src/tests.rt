@@ -18,6 +18,21 @@ struct Ended {
     sink: MemSink,
 }
 
+/// A source of an input, of which the calls with these numbers fail.
+fn source_of(alloc: Global, input: &str, fails: &[u64]) -> Result<MemSource, AllocError> {
+    let fails = fails.to_vec(alloc)?;
+    Ok(MemSource::new(input.as_bytes().to_vec(alloc)?, fails))
+}
+
+/// The words as they come from a command line.
+fn words_of(alloc: Global, words: &[&str]) -> Result<Vec<String>, AllocError> {
+    let mut all = Vec::new(alloc);
+    for word in words {
+        all.push(String::from_str(alloc, word)?)?;
+    }
+    Ok(all)
+}
+
 /// Runs some words on an input, where the calls with these numbers fail, and the sink has so much room.
 fn run(
     alloc: Global,
@@ -26,16 +41,9 @@ fn run(
     fails: (&[u64], &[u64]),
     room: usize,
 ) -> Result<Ended, AllocError> {
-    let mut given = Vec::new(alloc);
-    for word in words {
-        given.push(String::from_str(alloc, word)?)?;
-    }
-    let (source_fails, sink_fails) = fails;
-    let bytes = input.as_bytes().to_vec(alloc)?;
-    let mut source = MemSource::new(bytes, source_fails.to_vec(alloc)?);
-    let Ok(mut sink) = MemSink::new(alloc, room, sink_fails.to_vec(alloc)?) else {
-        return Err(AllocError);
-    };
+    let mut source = source_of(alloc, input, fails.0)?;
+    let mut sink = MemSink::new(alloc, room, fails.1.to_vec(alloc)?)?;
+    let given = words_of(alloc, words)?;
     let status = run_edf(alloc, given.as_slice(), &mut source, &mut sink);
     Ok(Ended {
         status,
@@ -44,7 +52,26 @@ fn run(
     })
 }
 
-/// Compares what is written for an input, and how the program ends.
+/// Compares what is written for an input, and how the program ends, where the calls with these numbers fail, and the sink has so
+/// much room.
+fn expect_run(
+    rt: &impl Abort,
+    alloc: Global,
+    input: &str,
+    fails: (&[u64], &[u64]),
+    room: usize,
+    status: Status,
+    text: &str,
+) -> Result<(), AllocError> {
+    let ended = run(alloc, &[], input, fails, room)?;
+    assert_eq!(rt;
+        (ended.status, ended.sink.bytes()),
+        (status, text.as_bytes())
+    );
+    Ok(())
+}
+
+/// The same where nothing fails.
 fn expect(
     rt: &impl Abort,
     alloc: Global,
@@ -52,8 +79,5 @@ fn expect(
     status: Status,
     text: &str,
 ) -> Result<(), AllocError> {
-    let ended = run(alloc, &[], input, (&[], &[]), 4096)?;
-    assert_eq!(rt; ended.status, status, "{input}");
-    assert_eq!(rt; ended.sink.bytes(), text.as_bytes(), "{input}");
-    Ok(())
+    expect_run(rt, alloc, input, (&[], &[]), 4096, status, text)
 }

@@ -1,5 +1,5 @@
 //! What is due, and the first time at which it is too much.
-ghost use Rattle.std.specs.Prelude.{IsTrue, ◌↔◌};
+ghost use Rattle.std.specs.Prelude.{IsTrue, ◌↔◌, ◌≤◌, All, length};
 ghost use Rattle.hk_rta.specs.Demand.{IsTimed};
 
 use crate::due::{demand, first_over};
@@ -31,16 +31,21 @@ fn timings(alloc: Global, tasks: &[(u64, u64, u64)]) -> Result<Vec<Timing>, Allo
         .collect(alloc)
 }
 
-/// What is due of some tasks within a time.
-fn due(
-    rt: &impl Abort,
-    alloc: Global,
-    tasks: &[(u64, u64, u64)],
-    t: u64,
-) -> Result<u64, AllocError> {
-    let tasks = timings(alloc, tasks)?;
-    assert!(rt; tasks.len() <= MAX_TASKS && t <= MAX_TICKS);
+/// Tells that there are no more tasks than there may be, and that each can be analysed.
+fn check_timed(rt: &impl Abort, tasks: &[Timing])
+    ensures few { length tasks.now ≤ MAX_TASKS }
+    ensures timed { All IsTimed tasks.now }
+{
+    assert!(rt; tasks.len() <= MAX_TASKS);
     assert!(rt; tasks.iter().all(is_timed));
+}
+
+/// What is due of some tasks within a time.
+fn due(rt: &impl Abort, alloc: Global, tasks: &[(u64, u64, u64)], t: u64) -> Result<u64, AllocError>
+    requires { t ≤ MAX_TICKS }
+{
+    let tasks = timings(alloc, tasks)?;
+    check_timed(rt, &tasks);
     Ok(demand(&tasks, t))
 }
 
@@ -50,55 +55,63 @@ fn over(
     alloc: Global,
     tasks: &[(u64, u64, u64)],
     last: u64,
-) -> Result<Option<u64>, AllocError> {
+) -> Result<Option<u64>, AllocError>
+    requires { last ≤ MAX_TICKS }
+{
     let tasks = timings(alloc, tasks)?;
-    assert!(rt; tasks.len() <= MAX_TASKS && last <= MAX_TICKS);
-    assert!(rt; tasks.iter().all(is_timed));
+    check_timed(rt, &tasks);
     Ok(first_over(&tasks, last))
 }
 
+const TWO: &[(u64, u64, u64)] = &[(2, 5, 5), (4, 7, 7)];
+
+/// Tasks, a time, and what is due within it.
+const DUE: &[(&[(u64, u64, u64)], u64, u64)] = &[
+    (TWO, 4, 0),
+    (TWO, 5, 2),
+    (TWO, 7, 6),
+    (TWO, 10, 8),
+    (TWO, 14, 12),
+    (&[], MAX_TICKS, 0),
+    (&[(MAX_TICKS, 1, 1)], MAX_TICKS, 281_474_976_710_656),
+];
+
 #[test]
 fn demands(rt: HostRuntime) -> Result<(), Fail> {
-    let alloc = rt.alloc();
-    let two: &[(u64, u64, u64)] = &[(2, 5, 5), (4, 7, 7)];
-    assert_eq!(rt; due(&rt, alloc, two, 4)?, 0);
-    assert_eq!(rt; due(&rt, alloc, two, 5)?, 2);
-    assert_eq!(rt; due(&rt, alloc, two, 7)?, 6);
-    assert_eq!(rt; due(&rt, alloc, two, 10)?, 8);
-    assert_eq!(rt; due(&rt, alloc, two, 14)?, 12);
-    assert_eq!(rt; due(&rt, alloc, &[], MAX_TICKS)?, 0);
-    assert_eq!(rt;
-        due(&rt, alloc, &[(MAX_TICKS, 1, 1)], MAX_TICKS)?,
-        281_474_976_710_656
-    );
+    for (tasks, t, wanted) in DUE {
+        assert!(rt; *t <= MAX_TICKS);
+        let found = due(&rt, rt.alloc(), *tasks, *t)?;
+        assert_eq!(rt; (*t, found), (*t, *wanted));
+    }
     Ok(())
 }
 
+const BIG: u64 = 16_777_216;
+
+/// Tasks, the last time that is looked at, and the first at which too much is due.
+const FIRST: &[(&[(u64, u64, u64)], u64, Option<u64>)] = &[
+    (&[], 100, None),
+    (&[(2, 5, 5), (4, 7, 7)], 14, None),
+    (&[(2, 5, 5), (4, 7, 7)], 10_000, None),
+    (&[(2, 5, 5), (4, 7, 5)], 14, Some(5)),
+    (&[(2, 5, 5), (4, 7, 5)], 4, None),
+    (&[(2, 5, 5), (4, 7, 5)], 5, Some(5)),
+    // a deadline below the cost
+    (&[(3, 9, 2)], 9, Some(2)),
+    // the second job of the first task is late
+    (&[(2, 4, 4), (3, 6, 6)], 12, None),
+    (&[(2, 4, 2), (3, 6, 6)], 12, Some(6)),
+    (&[(1, 1, 1), (1, 1000, 1000)], 1000, Some(1000)),
+    (&[(1, 1, 1), (1, 1000, 1000)], 999, None),
+    (&[(BIG, BIG, BIG)], BIG, None),
+];
+
 #[test]
 fn first_times(rt: HostRuntime) -> Result<(), Fail> {
-    const BIG: u64 = 16_777_216;
-    let cases: [(&[(u64, u64, u64)], u64, Option<u64>); 12] = [
-        (&[], 100, None),
-        (&[(2, 5, 5), (4, 7, 7)], 14, None),
-        (&[(2, 5, 5), (4, 7, 7)], 10_000, None),
-        (&[(2, 5, 5), (4, 7, 5)], 14, Some(5)),
-        (&[(2, 5, 5), (4, 7, 5)], 4, None),
-        (&[(2, 5, 5), (4, 7, 5)], 5, Some(5)),
-        // a deadline below the cost
-        (&[(3, 9, 2)], 9, Some(2)),
-        // the second job of the first task is late
-        (&[(2, 4, 4), (3, 6, 6)], 12, None),
-        (&[(2, 4, 2), (3, 6, 6)], 12, Some(6)),
-        (&[(1, 1, 1), (1, 1000, 1000)], 1000, Some(1000)),
-        (&[(1, 1, 1), (1, 1000, 1000)], 999, None),
-        (&[(BIG, BIG, BIG)], BIG, None),
-    ];
-    for (tasks, last, want) in cases {
-        assert_eq!(rt;
-            over(&rt, rt.alloc(), tasks, last)?,
-            want,
-            "at {tasks:?} {last}"
-        );
+    for (tasks, last, wanted) in FIRST {
+        assert!(rt; *last <= MAX_TICKS);
+        let found = over(&rt, rt.alloc(), *tasks, *last)?;
+        assert_eq!(rt; (*last, found), (*last, *wanted));
     }
     Ok(())
 }

@@ -36,8 +36,13 @@ fn chosen(rt: &impl Abort, deadlines: (u64, u64, u64)) -> usize {
 
 #[test]
 fn earliest_rows(rt: HostRuntime) {
-    assert_eq!(rt; chosen(&rt, (5, 6, 7)), 0);
-    assert_eq!(rt; chosen(&rt, (5, 4, 4)), 1);
-    assert_eq!(rt; chosen(&rt, (9, 9, 8)), 2);
-    assert_eq!(rt; chosen(&rt, (5, 5, 5)), 0);
+    assert_eq!(rt;
+        [
+            chosen(&rt, (5, 6, 7)),
+            chosen(&rt, (5, 4, 4)),
+            chosen(&rt, (9, 9, 8)),
+            chosen(&rt, (5, 5, 5)),
+        ],
+        [0, 1, 2, 0]
+    );
 }

@@ -1,7 +1,7 @@
 //! Whole runs, worked out by hand.
-use super::expect;
 use super::sheets::{Case, FITS, sheet_text};
-use hk_io::{MemSink, MemSource, Status};
+use super::{expect, source_of};
+use hk_io::{MemSink, Status};
 use hk_top::run_tool;
 use std::alloc::{AllocError, Global};
 use std::process::Abort;
@@ -37,42 +37,66 @@ fn runs_by_deadlines(rt: HostRuntime) -> Result<(), Fail> {
     Ok(())
 }
 
-/// What fits by deadlines needn't by fixed priorities.
-#[test]
-fn is_refused_by_priorities(rt: HostRuntime) -> Result<(), Fail> {
-    let alloc = rt.alloc();
-    let sheet = sheet_text(alloc, &FITS)?;
-    let mut source = MemSource::new(sheet.as_bytes().to_vec(alloc)?, Vec::new(alloc));
+/// Compares the line that says why a sheet isn't admitted with fixed priorities.
+fn expect_refusal_by_priorities(
+    rt: &impl Abort,
+    alloc: Global,
+    sheet: &str,
+    line: &str,
+) -> Result<(), AllocError> {
+    let mut source = source_of(alloc, sheet, &[])?;
     let mut sink = MemSink::new(alloc, 100, Vec::new(alloc))?;
     let check = [String::from_str(alloc, "check")?];
     let status = run_tool(alloc, &check, &mut source, &mut sink);
-    assert_eq!(rt; status, Status::NotAdmitted);
-    assert_eq!(rt; sink.bytes(), "refused response b\n".as_bytes());
+    assert_eq!(rt;
+        (status, sink.bytes()),
+        (Status::NotAdmitted, line.as_bytes())
+    );
     Ok(())
 }
 
+/// What fits by deadlines needn't by fixed priorities.
+#[test]
+fn is_refused_by_priorities(rt: HostRuntime) -> Result<(), Fail> {
+    let sheet = sheet_text(rt.alloc(), &FITS)?;
+    let line = "refused response b\n";
+    expect_refusal_by_priorities(&rt, rt.alloc(), sheet.as_str(), line)?;
+    Ok(())
+}
+
+/// Sheets that aren't admitted, and the lines that say why.
+const REFUSED: &[(Case, &str)] = &[
+    // Within 5 ticks 2 + 4 are due.
+    (
+        Case {
+            deadline: 5,
+            ..FITS
+        },
+        "refused demand 5\n",
+    ),
+    // 2 ticks of 5 and 5 of 7 are more than all.
+    (Case { cost: 5, ..FITS }, "refused busy\n"),
+    // A jitter is told before the demand.
+    (
+        Case {
+            deadline: 5,
+            jitter_b: 1,
+            ..FITS
+        },
+        "refused jitter b\n",
+    ),
+    // The script of `b` takes 4 ticks.
+    (
+        Case { cost: 3, ..FITS },
+        "refused cost b need 4 declared 3\n",
+    ),
+];
+
 #[test]
 fn tells_why_a_sheet_is_not_admitted(rt: HostRuntime) -> Result<(), Fail> {
-    let alloc = rt.alloc();
-    // Within 5 ticks 2 + 4 are due.
-    let soon = Case {
-        deadline: 5,
-        ..FITS
-    };
-    expect_case(&rt, alloc, &soon, Status::NotAdmitted, "refused demand 5\n")?;
-    // 2 ticks of 5 and 5 of 7 are more than all.
-    let long = Case { cost: 5, ..FITS };
-    expect_case(&rt, alloc, &long, Status::NotAdmitted, "refused busy\n")?;
-    // A jitter is told before the demand.
-    let late = Case {
-        jitter_b: 1,
-        ..soon
-    };
-    expect_case(&rt, alloc, &late, Status::NotAdmitted, "refused jitter b\n")?;
-    // The script of `b` takes 4 ticks.
-    let short = Case { cost: 3, ..FITS };
-    let line = "refused cost b need 4 declared 3\n";
-    expect_case(&rt, alloc, &short, Status::NotAdmitted, line)?;
+    for (case, line) in REFUSED {
+        expect_case(&rt, rt.alloc(), case, Status::NotAdmitted, line)?;
+    }
     Ok(())
 }
 

@@ -4,7 +4,6 @@ use crate::refused::EdfRefused;
 use hk_admit::Refused;
 use hk_sheet::{Name, read};
 use std::alloc::{AllocError, Global};
-use std::process::Abort;
 use std::test::Fail;
 
 /// A sheet of two high tasks: `a` has cost 2, period and deadline 5, and `b` the period 7.
@@ -49,7 +48,7 @@ fn told_of(refused: &EdfRefused) -> Told {
     }
 }
 
-fn answer(alloc: Global, case: &Case) -> Result<Told, Fail> {
+fn answer(alloc: Global, case: &Case) -> Result<Told, AllocError> {
     let text = sheet_text(alloc, case)?;
     let Ok(sheet) = read(alloc, text.as_bytes()) else {
         return Ok(Told::Other);
@@ -102,14 +101,11 @@ const CASES: &[Case] = &[
     },
 ];
 
-fn check_all(rt: &impl Abort, alloc: Global, cases: &[Case]) -> Result<(), Fail> {
-    for case in cases {
-        assert_eq!(rt; answer(alloc, case)?, case.told);
-    }
-    Ok(())
-}
-
 #[test]
 fn sheets(rt: HostRuntime) -> Result<(), Fail> {
-    check_all(&rt, rt.alloc(), CASES)
+    for case in CASES {
+        let told = answer(rt.alloc(), case)?;
+        assert_eq!(rt; told, case.told);
+    }
+    Ok(())
 }

@@ -1,22 +1,43 @@
 //! Which words are taken, and what happens where the input or the output fails.
 use super::runs::FULL;
 use super::sheets::{FITS, sheet_text};
-use super::{expect, run};
+use super::{expect, expect_run, run};
 use hk_io::Status;
+use std::alloc::{AllocError, Global};
+use std::process::Abort;
 use std::test::Fail;
+
+/// Compares how wrong words end, what is written, and that nothing is read.
+fn expect_unread(
+    rt: &impl Abort,
+    alloc: Global,
+    words: &[&str],
+    fails: (&[u64], &[u64]),
+    status: Status,
+    text: &str,
+) -> Result<(), AllocError> {
+    let ended = run(alloc, words, "", fails, 100)?;
+    assert_eq!(rt;
+        (
+            words,
+            ended.status,
+            ended.source.calls(),
+            ended.sink.bytes()
+        ),
+        (words, status, 0, text.as_bytes())
+    );
+    Ok(())
+}
+
+/// Words of any kind.
+const WRONG: &[&[&str]] = &[&[""], &["run"], &["a", "b"]];
 
 #[test]
 fn refuses_words_before_it_reads(rt: HostRuntime) -> Result<(), Fail> {
-    let wrong: [&[&str]; 3] = [&[""], &["run"], &["a", "b"]];
-    for words in wrong {
-        let ended = run(rt.alloc(), words, "", (&[0], &[]), 100)?;
-        assert_eq!(rt; ended.status, Status::Usage);
-        assert_eq!(rt; ended.source.calls(), 0);
-        assert_eq!(rt; ended.sink.bytes(), "usage: hk_edf\n".as_bytes());
-        let failed = run(rt.alloc(), words, "", (&[], &[0]), 100)?;
-        assert_eq!(rt; failed.status, Status::WriteFault);
-        assert_eq!(rt; failed.source.calls(), 0);
-        assert!(rt; failed.sink.bytes().is_empty());
+    let usage = "usage: hk_edf\n";
+    for words in WRONG {
+        expect_unread(&rt, rt.alloc(), *words, (&[0], &[]), Status::Usage, usage)?;
+        expect_unread(&rt, rt.alloc(), *words, (&[], &[0]), Status::WriteFault, "")?;
     }
     Ok(())
 }
@@ -25,37 +46,76 @@ fn refuses_words_before_it_reads(rt: HostRuntime) -> Result<(), Fail> {
 fn tells_a_failed_read_from_the_end(rt: HostRuntime) -> Result<(), Fail> {
     // Two calls: all bytes, and the end.
     let sheet = sheet_text(rt.alloc(), &FITS)?;
-    for (fails, status, text) in [
-        ([0], Status::ReadFault, ""),
-        ([1], Status::ReadFault, ""),
-        ([2], Status::Done, FULL),
+    for (call, status, text) in [
+        (0, Status::ReadFault, ""),
+        (1, Status::ReadFault, ""),
+        (2, Status::Done, FULL),
     ] {
-        let ended = run(rt.alloc(), &[], sheet.as_str(), (&fails, &[]), 1000)?;
-        assert_eq!(rt; ended.status, status);
-        assert_eq!(rt; ended.sink.bytes(), text.as_bytes());
+        expect_run(
+            &rt,
+            rt.alloc(),
+            sheet.as_str(),
+            (&[call], &[]),
+            1000,
+            status,
+            text,
+        )?;
     }
     Ok(())
 }
 
+/// Compares that as much of the report is written as there is room.
+fn check_room(rt: &impl Abort, alloc: Global, sheet: &str, room: usize) -> Result<(), AllocError> {
+    let ended = run(alloc, &[], sheet, (&[], &[]), room)?;
+    let part = ended.sink.bytes();
+    assert_eq!(rt;
+        (ended.status, part.len(), FULL.as_bytes().starts_with(part)),
+        (Status::WriteFault, room, true)
+    );
+    Ok(())
+}
+
+/// Compares that a first part of the report is written where this call fails.
+fn check_call(rt: &impl Abort, alloc: Global, sheet: &str, call: u64) -> Result<(), AllocError> {
+    let ended = run(alloc, &[], sheet, (&[], &[call]), 1000)?;
+    let part = ended.sink.bytes();
+    assert_eq!(rt;
+        (
+            ended.status,
+            part.len() < FULL.len(),
+            FULL.as_bytes().starts_with(part)
+        ),
+        (Status::WriteFault, true, true)
+    );
+    Ok(())
+}
+
+/// How many calls write the whole report, for which there is just room.
+fn calls_of(rt: &impl Abort, alloc: Global, sheet: &str) -> Result<u64, AllocError> {
+    let whole = run(alloc, &[], sheet, (&[], &[]), FULL.len())?;
+    assert_eq!(rt; whole.status, Status::Done);
+    Ok(whole.sink.calls())
+}
+
 #[test]
 fn leaves_a_prefix_where_a_write_fails(rt: HostRuntime) -> Result<(), Fail> {
-    let alloc = rt.alloc();
-    let sheet = sheet_text(alloc, &FITS)?;
+    let sheet = sheet_text(rt.alloc(), &FITS)?;
     for room in [0, 1, 60, FULL.len() - 1] {
-        let ended = run(alloc, &[], sheet.as_str(), (&[], &[]), room)?;
-        assert_eq!(rt; ended.status, Status::WriteFault);
-        assert_eq!(rt; ended.sink.bytes().len(), room);
-        assert!(rt; FULL.as_bytes().starts_with(ended.sink.bytes()));
+        check_room(&rt, rt.alloc(), sheet.as_str(), room)?;
     }
-    let whole = run(alloc, &[], sheet.as_str(), (&[], &[]), FULL.len())?;
-    assert_eq!(rt; whole.status, Status::Done);
-    for call in 0..whole.sink.calls() {
-        let ended = run(alloc, &[], sheet.as_str(), (&[], &[call]), 1000)?;
-        assert_eq!(rt; ended.status, Status::WriteFault);
-        assert!(rt; ended.sink.bytes().len() < FULL.len());
-        assert!(rt; FULL.as_bytes().starts_with(ended.sink.bytes()));
+    for call in 0..calls_of(&rt, rt.alloc(), sheet.as_str())? {
+        check_call(&rt, rt.alloc(), sheet.as_str(), call)?;
     }
     Ok(())
+}
+
+/// A text that is longer than a sheet may be.
+fn long_text(alloc: Global) -> Result<String, AllocError> {
+    let mut long = String::new(alloc);
+    for _ in 0..1_048_577 {
+        long.push('#')?;
+    }
+    Ok(long)
 }
 
 #[test]
@@ -63,10 +123,7 @@ fn refuses_what_is_no_sheet(rt: HostRuntime) -> Result<(), Fail> {
     let alloc = rt.alloc();
     expect(&rt, alloc, "x", Status::Sheet, "sheet text\n")?;
     expect(&rt, alloc, "", Status::Sheet, "sheet missing version\n")?;
-    let mut long = String::new(alloc);
-    for _ in 0..1_048_577 {
-        long.push('#')?;
-    }
+    let long = long_text(alloc)?;
     expect(&rt, alloc, long.as_str(), Status::Sheet, "sheet long\n")?;
     Ok(())
 }

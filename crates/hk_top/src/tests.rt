@@ -11,7 +11,7 @@ mod streams;
 mod versions;
 
 use crate::run_tool;
-use hk_io::{MemSink, MemSource, Status};
+use hk_io::{MemSink, MemSource, Status, Trial};
 use std::alloc::Global;
 use std::process::Abort;
 
@@ -127,28 +127,6 @@ struct Ended {
     sink: MemSink,
 }
 
-/// Words as the program is given them.
-fn strings(rt: &impl Abort, alloc: Global, words: &[&str]) -> Vec<String> {
-    let mut strings = Vec::new(alloc);
-    for word in words {
-        let string = String::from_str(alloc, word).expect(rt, "no memory");
-        strings.push(string).expect(rt, "no memory");
-    }
-    strings
-}
-
-/// A source of a text, of which the calls with these numbers fail.
-fn source(rt: &impl Abort, alloc: Global, text: &str, fails: &[u64]) -> MemSource {
-    let bytes = text.as_bytes().to_vec(alloc).expect(rt, "no memory");
-    MemSource::new(bytes, fails.to_vec(alloc).expect(rt, "no memory"))
-}
-
-/// A sink of so much room, of which the calls with these numbers fail.
-fn sink(rt: &impl Abort, alloc: Global, room: usize, fails: &[u64]) -> MemSink {
-    let fails = fails.to_vec(alloc).expect(rt, "no memory");
-    MemSink::new(alloc, room, fails).expect(rt, "no memory")
-}
-
 /// Runs some words on an input, where the calls with these numbers fail, and the sink has so much room.
 fn run(
     rt: &impl Abort,
@@ -158,10 +136,12 @@ fn run(
     fails: (&[u64], &[u64]),
     room: usize,
 ) -> Ended {
-    let (source_fails, sink_fails) = fails;
-    let words = strings(rt, alloc, words);
-    let mut source = source(rt, alloc, input, source_fails);
-    let mut sink = sink(rt, alloc, room, sink_fails);
+    let trial = Trial::new(alloc, words, input.as_bytes(), fails, room);
+    let Trial {
+        words,
+        mut source,
+        mut sink,
+    } = trial.expect(rt, "no memory");
     let status = run_tool(alloc, words.as_slice(), &mut source, &mut sink);
     Ended {
         status,

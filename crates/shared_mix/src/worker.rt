@@ -5,7 +5,7 @@ ghost use Rattle.hk_table.specs.Passes.{IsPassOf};
 use crate::draws::draws_of_seat;
 use crate::tally::Tally;
 use hk_table::{Heap, HeapError, Pass, Steps};
-use hk_words::Shape;
+use hk_words::{Draws, Shape};
 use std::sync::atomic::{AtomicBool, Ordering};
 use std::sync::ledger::Ledger;
 

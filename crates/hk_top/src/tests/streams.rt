@@ -1,10 +1,9 @@
 //! Which words are taken, and what happens where the input or the output fails.
 use super::{
     ANALYSIS, CHECK, REPORT, RUN, SMALLEST, TRACE, edited, expect, expect_end, expect_part, run,
-    sink, strings,
 };
 use crate::run_tool;
-use hk_io::{MemSink, Status, StdSource};
+use hk_io::{MemSink, Status, StdSource, Trial};
 use std::alloc::Global;
 use std::io;
 use std::io::{ErrorKind, Read};
@@ -348,8 +347,12 @@ fn expect_faltering(
         fails,
         calls: 0,
     });
-    let mut sink = sink(rt, alloc, 1000, &[]);
-    let words = strings(rt, alloc, RUN);
+    let trial = Trial::new(alloc, RUN, &[], (&[], &[]), 1000);
+    let Trial {
+        words,
+        mut sink,
+        ..
+    } = trial.expect(rt, "no memory");
     let ended = run_tool(alloc, words.as_slice(), &mut source, &mut sink);
     assert_eq!(rt; ended, status);
     assert!(rt; source.faults() == faults && sink.bytes() == text.as_bytes());

@@ -127,6 +127,18 @@ struct Ended {
     sink: MemSink,
 }
 
+/// Words, an input and a sink of so much room, where the calls with these numbers fail.
+fn trial(
+    rt: &impl Abort,
+    alloc: Global,
+    words: &[&str],
+    input: &str,
+    fails: (&[u64], &[u64]),
+    room: usize,
+) -> Trial {
+    Trial::new(alloc, words, input.as_bytes(), fails, room).expect(rt, "no memory")
+}
+
 /// Runs some words on an input, where the calls with these numbers fail, and the sink has so much room.
 fn run(
     rt: &impl Abort,
@@ -136,12 +148,11 @@ fn run(
     fails: (&[u64], &[u64]),
     room: usize,
 ) -> Ended {
-    let trial = Trial::new(alloc, words, input.as_bytes(), fails, room);
     let Trial {
         words,
         mut source,
         mut sink,
-    } = trial.expect(rt, "no memory");
+    } = trial(rt, alloc, words, input, fails, room);
     let status = run_tool(alloc, words.as_slice(), &mut source, &mut sink);
     Ended {
         status,
@@ -177,6 +188,11 @@ fn expect(rt: &impl Abort, alloc: Global, words: &[&str], input: &str, status: S
 /// Compares what the word `run` writes for an input, and how it ends.
 fn expect_run(rt: &impl Abort, alloc: Global, input: &str, status: Status, text: &str) {
     expect(rt, alloc, RUN, input, status, text);
+}
+
+/// Adds a text to another.
+fn add(rt: &impl Abort, text: &mut String, more: &str) {
+    text.push_str(more).expect(rt, "no memory");
 }
 
 /// A sheet with a part of its text changed.

@@ -1,36 +1,51 @@
 //! All orders of a few tasks, tried one after the other.
-use super::{Order, Stuck, Timing, answer};
-use std::alloc::{AllocError, Global};
+use super::{Timing, add_index, expect_answer};
+use hk_words::Draws;
+use std::alloc::Global;
 use std::process::Abort;
-use std::test::Fail;
 
 /// How many lists there are of so many numbers below so many.
 const LISTS: [usize; 6] = [1, 1, 4, 27, 256, 3125];
 
-/// The next number of a generator, below a bound.
-fn draw(state: &mut u64, bound: u64) -> u64 {
-    *state = state
-        .wrapping_mul(6_364_136_223_846_793_005)
-        .wrapping_add(1_442_695_040_888_963_407);
-    (*state >> 33) % bound.max(1)
+/// A task, drawn.
+fn drawn_task(draws: &mut Draws) -> Timing {
+    let cost = draws.below(4);
+    let period = draws.below(16);
+    let deadline = draws.below(20);
+    let jitter = draws.below(4);
+    Timing {
+        cost: 1 + cost % 4,
+        period: 4 + period % 16,
+        deadline: 4 + deadline % 20,
+        jitter: jitter % 4,
+    }
 }
 
 /// So many tasks, drawn.
-fn drawn(alloc: Global, state: &mut u64, count: usize) -> Result<Vec<Timing>, AllocError> {
+fn drawn(rt: &impl Abort, alloc: Global, draws: &mut Draws, count: usize) -> Vec<Timing> {
     let mut tasks = Vec::new(alloc);
     for _ in 0..count {
-        let cost = draw(state, 4);
-        let period = draw(state, 16);
-        let deadline = draw(state, 20);
-        let jitter = draw(state, 4);
-        tasks.push(Timing {
-            cost: 1 + cost % 4,
-            period: 4 + period % 16,
-            deadline: 4 + deadline % 20,
-            jitter: jitter % 4,
-        })?;
+        tasks.push(drawn_task(draws)).expect(rt, "no memory");
     }
-    Ok(tasks)
+    tasks
+}
+
+/// What a task and those before it ask for in a window.
+fn asked(tasks: &[Timing], before: &[usize], task: usize, window: u64) -> u64 {
+    let mut asked: u64 = 0;
+    for (index, other) in tasks.iter().enumerate() {
+        let arrivals = if index == task {
+            1
+        } else if before.contains(&index) {
+            window
+                .saturating_add(other.jitter)
+                .div_ceil(other.period.max(1))
+        } else {
+            0
+        };
+        asked = asked.saturating_add(arrivals.saturating_mul(other.cost));
+    }
+    asked
 }
 
 /// Whether some window up to the deadline is exactly what a task and those before it ask for.
@@ -39,16 +54,7 @@ fn is_in_time(tasks: &[Timing], before: &[usize], task: usize) -> bool {
         return false;
     };
     for window in 1..=own.deadline.saturating_sub(own.jitter) {
-        let mut asked = own.cost;
-        for (index, other) in tasks.iter().enumerate() {
-            if index != task && before.contains(&index) {
-                let arrivals = window
-                    .saturating_add(other.jitter)
-                    .div_ceil(other.period.max(1));
-                asked = asked.saturating_add(arrivals.saturating_mul(other.cost));
-            }
-        }
-        if asked == window {
+        if asked(tasks, before, task, window) == window {
             return true;
         }
     }
@@ -56,19 +62,14 @@ fn is_in_time(tasks: &[Timing], before: &[usize], task: usize) -> bool {
 }
 
 /// The digits of a number by a base, the lowest first.
-fn digits(
-    alloc: Global,
-    number: usize,
-    base: usize,
-    count: usize,
-) -> Result<Vec<usize>, AllocError> {
+fn digits(rt: &impl Abort, alloc: Global, number: usize, base: usize, count: usize) -> Vec<usize> {
     let mut digits = Vec::new(alloc);
     let mut rest = number;
     for _ in 0..count {
-        digits.push(rest % base.max(1))?;
+        digits.push(rest % base.max(1)).expect(rt, "no memory");
         rest /= base.max(1);
     }
-    Ok(digits)
+    digits
 }
 
 /// Whether a list has no number twice, and each task is in time behind those before it.
@@ -84,16 +85,27 @@ fn keeps_deadlines(tasks: &[Timing], order: &[usize]) -> bool {
 
 /// The order that keeps all deadlines, of these the one with the greatest task in the last place, and so on towards the
 /// first: its list is the greatest number by its digits.
-fn best_order(alloc: Global, tasks: &[Timing]) -> Result<Option<Vec<usize>>, AllocError> {
+fn best_order(rt: &impl Abort, alloc: Global, tasks: &[Timing]) -> Option<Vec<usize>> {
     let count = tasks.len();
-    let mut best = None;
-    for number in 0..*LISTS.get(count).unwrap_or(&0) {
-        let order = digits(alloc, number, count, count)?;
+    for number in (0..*LISTS.get(count).unwrap_or(&0)).rev() {
+        let order = digits(rt, alloc, number, count, count);
         if keeps_deadlines(tasks, &order) {
-            best = Some(order);
+            return Some(order);
         }
     }
-    Ok(best)
+    None
+}
+
+/// The tasks that a number names by its bits.
+fn set(rt: &impl Abort, alloc: Global, number: usize, count: usize) -> Vec<usize> {
+    let bits = digits(rt, alloc, number, 2, count);
+    let mut set = Vec::new(alloc);
+    for (task, bit) in bits.iter().enumerate() {
+        if *bit == 1 {
+            set.push(task).expect(rt, "no memory");
+        }
+    }
+    set
 }
 
 /// Whether none of some tasks is in time behind the others.
@@ -106,65 +118,62 @@ fn none_is_last(tasks: &[Timing], set: &[usize]) -> bool {
     true
 }
 
-/// The tasks of all sets of which none can be the last.
-fn blocked(alloc: Global, tasks: &[Timing]) -> Result<Vec<usize>, AllocError> {
-    let count = tasks.len();
-    let mut blocked = Vec::new(alloc);
+/// Whether a task is in some set of which none can be the last.
+fn is_blocked(rt: &impl Abort, alloc: Global, tasks: &[Timing], task: usize) -> bool {
     for number in 0..32 {
-        let bits = digits(alloc, number, 2, count)?;
-        let mut set = Vec::new(alloc);
-        for (task, bit) in bits.iter().enumerate() {
-            if *bit == 1 {
-                set.push(task)?;
-            }
-        }
-        if none_is_last(tasks, &set) {
-            blocked.extend_from_slice(&set)?;
+        let set = set(rt, alloc, number, tasks.len());
+        if set.contains(&task) && none_is_last(tasks, &set) {
+            return true;
         }
     }
-    Ok(blocked)
+    false
+}
+
+/// The line of an order.
+fn order_line(rt: &impl Abort, alloc: Global, order: &[usize]) -> String {
+    let mut line = String::from_str(alloc, "order").expect(rt, "no memory");
+    for task in order {
+        add_index(rt, alloc, &mut line, *task);
+    }
+    line
+}
+
+/// The line of the tasks of all sets of which none can be the last.
+fn stuck_line(rt: &impl Abort, alloc: Global, tasks: &[Timing]) -> String {
+    let mut line = String::from_str(alloc, "stuck").expect(rt, "no memory");
+    for task in 0..tasks.len() {
+        if is_blocked(rt, alloc, tasks, task) {
+            add_index(rt, alloc, &mut line, task);
+        }
+    }
+    line
+}
+
+/// The line that is to be answered for some tasks.
+fn wanted(rt: &impl Abort, alloc: Global, tasks: &[Timing]) -> String {
+    match best_order(rt, alloc, tasks) {
+        Some(order) => order_line(rt, alloc, &order),
+        None => stuck_line(rt, alloc, tasks),
+    }
 }
 
 /// Looks at the answer for some tasks, and tells whether there is an order.
-fn check(rt: &impl Abort, alloc: Global, tasks: &[Timing]) -> Result<bool, AllocError> {
-    let best = best_order(alloc, tasks)?;
-    let found = answer(rt, tasks);
-    match found {
-        Ok(order) => {
-            let Some(wanted) = best else {
-                panic!(rt; "no order of {tasks:?}");
-            };
-            assert_eq!(rt; order.len(), wanted.len());
-            for (place, task) in wanted.iter().enumerate() {
-                if place < order.len() {
-                    let there = usize::from(order.at(place as u8));
-                    assert_eq!(rt; there, *task, "{tasks:?}");
-                }
-            }
-            Ok(true)
-        }
-        Err(stuck) => {
-            assert!(rt; best.is_none(), "an order of {tasks:?}");
-            let blocked = blocked(alloc, tasks)?;
-            for task in 0..5u8 {
-                let wanted = blocked.contains(&usize::from(task));
-                assert_eq!(rt; stuck.has(task), wanted, "{task} of {tasks:?}");
-            }
-            Ok(false)
-        }
-    }
+fn check(rt: &impl Abort, alloc: Global, tasks: &[Timing]) -> bool {
+    let wanted = wanted(rt, alloc, tasks);
+    expect_answer(rt, alloc, tasks, wanted.as_str());
+    wanted.as_str().starts_with("order")
 }
 
 #[test]
-fn all_orders(rt: HostRuntime) -> Result<(), Fail> {
+fn all_orders(rt: HostRuntime) {
     let alloc = rt.alloc();
-    let mut state = 2026;
+    let mut draws = Draws { state: 2026 };
     let mut orders: u32 = 0;
     let mut stuck: u32 = 0;
     for count in 0..6 {
         for _ in 0..40 {
-            let tasks = drawn(alloc, &mut state, count)?;
-            if check(&rt, alloc, &tasks)? {
+            let tasks = drawn(&rt, alloc, &mut draws, count);
+            if check(&rt, alloc, &tasks) {
                 orders = orders.saturating_add(1);
             } else {
                 stuck = stuck.saturating_add(1);
@@ -173,5 +182,4 @@ fn all_orders(rt: HostRuntime) -> Result<(), Fail> {
     }
     // both answers come often
     assert!(rt; orders > 80 && stuck > 40, "{orders} and {stuck}");
-    Ok(())
 }

@@ -1,7 +1,5 @@
 //! Orders that are worked out by hand.
-use super::{Order, Stuck, Timing, answer};
-use std::alloc::{AllocError, Global};
-use std::test::Fail;
+use super::{Timing, expect_answer};
 
 /// Tasks, and the order of their indices, or the indices of those that are stuck.
 struct Case {
@@ -214,29 +212,9 @@ const CASES: &[Case] = &[
     },
 ];
 
-/// An answer for so many tasks as a line.
-fn line(alloc: Global, tasks: usize, answer: &Result<Order, Stuck>) -> Result<String, AllocError> {
-    let mut text = String::from_str(alloc, if answer.is_ok() { "order" } else { "stuck" })?;
-    for index in 0..tasks.min(255) as u8 {
-        let task = match answer {
-            Ok(order) if usize::from(index) < order.len() => Some(order.at(index)),
-            Err(stuck) if stuck.has(index) => Some(index),
-            _ => None,
-        };
-        if let Some(task) = task {
-            let word = format!(in alloc; " {task}")?;
-            text.push_str(word.as_str())?;
-        }
-    }
-    Ok(text)
-}
-
 #[test]
-fn worked_orders(rt: HostRuntime) -> Result<(), Fail> {
+fn worked_orders(rt: HostRuntime) {
     for case in CASES {
-        let answer = answer(&rt, case.tasks);
-        let line = line(rt.alloc(), case.tasks.len(), &answer)?;
-        assert_eq!(rt; line.as_str(), case.wanted);
+        expect_answer(&rt, rt.alloc(), case.tasks, case.wanted);
     }
-    Ok(())
 }

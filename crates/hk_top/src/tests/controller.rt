@@ -1,5 +1,5 @@
 //! A controller of three loops and two low tasks.
-use super::{CHECK, RUN, TRACE, expect, expect_status, run};
+use super::{CHECK, RUN, TRACE, add, expect, expect_status, run};
 use hk_io::Status;
 use std::alloc::Global;
 use std::process::Abort;
@@ -157,8 +157,8 @@ fn untraced(rt: &impl Abort, alloc: Global, text: &str) -> String {
     let mut rest = String::new(alloc);
     for line in text.lines() {
         if !line.starts_with("t ") && !line.starts_with("ended ") {
-            rest.push_str(line).expect(rt, "no memory");
-            rest.push('\n').expect(rt, "no memory");
+            add(rt, &mut rest, line);
+            add(rt, &mut rest, "\n");
         }
     }
     rest

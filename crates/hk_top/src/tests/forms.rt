@@ -1,7 +1,7 @@
 //! The forms `check`, `run` and `run --trace` of the same sheets.
 use super::{
-    ANALYSIS, CHECK, Case, REPORT, REPORT_OF_THREE, RUN, SMALLEST, THREE, TRACE, changed, expect,
-    expect_cases,
+    ANALYSIS, CHECK, Case, REPORT, REPORT_OF_THREE, RUN, SMALLEST, THREE, TRACE, add, changed,
+    expect, expect_cases,
 };
 use hk_io::Status;
 use std::alloc::Global;
@@ -306,17 +306,22 @@ struct Span {
     behind: &'static str,
 }
 
+/// Adds the line of a tick.
+fn add_tick(rt: &impl Abort, alloc: Global, text: &mut String, tick: u64, who: &str) {
+    let line = format!(in alloc; "t {tick} {who}\n").expect(rt, "no memory");
+    add(rt, text, line.as_str());
+}
+
 /// The lines of a trace between the first lines and the last.
 fn traced(rt: &impl Abort, alloc: Global, head: &str, spans: &[Span], tail: &str) -> String {
     let mut text = String::from_str(alloc, head).expect(rt, "no memory");
     for span in spans {
         for tick in span.first..span.end {
-            let line = format!(in alloc; "t {tick} {}\n", span.who).expect(rt, "no memory");
-            text.push_str(line.as_str()).expect(rt, "no memory");
+            add_tick(rt, alloc, &mut text, tick, span.who);
         }
-        text.push_str(span.behind).expect(rt, "no memory");
+        add(rt, &mut text, span.behind);
     }
-    text.push_str(tail).expect(rt, "no memory");
+    add(rt, &mut text, tail);
     text
 }
 

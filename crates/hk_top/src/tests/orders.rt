@@ -1,5 +1,5 @@
 //! Several tasks, lists of arrivals, and the order of refusals.
-use super::{Case, RUN, SMALLEST, THREE, edited, expect_cases, expect_run};
+use super::{Case, RUN, SMALLEST, THREE, add, edited, expect_cases, expect_run};
 use hk_io::Status;
 use std::alloc::Global;
 use std::process::Abort;
@@ -161,7 +161,7 @@ fn admits_by_the_work_of_the_collector(rt: HostRuntime) {
 fn statements(rt: &impl Abort, alloc: Global, count: u64) -> String {
     let mut script = String::new(alloc);
     for _ in 0..count {
-        script.push_str("set v0 1\n").expect(rt, "no memory");
+        add(rt, &mut script, "set v0 1\n");
     }
     script
 }

@@ -1,6 +1,7 @@
 //! Which words are taken, and what happens where the input or the output fails.
 use super::{
-    ANALYSIS, CHECK, REPORT, RUN, SMALLEST, TRACE, edited, expect, expect_end, expect_part, run,
+    ANALYSIS, CHECK, REPORT, RUN, SMALLEST, TRACE, add, edited, expect, expect_end, expect_part,
+    run, trial,
 };
 use crate::run_tool;
 use hk_io::{MemSink, Status, StdSource, Trial};
@@ -249,10 +250,10 @@ fn longer_report(rt: &impl Abort, alloc: Global) -> String {
     for job in 0..4000_u32 {
         let tick = 10 * u64::from(job) + 1;
         let line = format!(in alloc; "out {tick} a 0\n").expect(rt, "no memory");
-        text.push_str(line.as_str()).expect(rt, "no memory");
+        add(rt, &mut text, line.as_str());
     }
     let last = "done a jobs 4000 latest 2\ncycles 0 collector 0 idle 32000\nend 40000\n";
-    text.push_str(last).expect(rt, "no memory");
+    add(rt, &mut text, last);
     text
 }
 
@@ -282,9 +283,9 @@ fn leaves_a_prefix_of_a_longer_report(rt: HostRuntime) {
 /// The smallest sheet with a comment at the end that fills it up to so many bytes.
 fn filled(rt: &impl Abort, alloc: Global, length: usize) -> String {
     let mut input = String::from_str(alloc, SMALLEST).expect(rt, "no memory");
-    input.push('#').expect(rt, "no memory");
+    add(rt, &mut input, "#");
     for _ in input.len()..length {
-        input.push('x').expect(rt, "no memory");
+        add(rt, &mut input, "x");
     }
     input
 }

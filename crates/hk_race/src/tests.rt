@@ -58,6 +58,21 @@ struct Ended {
     sink: MemSink,
 }
 
+/// A source of an input, of which the calls with these numbers fail.
+fn source_of(alloc: Global, input: &str, fails: &[u64]) -> Result<MemSource, AllocError> {
+    let fails = fails.to_vec(alloc)?;
+    Ok(MemSource::new(input.as_bytes().to_vec(alloc)?, fails))
+}
+
+/// The words as they come from a command line.
+fn words_of(alloc: Global, words: &[&str]) -> Result<Vec<String>, AllocError> {
+    let mut all = Vec::new(alloc);
+    for word in words {
+        all.push(String::from_str(alloc, word)?)?;
+    }
+    Ok(all)
+}
+
 /// Runs the program for some words and an input, where the calls of the source and of the sink with these numbers fail, and the
 /// sink has so much room.
 fn run<R: Threads + Wait + Sync, G: Gate>(
@@ -69,24 +84,33 @@ fn run<R: Threads + Wait + Sync, G: Gate>(
     room: usize,
     gate: &G,
 ) -> Result<Ended, AllocError> {
-    let mut given = Vec::new(alloc);
-    for word in words {
-        given.push(String::from_str(alloc, word)?)?;
-    }
-    let (source_fails, sink_fails) = fails;
-    let bytes = input.as_bytes().to_vec(alloc)?;
-    let mut source = MemSource::new(bytes, source_fails.to_vec(alloc)?);
-    let Ok(mut sink) = MemSink::new(alloc, room, sink_fails.to_vec(alloc)?) else {
-        return Err(AllocError);
-    };
+    let mut source = source_of(alloc, input, fails.0)?;
+    let mut sink = MemSink::new(alloc, room, fails.1.to_vec(alloc)?)?;
+    let given = words_of(alloc, words)?;
     let end = race(rt, alloc, given.as_slice(), &mut source, &mut sink, gate);
     Ok(Ended { end, source, sink })
 }
 
 /// Compares how the program ended, and what it wrote.
 fn expect_end(rt: &impl Abort, ended: &Ended, status: Status, text: &str) {
-    assert_eq!(rt; ended.end.status, status);
-    assert_eq!(rt; ended.sink.bytes(), text.as_bytes());
+    assert_eq!(rt;
+        (ended.end.status, ended.sink.bytes()),
+        (status, text.as_bytes())
+    );
+}
+
+/// Compares what the race of an input comes to beside a gate.
+fn expect_at<R: Abort + Threads + Wait + Sync, G: Gate>(
+    rt: &R,
+    alloc: Global,
+    input: &str,
+    gate: &G,
+    status: Status,
+    text: &str,
+) -> Result<(), AllocError> {
+    let ended = run(rt, alloc, &[], input, (&[], &[]), 65536, gate)?;
+    expect_end(rt, &ended, status, text);
+    Ok(())
 }
 
 /// Compares what the race of an input comes to.
@@ -97,9 +121,7 @@ fn expect<R: Abort + Threads + Wait + Sync>(
     status: Status,
     text: &str,
 ) -> Result<(), AllocError> {
-    let ended = run(rt, alloc, &[], input, (&[], &[]), 65536, &Open)?;
-    expect_end(rt, &ended, status, text);
-    Ok(())
+    expect_at(rt, alloc, input, &Open, status, text)
 }
 
 /// A sheet with a part of its text changed.
@@ -114,4 +136,17 @@ fn edited(
         panic!(rt; "the sheet lacks {old:?}");
     };
     format!(in alloc; "{before}{new}{after}")
+}
+
+/// Compares what the race of a sheet comes to of which a part is changed.
+fn expect_edited<R: Abort + Threads + Wait + Sync>(
+    rt: &R,
+    alloc: Global,
+    sheet: &str,
+    change: (&str, &str),
+    status: Status,
+    text: &str,
+) -> Result<(), AllocError> {
+    let input = edited(rt, alloc, sheet, change.0, change.1)?;
+    expect(rt, alloc, input.as_str(), status, text)
 }

@@ -98,7 +98,7 @@ fn expect(
 ) -> Result<(), AllocError> {
     let sections = sections_of(alloc, told)?;
     let text = order(alloc, &sections, jobs, 12)?;
-    assert_eq!(rt; (told, text.as_str()), (told, wanted));
+    assert_eq!(rt; text.as_str(), wanted);
     Ok(())
 }
 

@@ -88,7 +88,16 @@ pub(super) fn run(
     })
 }
 
-/// Compares how a run ends, and what is written.
+/// Compares how a run ended, and what it wrote.
+fn expect_end(rt: &impl Abort, ended: &Ended, status: Status, text: &str) {
+    assert_eq!(rt;
+        (ended.status, ended.sink.bytes()),
+        (status, text.as_bytes())
+    );
+}
+
+/// Compares how a run of some words ends, and what it writes, where the calls with these numbers fail, and the sink has so much
+/// room.
 pub(super) fn expect_run(
     rt: &impl Abort,
     alloc: Global,
@@ -99,11 +108,7 @@ pub(super) fn expect_run(
     wanted: (Status, &str),
 ) -> Result<(), AllocError> {
     let ended = run(alloc, words, input, fails, room)?;
-    let (status, text) = wanted;
-    assert_eq!(rt;
-        (words, ended.status, ended.sink.bytes()),
-        (words, status, text.as_bytes())
-    );
+    expect_end(rt, &ended, wanted.0, wanted.1);
     Ok(())
 }
 
@@ -343,19 +348,17 @@ every = 12
 script = "work 3"
 "#;
 
-/// Compares what the program of fixed priorities writes of a sheet that it runs to its end.
-fn expect_by_priorities(
-    rt: &impl Abort,
-    alloc: Global,
-    sheet: &str,
-    text: &str,
-) -> Result<(), AllocError> {
-    let mut source = source_of(alloc, sheet, &[])?;
+/// Runs the program of fixed priorities on an input.
+fn run_by_priorities(alloc: Global, input: &str) -> Result<Ended, AllocError> {
+    let mut source = source_of(alloc, input, &[])?;
     let mut sink = MemSink::new(alloc, 4096, Vec::new(alloc))?;
     let words = words_of(alloc, &["run"])?;
     let status = run_tool(alloc, words.as_slice(), &mut source, &mut sink);
-    assert_eq!(rt; (status, sink.bytes()), (Status::Done, text.as_bytes()));
-    Ok(())
+    Ok(Ended {
+        status,
+        source,
+        sink,
+    })
 }
 
 /// Without words the text is that of a run by priorities.
@@ -372,7 +375,8 @@ cycles 0 collector 0 idle 2
 end 12
 ";
     expect(&rt, rt.alloc(), &[], PERIODIC, Status::Done, text)?;
-    expect_by_priorities(&rt, rt.alloc(), PERIODIC, text)?;
+    let ended = run_by_priorities(rt.alloc(), PERIODIC)?;
+    expect_end(&rt, &ended, Status::Done, text);
     Ok(())
 }
 

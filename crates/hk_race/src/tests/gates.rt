@@ -1,5 +1,5 @@
 //! Races whose threads can't get on alone.
-use super::{TEXT_OF_TWO, TWO, expect_end, run};
+use super::{TEXT_OF_TWO, TWO, expect_at};
 use crate::Gate;
 use hk_io::Status;
 use std::sync::Wait;
@@ -60,8 +60,7 @@ fn workers_and_the_collector_meet(rt: HostRuntime) -> Result<(), Fail> {
         collector: AtomicU64::new(0),
         late: AtomicU64::new(0),
     };
-    let ended = run(&rt, rt.alloc(), &[], TWO, (&[], &[]), 65536, &gate)?;
-    expect_end(&rt, &ended, Status::Done, TEXT_OF_TWO);
+    expect_at(&rt, rt.alloc(), TWO, &gate, Status::Done, TEXT_OF_TWO)?;
     assert_eq!(&rt; gate.late.load(Ordering::SeqCst), 0);
     Ok(())
 }
@@ -94,8 +93,7 @@ fn the_collector_rests_for_a_while_only(rt: HostRuntime) -> Result<(), Fail> {
         collector: AtomicU64::new(0),
         late: AtomicU64::new(0),
     };
-    let ended = run(&rt, rt.alloc(), &[], TWO, (&[], &[]), 65536, &gate)?;
-    expect_end(&rt, &ended, Status::Done, TEXT_OF_TWO);
+    expect_at(&rt, rt.alloc(), TWO, &gate, Status::Done, TEXT_OF_TWO)?;
     assert_eq!(&rt; gate.late.load(Ordering::SeqCst), 0);
     Ok(())
 }
@@ -138,16 +136,7 @@ fn too_many_live_words_end_the_collector(rt: HostRuntime) -> Result<(), Fail> {
     let gate = After {
         made: AtomicU64::new(0),
     };
-    let ended = run(
-        &rt,
-        rt.alloc(),
-        &[],
-        TOO_MUCH_LIVE,
-        (&[], &[]),
-        65536,
-        &gate,
-    )?;
     let text = "done a jobs 1\nlive 4 above 2\nend\n";
-    expect_end(&rt, &ended, Status::Live, text);
+    expect_at(&rt, rt.alloc(), TOO_MUCH_LIVE, &gate, Status::Live, text)?;
     Ok(())
 }

@@ -1,5 +1,5 @@
 //! What is refused before a race.
-use super::{TWO, edited, expect, expect_end, run};
+use super::{TWO, expect, expect_edited, expect_end, run};
 use crate::Open;
 use hk_io::Status;
 use std::alloc::{AllocError, Global};
@@ -11,16 +11,28 @@ use std::thread::Threads;
 /// Words of any kind.
 const WORDS: &[&[&str]] = &[&["x"], &[""], &["run"], &["a", "b"]];
 
-/// Nothing is read: each call of the source would fail.
+/// Compares how the program ends for words, what it writes, and that nothing is read: each call of the source would fail.
+fn expect_unread<R: Abort + Threads + Wait + Sync>(
+    rt: &R,
+    alloc: Global,
+    words: &[&str],
+    fails: &[u64],
+    status: Status,
+    text: &str,
+) -> Result<(), AllocError> {
+    let ended = run(rt, alloc, words, TWO, (&[0], fails), 100, &Open)?;
+    expect_end(rt, &ended, status, text);
+    assert_eq!(rt; ended.source.calls(), 0);
+    Ok(())
+}
+
 #[test]
 fn refuses_words_before_it_reads(rt: HostRuntime) -> Result<(), Fail> {
+    let usage = "usage: henri_race\n";
     for words in WORDS {
-        let ended = run(&rt, rt.alloc(), words, TWO, (&[0], &[]), 100, &Open)?;
-        expect_end(&rt, &ended, Status::Usage, "usage: henri_race\n");
-        assert_eq!(&rt; ended.source.calls(), 0);
+        expect_unread(&rt, rt.alloc(), words, &[], Status::Usage, usage)?;
     }
-    let failed = run(&rt, rt.alloc(), &["x"], TWO, (&[0], &[0]), 100, &Open)?;
-    expect_end(&rt, &failed, Status::WriteFault, "");
+    expect_unread(&rt, rt.alloc(), &["x"], &[0], Status::WriteFault, "")?;
     Ok(())
 }
 
@@ -147,39 +159,30 @@ const EDITS: &[Edit] = &[
     },
 ];
 
-fn expect_edits<R: Abort + Threads + Wait + Sync>(
-    rt: &R,
-    alloc: Global,
-    edits: &[Edit],
-) -> Result<(), AllocError> {
-    for edit in edits {
-        let input = edited(rt, alloc, TWO, edit.old, edit.new)?;
-        expect(rt, alloc, input.as_str(), Status::Sheet, edit.line)?;
-    }
-    Ok(())
-}
-
 #[test]
 fn refuses_what_is_no_sheet(rt: HostRuntime) -> Result<(), Fail> {
-    expect_edits(&rt, rt.alloc(), EDITS)?;
+    for edit in EDITS {
+        let change = (edit.old, edit.new);
+        expect_edited(&rt, rt.alloc(), TWO, change, Status::Sheet, edit.line)?;
+    }
     Ok(())
 }
 
 /// A script of more statements than there may be, 1,024.
-#[test]
-fn refuses_long_scripts(rt: HostRuntime) -> Result<(), Fail> {
-    let mut script = String::new(rt.alloc());
+fn long_script(alloc: Global) -> Result<String, AllocError> {
+    let mut script = String::new(alloc);
     for _ in 0..1025_u32 {
         script.push_str("out v0\n")?;
     }
-    let input = edited(&rt, rt.alloc(), TWO, "out v0\n", script.as_str())?;
-    expect(
-        &rt,
-        rt.alloc(),
-        input.as_str(),
-        Status::Sheet,
-        "sheet script a long\n",
-    )?;
+    Ok(script)
+}
+
+#[test]
+fn refuses_long_scripts(rt: HostRuntime) -> Result<(), Fail> {
+    let script = long_script(rt.alloc())?;
+    let change = ("out v0\n", script.as_str());
+    let line = "sheet script a long\n";
+    expect_edited(&rt, rt.alloc(), TWO, change, Status::Sheet, line)?;
     Ok(())
 }
 

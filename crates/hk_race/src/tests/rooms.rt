@@ -5,7 +5,7 @@ ghost use Rattle.hk_sheet.specs.Valid.{IsSheet};
 ghost use Rattle.hk_table.specs.Ends.{Opens};
 ghost use Rattle.hk_words.specs.Geometry.{HasSizes};
 
-use super::{edited, expect, run};
+use super::{expect, expect_edited, run};
 use crate::{Open, Raced, compete, first_long};
 use hk_io::Status;
 use hk_sheet::{Sheet, read};
@@ -76,12 +76,11 @@ fn raced<R: Abort + Threads + Wait + Sync>(
 #[test]
 fn faults_end_their_jobs(rt: HostRuntime) -> Result<(), Fail> {
     let raced = raced(&rt, rt.alloc(), FAULTS)?;
+    let text = b"fault b 0 4 nil\nfault b 1 6 field\ndone b jobs 2\nend\n";
     assert_eq!(&rt;
-        raced.text.as_slice(),
-        b"fault b 0 4 nil\nfault b 1 6 field\ndone b jobs 2\nend\n".as_slice()
+        (raced.text.as_slice(), raced.full, raced.live),
+        (text.as_slice(), false, None)
     );
-    assert_eq!(&rt; raced.full, false);
-    assert_eq!(&rt; raced.live, None);
     Ok(())
 }
 
@@ -115,8 +114,8 @@ const TEXTS_OF_TOO_MANY: &[&str] = &[
 #[test]
 fn a_full_heap_stops_its_task(rt: HostRuntime) -> Result<(), Fail> {
     let ended = run(&rt, rt.alloc(), &[], TOO_MANY, (&[], &[]), 65536, &Open)?;
-    assert_eq!(&rt; ended.end.status, Status::Full);
     let found = ended.sink.bytes();
+    assert_eq!(&rt; ended.end.status, Status::Full);
     assert!(&rt;
         TEXTS_OF_TOO_MANY
             .iter()
@@ -138,6 +137,17 @@ end
 """
 "#;
 
+/// Adds such a task of this name.
+fn push_maker(sheet: &mut String, name: &str) -> Result<(), AllocError> {
+    let Some((before, after)) = MAKER.split_once("NAME") else {
+        return Err(AllocError);
+    };
+    sheet.push_str(before)?;
+    sheet.push_str(name)?;
+    sheet.push_str(after)?;
+    Ok(())
+}
+
 /// Four such tasks on a heap for as many words as 144 objects have.
 fn makers(alloc: Global) -> Result<String, AllocError> {
     let mut sheet = String::from_str(
@@ -145,12 +155,7 @@ fn makers(alloc: Global) -> Result<String, AllocError> {
         "version = 1\nticks = 1\nheap = { live = 62, alloc = 640, reserve = 64, rate = 11, board = [2, 2] }\n",
     )?;
     for name in ["a", "b", "c", "d"] {
-        let Some((before, after)) = MAKER.split_once("NAME") else {
-            return Err(AllocError);
-        };
-        sheet.push_str(before)?;
-        sheet.push_str(name)?;
-        sheet.push_str(after)?;
+        push_maker(&mut sheet, name)?;
     }
     Ok(sheet)
 }
@@ -176,35 +181,24 @@ every = 1
 script = """
 "#;
 
-/// A script that costs 2^24 ticks, which is 256 * 65535 + 256.
-fn longest_script(alloc: Global) -> Result<String, AllocError> {
-    let mut script = String::new(alloc);
+/// The task with a script that costs 2^24 ticks, which is 256 * 65535 + 256.
+fn longest(alloc: Global) -> Result<String, AllocError> {
+    let mut sheet = String::from_str(alloc, LONGEST)?;
     for _ in 0..256_u32 {
-        script.push_str("work 65535\n")?;
+        sheet.push_str("work 65535\n")?;
     }
-    script.push_str("work 256\n\"\"\"\n")?;
-    Ok(script)
+    sheet.push_str("work 256\n\"\"\"\n")?;
+    Ok(sheet)
 }
 
 /// The jobs cost 2^30 ticks together, as many as a pass may begin calls. One more is too many.
 #[test]
 fn the_longest_task_is_not_long(rt: HostRuntime) -> Result<(), Fail> {
-    let mut sheet = String::from_str(rt.alloc(), LONGEST)?;
-    sheet.push_str(longest_script(rt.alloc())?.as_str())?;
-    expect(
-        &rt,
-        rt.alloc(),
-        sheet.as_str(),
-        Status::Done,
-        "done b jobs 64\nend\n",
-    )?;
-    let longer = edited(&rt, rt.alloc(), sheet.as_str(), "ticks = 64", "ticks = 65")?;
-    expect(
-        &rt,
-        rt.alloc(),
-        longer.as_str(),
-        Status::Sheet,
-        "sheet task b long\n",
-    )?;
+    let sheet = longest(rt.alloc())?;
+    let text = "done b jobs 64\nend\n";
+    expect(&rt, rt.alloc(), sheet.as_str(), Status::Done, text)?;
+    let change = ("ticks = 64", "ticks = 65");
+    let line = "sheet task b long\n";
+    expect_edited(&rt, rt.alloc(), sheet.as_str(), change, Status::Sheet, line)?;
     Ok(())
 }

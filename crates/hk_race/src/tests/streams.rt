@@ -8,32 +8,77 @@ use std::sync::Wait;
 use std::test::Fail;
 use std::thread::Threads;
 
-/// There are two calls of the source: one for all bytes, and one that finds the end. A third one would fail.
-#[test]
-fn a_failed_read_is_no_end(rt: HostRuntime) -> Result<(), Fail> {
-    for call in 0..2 {
-        let ended = run(&rt, rt.alloc(), &[], TWO, (&[call], &[]), 65536, &Open)?;
-        expect_end(&rt, &ended, Status::ReadFault, "");
-        assert!(&rt; ended.end.raced.is_none());
-    }
-    let ended = run(&rt, rt.alloc(), &[], TWO, (&[2], &[]), 65536, &Open)?;
-    expect_end(&rt, &ended, Status::Done, TEXT_OF_TWO);
+/// Compares how the program ends on the sheet of two tasks, what it writes, and whether there was a race.
+fn expect_race<R: Abort + Threads + Wait + Sync>(
+    rt: &R,
+    alloc: Global,
+    fails: (&[u64], &[u64]),
+    room: usize,
+    wanted: (Status, &str, bool),
+) -> Result<(), AllocError> {
+    let ended = run(rt, alloc, &[], TWO, fails, room, &Open)?;
+    let (status, text, raced) = wanted;
+    expect_end(rt, &ended, status, text);
+    assert!(rt; ended.end.raced.is_some() == raced);
     Ok(())
 }
 
-/// Compares that each call of the sink that fails, so many there are, leaves a first part of a text.
+/// There are two calls of the source: one for all bytes, and one that finds the end. A third one would fail.
+#[test]
+fn a_failed_read_is_no_end(rt: HostRuntime) -> Result<(), Fail> {
+    let failed = (Status::ReadFault, "", false);
+    for call in 0..2 {
+        expect_race(&rt, rt.alloc(), (&[call], &[]), 65536, failed)?;
+    }
+    let done = (Status::Done, TEXT_OF_TWO, true);
+    expect_race(&rt, rt.alloc(), (&[2], &[]), 65536, done)?;
+    Ok(())
+}
+
+/// How many calls of the sink there are, where the whole text is written.
+fn calls_of<R: Abort + Threads + Wait + Sync>(
+    rt: &R,
+    alloc: Global,
+    input: &str,
+    status: Status,
+    text: &str,
+) -> Result<u64, AllocError> {
+    let whole = run(rt, alloc, &[], input, (&[], &[]), 65536, &Open)?;
+    expect_end(rt, &whole, status, text);
+    Ok(whole.sink.calls())
+}
+
+/// Compares that this call of the sink leaves a first part of a text where it fails.
+fn expect_part<R: Abort + Threads + Wait + Sync>(
+    rt: &R,
+    alloc: Global,
+    input: &str,
+    call: u64,
+    text: &str,
+) -> Result<(), AllocError> {
+    let ended = run(rt, alloc, &[], input, (&[], &[call]), 65536, &Open)?;
+    let part = ended.sink.bytes();
+    assert_eq!(rt;
+        (
+            ended.end.status,
+            text.as_bytes().starts_with(part),
+            part.len() < text.len()
+        ),
+        (Status::WriteFault, true, true)
+    );
+    Ok(())
+}
+
+/// Compares how the program ends, what it writes, and that each call of the sink that fails leaves a first part of that.
 fn expect_parts<R: Abort + Threads + Wait + Sync>(
     rt: &R,
     alloc: Global,
     input: &str,
-    calls: u64,
+    status: Status,
     text: &str,
 ) -> Result<(), AllocError> {
-    for call in 0..calls {
-        let ended = run(rt, alloc, &[], input, (&[], &[call]), 65536, &Open)?;
-        assert_eq!(rt; ended.end.status, Status::WriteFault);
-        assert!(rt; text.as_bytes().starts_with(ended.sink.bytes()));
-        assert!(rt; ended.sink.bytes().len() < text.len());
+    for call in 0..calls_of(rt, alloc, input, status, text)? {
+        expect_part(rt, alloc, input, call, text)?;
     }
     Ok(())
 }
@@ -41,12 +86,9 @@ fn expect_parts<R: Abort + Threads + Wait + Sync>(
 /// The text of a race goes out in one piece. Also where it doesn't, the race was run to its end.
 #[test]
 fn a_failed_write_leaves_a_part(rt: HostRuntime) -> Result<(), Fail> {
-    let whole = run(&rt, rt.alloc(), &[], TWO, (&[], &[]), 65536, &Open)?;
-    expect_end(&rt, &whole, Status::Done, TEXT_OF_TWO);
-    expect_parts(&rt, rt.alloc(), TWO, whole.sink.calls(), TEXT_OF_TWO)?;
-    let short = run(&rt, rt.alloc(), &[], TWO, (&[], &[]), 9, &Open)?;
-    expect_end(&rt, &short, Status::WriteFault, "out a 0\nd");
-    assert!(&rt; short.end.raced.is_some());
+    expect_parts(&rt, rt.alloc(), TWO, Status::Done, TEXT_OF_TWO)?;
+    let short = (Status::WriteFault, "out a 0\nd", true);
+    expect_race(&rt, rt.alloc(), (&[], &[]), 9, short)?;
     Ok(())
 }
 
@@ -60,17 +102,7 @@ fn a_failed_write_leaves_a_part_of_a_refusal(rt: HostRuntime) -> Result<(), Fail
         "repeat 65535\nrepeat 65535\nend\nend",
     )?;
     let line = "sheet task a long\n";
-    let whole = run(
-        &rt,
-        rt.alloc(),
-        &[],
-        input.as_str(),
-        (&[], &[]),
-        65536,
-        &Open,
-    )?;
-    expect_end(&rt, &whole, Status::Sheet, line);
-    expect_parts(&rt, rt.alloc(), input.as_str(), whole.sink.calls(), line)?;
+    expect_parts(&rt, rt.alloc(), input.as_str(), Status::Sheet, line)?;
     Ok(())
 }
 
@@ -84,17 +116,21 @@ fn filled(alloc: Global, length: usize) -> Result<String, AllocError> {
     Ok(input)
 }
 
+/// Compares what the race of such a sheet comes to.
+fn expect_filled<R: Abort + Threads + Wait + Sync>(
+    rt: &R,
+    alloc: Global,
+    length: usize,
+    status: Status,
+    text: &str,
+) -> Result<(), AllocError> {
+    let input = filled(alloc, length)?;
+    expect(rt, alloc, input.as_str(), status, text)
+}
+
 #[test]
 fn takes_inputs_up_to_their_longest(rt: HostRuntime) -> Result<(), Fail> {
-    let longest = filled(rt.alloc(), 1_048_576)?;
-    expect(&rt, rt.alloc(), longest.as_str(), Status::Done, TEXT_OF_TWO)?;
-    let longer = filled(rt.alloc(), 1_048_577)?;
-    expect(
-        &rt,
-        rt.alloc(),
-        longer.as_str(),
-        Status::Sheet,
-        "sheet long\n",
-    )?;
+    expect_filled(&rt, rt.alloc(), 1_048_576, Status::Done, TEXT_OF_TWO)?;
+    expect_filled(&rt, rt.alloc(), 1_048_577, Status::Sheet, "sheet long\n")?;
     Ok(())
 }

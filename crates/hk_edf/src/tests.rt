@@ -52,6 +52,14 @@ fn run(
     })
 }
 
+/// Compares how a run ended, and what it wrote.
+fn expect_end(rt: &impl Abort, ended: &Ended, status: Status, text: &str) {
+    assert_eq!(rt;
+        (ended.status, ended.sink.bytes()),
+        (status, text.as_bytes())
+    );
+}
+
 /// Compares what is written for an input, and how the program ends, where the calls with these numbers fail, and the sink has so
 /// much room.
 fn expect_run(
@@ -64,10 +72,7 @@ fn expect_run(
     text: &str,
 ) -> Result<(), AllocError> {
     let ended = run(alloc, &[], input, fails, room)?;
-    assert_eq!(rt;
-        (ended.status, ended.sink.bytes()),
-        (status, text.as_bytes())
-    );
+    expect_end(rt, &ended, status, text);
     Ok(())
 }
 

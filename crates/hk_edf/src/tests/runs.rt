@@ -1,6 +1,6 @@
 //! Whole runs, worked out by hand.
 use super::sheets::{Case, FITS, sheet_text};
-use super::{expect, source_of};
+use super::{Ended, expect, expect_end, source_of};
 use hk_io::{MemSink, Status};
 use hk_top::run_tool;
 use std::alloc::{AllocError, Global};
@@ -37,30 +37,25 @@ fn runs_by_deadlines(rt: HostRuntime) -> Result<(), Fail> {
     Ok(())
 }
 
-/// Compares the line that says why a sheet isn't admitted with fixed priorities.
-fn expect_refusal_by_priorities(
-    rt: &impl Abort,
-    alloc: Global,
-    sheet: &str,
-    line: &str,
-) -> Result<(), AllocError> {
-    let mut source = source_of(alloc, sheet, &[])?;
+/// Runs the check of the program of fixed priorities on an input.
+fn run_by_priorities(alloc: Global, input: &str) -> Result<Ended, AllocError> {
+    let mut source = source_of(alloc, input, &[])?;
     let mut sink = MemSink::new(alloc, 100, Vec::new(alloc))?;
     let check = [String::from_str(alloc, "check")?];
     let status = run_tool(alloc, &check, &mut source, &mut sink);
-    assert_eq!(rt;
-        (status, sink.bytes()),
-        (Status::NotAdmitted, line.as_bytes())
-    );
-    Ok(())
+    Ok(Ended {
+        status,
+        source,
+        sink,
+    })
 }
 
 /// What fits by deadlines needn't by fixed priorities.
 #[test]
 fn is_refused_by_priorities(rt: HostRuntime) -> Result<(), Fail> {
     let sheet = sheet_text(rt.alloc(), &FITS)?;
-    let line = "refused response b\n";
-    expect_refusal_by_priorities(&rt, rt.alloc(), sheet.as_str(), line)?;
+    let ended = run_by_priorities(rt.alloc(), sheet.as_str())?;
+    expect_end(&rt, &ended, Status::NotAdmitted, "refused response b\n");
     Ok(())
 }
 

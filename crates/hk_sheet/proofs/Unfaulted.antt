@@ -211,21 +211,18 @@ top_unfaulted sheet is =
     tt)))))
 
 -- the tables of the tasks
-highs_unfaulted : (kind : List ℕ) (ticks index : ℕ) (heap : HeapKeys) (tasks : List High) → AllByRecursion (IsHigh ticks heap) tasks → AreNone (faults_of_tasks kind (task_rules true ticks) index (map high_entries tasks))
-highs_unfaulted kind ticks index heap [] are = tt
-highs_unfaulted kind ticks index heap (t ∷ tasks) are = (high_unfaulted (task_path kind index) ticks heap t are.0, highs_unfaulted kind ticks (index + 1) heap tasks are.1)
-
-lows_unfaulted : (kind : List ℕ) (ticks index : ℕ) (heap : HeapKeys) (tasks : List Low) → AllByRecursion (IsLow ticks heap) tasks → AreNone (faults_of_tasks kind (task_rules false ticks) index (map low_entries tasks))
-lows_unfaulted kind ticks index heap [] are = tt
-lows_unfaulted kind ticks index heap (t ∷ tasks) are = (low_unfaulted (task_path kind index) ticks heap t are.0, lows_unfaulted kind ticks (index + 1) heap tasks are.1)
+tasks_unfaulted : {T : Type 0} (is : T → Type 0) (entries : T → Members) (kind : List ℕ) (rules : Members → List Rule) → ((path : List ℕ) (task : T) → is task → fault_of_table path (rules (entries task)) (entries task) ≡ None)
+    → (index : ℕ) (tasks : List T) → AllByRecursion is tasks → AreNone (faults_of_tasks kind rules index (map entries tasks))
+tasks_unfaulted is entries kind rules none index [] are = tt
+tasks_unfaulted is entries kind rules none index (t ∷ tasks) are = (none (task_path kind index) t are.0, tasks_unfaulted is entries kind rules none (index + 1) tasks are.1)
 
 tables_unfaulted : (sheet : Sheet) → IsSheet sheet → fault_of_tables (document_of sheet) ≡ None
 unfolding fault_of_tables document_of
 tables_unfaulted sheet is =
     let highs : AreNone (faults_of_tasks (codes "high") (task_rules true sheet.ticks) 0 (highs_of (document_of sheet))) =
-    rw (highs_of-document sheet) (highs_unfaulted (codes "high") sheet.ticks 0 sheet.heap sheet.high is.high) in
+    rw (highs_of-document sheet) (tasks_unfaulted (IsHigh sheet.ticks sheet.heap) high_entries (codes "high") (task_rules true sheet.ticks) (λ path task keeps. high_unfaulted path sheet.ticks sheet.heap task keeps) 0 sheet.high is.high) in
     let lows : AreNone (faults_of_tasks (codes "low") (task_rules false sheet.ticks) 0 (lows_of (document_of sheet))) =
-    rw (lows_of-document sheet) (lows_unfaulted (codes "low") sheet.ticks 0 sheet.heap sheet.low is.low) in
+    rw (lows_of-document sheet) (tasks_unfaulted (IsLow sheet.ticks sheet.heap) low_entries (codes "low") (task_rules false sheet.ticks) (λ path task keeps. low_unfaulted path sheet.ticks sheet.heap task keeps) 0 sheet.low is.low) in
     let heap : fault_of_table (codes "heap.") (heap_rules (is_second (document_of sheet))) (heap_entries sheet.heap) ≡ None =
     rw (second_again sheet) (heap_unfaulted (codes "heap.") sheet.heap is.heap) in
     first_of_none (_ ∷ _ ∷ _ ∷ _ ∷ []) (top_unfaulted sheet is, (heap, (first_of_none _ highs, (first_of_none _ lows, tt))))
@@ -295,30 +292,23 @@ names_unfaulted earlier index (name ∷ names) are new distinct =
     (rw (are.0, new.0), names_unfaulted (name ∷ earlier) (index + 1) names are.1 (new_to_more name earlier names apart new.1) distinct.1)
 
 -- the names of a document of a sheet are those of its tasks
-highs_named : (ticks : ℕ) (heap : HeapKeys) (tasks : List High) → is_breadth heap.fields heap.registers ≡ true → AllByRecursion (IsHigh ticks heap) tasks → map (text_at (codes "name")) (map high_entries tasks) ≡ map (λ (task : High). task.name) tasks
-highs_named ticks heap [] broad are = refl
-highs_named ticks heap (t ∷ tasks) broad are = λ i. high_named heap t broad are.0.script i ∷ highs_named ticks heap tasks broad are.1 i
-
-lows_named : (ticks : ℕ) (heap : HeapKeys) (tasks : List Low) → is_breadth heap.fields heap.registers ≡ true → AllByRecursion (IsLow ticks heap) tasks → map (text_at (codes "name")) (map low_entries tasks) ≡ map (λ (task : Low). task.name) tasks
-lows_named ticks heap [] broad are = refl
-lows_named ticks heap (t ∷ tasks) broad are = λ i. low_named heap t broad are.0.script i ∷ lows_named ticks heap tasks broad are.1 i
+tasks_named : {T : Type 0} (is : T → Type 0) (entries : T → Members) (name : T → List ℕ) → ((task : T) → is task → text_at (codes "name") (entries task) ≡ name task)
+    → (tasks : List T) → AllByRecursion is tasks → map (text_at (codes "name")) (map entries tasks) ≡ map name tasks
+tasks_named is entries name named [] are = refl
+tasks_named is entries name named (t ∷ tasks) are = λ i. named t are.0 i ∷ tasks_named is entries name named tasks are.1 i
 
 names_again : (sheet : Sheet) → IsSheet sheet → names_of (document_of sheet) ≡ names_in sheet
 names_again sheet is =
-    rw (highs_of-document sheet, lows_of-document sheet, map-append (text_at (codes "name")) (map high_entries sheet.high) (map low_entries sheet.low), highs_named sheet.ticks sheet.heap sheet.high is.heap.breadth is.high, lows_named sheet.ticks sheet.heap sheet.low is.heap.breadth is.low)
+    rw (highs_of-document sheet, lows_of-document sheet, map-append (text_at (codes "name")) (map high_entries sheet.high) (map low_entries sheet.low), tasks_named (IsHigh sheet.ticks sheet.heap) high_entries (λ (task : High). task.name) (λ task keeps. high_named sheet.heap task is.heap.breadth keeps.script) sheet.high is.high, tasks_named (IsLow sheet.ticks sheet.heap) low_entries (λ (task : Low). task.name) (λ task keeps. low_named sheet.heap task is.heap.breadth keeps.script) sheet.low is.low)
 
-highs_have_names : (ticks : ℕ) (heap : HeapKeys) (tasks : List High) → AllByRecursion (IsHigh ticks heap) tasks → AllByRecursion (λ name. is_name name ≡ true) (map (λ (task : High). task.name) tasks)
-highs_have_names ticks heap [] are = tt
-highs_have_names ticks heap (t ∷ tasks) are = (are.0.name, highs_have_names ticks heap tasks are.1)
-
-lows_have_names : (ticks : ℕ) (heap : HeapKeys) (tasks : List Low) → AllByRecursion (IsLow ticks heap) tasks → AllByRecursion (λ name. is_name name ≡ true) (map (λ (task : Low). task.name) tasks)
-lows_have_names ticks heap [] are = tt
-lows_have_names ticks heap (t ∷ tasks) are = (are.0.name, lows_have_names ticks heap tasks are.1)
+tasks_have_names : {T : Type 0} (is : T → Type 0) (name : T → List ℕ) → ((task : T) → is task → is_name (name task) ≡ true) → (tasks : List T) → AllByRecursion is tasks → AllByRecursion (λ name. is_name name ≡ true) (map name tasks)
+tasks_have_names is name right [] are = tt
+tasks_have_names is name right (t ∷ tasks) are = (right t are.0, tasks_have_names is name right tasks are.1)
 
 sheet_named : (sheet : Sheet) → IsSheet sheet → AreNone (faults_of_names [] 0 (names_of (document_of sheet)))
 sheet_named sheet is =
     rw (names_again sheet is)
-    (names_unfaulted [] 0 (names_in sheet) (all_append (λ name. is_name name ≡ true) _ _ (highs_have_names sheet.ticks sheet.heap sheet.high is.high) (lows_have_names sheet.ticks sheet.heap sheet.low is.low)) (new_to_none (names_in sheet)) is.names)
+    (names_unfaulted [] 0 (names_in sheet) (all_append (λ name. is_name name ≡ true) _ _ (tasks_have_names (IsHigh sheet.ticks sheet.heap) (λ (task : High). task.name) (λ task keeps. keeps.name) sheet.high is.high) (tasks_have_names (IsLow sheet.ticks sheet.heap) (λ (task : Low). task.name) (λ task keeps. keeps.name) sheet.low is.low)) (new_to_none (names_in sheet)) is.names)
 
 -- ARRIVALS
 
@@ -349,15 +339,10 @@ unfolding fault_of_script
 low_scripted heap task broad is = rw (low_text task, script_again heap task.script broad is)
 
 -- no task has a fault of its arrivals or of its script
-none_at_highs : (ticks : ℕ) (heap : HeapKeys) (fault : Members → Option SheetError) (tasks : List High) → ((task : High) → IsHigh ticks heap task → fault (high_entries task) ≡ None) → AllByRecursion (IsHigh ticks heap) tasks
-    → AreNone (map fault (map high_entries tasks))
-none_at_highs ticks heap fault [] none are = tt
-none_at_highs ticks heap fault (t ∷ tasks) none are = (none t are.0, none_at_highs ticks heap fault tasks none are.1)
-
-none_at_lows : (ticks : ℕ) (heap : HeapKeys) (fault : Members → Option SheetError) (tasks : List Low) → ((task : Low) → IsLow ticks heap task → fault (low_entries task) ≡ None) → AllByRecursion (IsLow ticks heap) tasks
-    → AreNone (map fault (map low_entries tasks))
-none_at_lows ticks heap fault [] none are = tt
-none_at_lows ticks heap fault (t ∷ tasks) none are = (none t are.0, none_at_lows ticks heap fault tasks none are.1)
+none_at : {T : Type 0} (is : T → Type 0) (entries : T → Members) (fault : Members → Option SheetError) → ((task : T) → is task → fault (entries task) ≡ None) → (tasks : List T) → AllByRecursion is tasks
+    → AreNone (map fault (map entries tasks))
+none_at is entries fault none [] are = tt
+none_at is entries fault none (t ∷ tasks) are = (none t are.0, none_at is entries fault none tasks are.1)
 
 -- THE DOCUMENT
 
@@ -372,10 +357,10 @@ contents_unfaulted sheet is =
     let scripts : AreNone (map (fault_of_script (heap_of document)) (tasks_of document)) =
     rw (highs_of-document sheet, lows_of-document sheet, heap_of-document sheet is.heap.breadth, map-append (fault_of_script sheet.heap) (map high_entries sheet.high) (map low_entries sheet.low))
     (all_append _ _ _
-    (none_at_highs sheet.ticks sheet.heap (fault_of_script sheet.heap) sheet.high (λ task keeps. high_scripted sheet.heap task is.heap.breadth keeps.script) is.high)
-    (none_at_lows sheet.ticks sheet.heap (fault_of_script sheet.heap) sheet.low (λ task keeps. low_scripted sheet.heap task is.heap.breadth keeps.script) is.low)) in
-    let highs : AreNone (map fault_of_high_arrivals (highs_of document)) = rw (highs_of-document sheet) (none_at_highs sheet.ticks sheet.heap fault_of_high_arrivals sheet.high (high_arrives sheet.ticks sheet.heap is.heap.breadth) is.high) in
-    let lows : AreNone (map fault_of_low_arrivals (lows_of document)) = rw (lows_of-document sheet) (none_at_lows sheet.ticks sheet.heap fault_of_low_arrivals sheet.low (low_arrives sheet.ticks sheet.heap is.heap.breadth) is.low) in
+    (none_at (IsHigh sheet.ticks sheet.heap) high_entries (fault_of_script sheet.heap) (λ task keeps. high_scripted sheet.heap task is.heap.breadth keeps.script) sheet.high is.high)
+    (none_at (IsLow sheet.ticks sheet.heap) low_entries (fault_of_script sheet.heap) (λ task keeps. low_scripted sheet.heap task is.heap.breadth keeps.script) sheet.low is.low)) in
+    let highs : AreNone (map fault_of_high_arrivals (highs_of document)) = rw (highs_of-document sheet) (none_at (IsHigh sheet.ticks sheet.heap) high_entries fault_of_high_arrivals (high_arrives sheet.ticks sheet.heap is.heap.breadth) sheet.high is.high) in
+    let lows : AreNone (map fault_of_low_arrivals (lows_of document)) = rw (lows_of-document sheet) (none_at (IsLow sheet.ticks sheet.heap) low_entries fault_of_low_arrivals (low_arrives sheet.ticks sheet.heap is.heap.breadth) sheet.low is.low) in
     first_of_none (_ ∷ _ ∷ _ ∷ _ ∷ []) (first_of_none _ (sheet_named sheet is), (first_of_none _ (all_append _ _ _ highs lows), (first_of_none _ scripts, (geometry_fits sheet is, tt))))
 
 document_unfaulted : (sheet : Sheet) → IsSheet sheet → fault_of (document_of sheet) ≡ None

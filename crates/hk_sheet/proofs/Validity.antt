@@ -13,6 +13,7 @@ use Rattle.hk_script.specs.Texts.{script_of}
 use Rattle.hk_script.specs.declared.error.ScriptError.{ScriptError}
 use Rattle.hk_script.specs.declared.statement.Statement.{Statement}
 use Rattle.hk_script.proofs.Texts.{text_takes}
+use Rattle.hk_sheet.specs.declared.error.SheetError.{SheetError}
 use Rattle.hk_sheet.specs.declared.error.SheetError.TheVariants as error
 use Rattle.hk_sheet.specs.declared.sheet.HeapKeys.{HeapKeys}
 use Rattle.hk_sheet.specs.declared.sheet.High.{High}
@@ -189,25 +190,15 @@ low_right heap path ticks entries some keys_none name arrivals_none script_none 
       script = script_of_table heap entries script_none;
     }
 
-highs_right : (heap : HeapKeys) (ticks index : ℕ) (tasks : List Members) → 1 ≤ ticks → first_of (faults_of_tasks (codes "high") (task_rules true ticks) index tasks) ≡ None
-    → AllByRecursion (λ entries. is_name (text_at (codes "name") entries) ≡ true) tasks → AllByRecursion (λ entries. fault_of_high_arrivals entries ≡ None) tasks
-    → AllByRecursion (λ entries. fault_of_script heap entries ≡ None) tasks → AllByRecursion (IsHigh ticks heap) (map (high_in heap) tasks)
-highs_right heap ticks index [] some keys names arrivals scripts = tt
-highs_right heap ticks index (entries ∷ rest) some keys names arrivals scripts =
-    let fault = fault_of_table (task_path (codes "high") index) (task_rules true ticks entries) entries in
-    let later = faults_of_tasks (codes "high") (task_rules true ticks) (index + 1) rest in
-    let parts = neither fault (first_of later) keys in
-    (high_right heap (task_path (codes "high") index) ticks entries some parts.0 names.0 arrivals.0 scripts.0, highs_right heap ticks (index + 1) rest some parts.1 names.1 arrivals.1 scripts.1)
-
-lows_right : (heap : HeapKeys) (ticks index : ℕ) (tasks : List Members) → 1 ≤ ticks → first_of (faults_of_tasks (codes "low") (task_rules false ticks) index tasks) ≡ None
-    → AllByRecursion (λ entries. is_name (text_at (codes "name") entries) ≡ true) tasks → AllByRecursion (λ entries. fault_of_low_arrivals entries ≡ None) tasks
-    → AllByRecursion (λ entries. fault_of_script heap entries ≡ None) tasks → AllByRecursion (IsLow ticks heap) (map (low_in heap) tasks)
-lows_right heap ticks index [] some keys names arrivals scripts = tt
-lows_right heap ticks index (entries ∷ rest) some keys names arrivals scripts =
-    let fault = fault_of_table (task_path (codes "low") index) (task_rules false ticks entries) entries in
-    let later = faults_of_tasks (codes "low") (task_rules false ticks) (index + 1) rest in
-    let parts = neither fault (first_of later) keys in
-    (low_right heap (task_path (codes "low") index) ticks entries some parts.0 names.0 arrivals.0 scripts.0, lows_right heap ticks (index + 1) rest some parts.1 names.1 arrivals.1 scripts.1)
+-- all tasks of a kind
+tasks_right : {T : Type 0} (is : T → Type 0) (say : Members → T) (kind : List ℕ) (rules : Members → List Rule) (gaps scripts : Members → Option SheetError)
+    → ((path : List ℕ) (entries : Members) → fault_of_table path (rules entries) entries ≡ None → is_name (text_at (codes "name") entries) ≡ true → gaps entries ≡ None → scripts entries ≡ None → is (say entries))
+    → (index : ℕ) (tasks : List Members) → first_of (faults_of_tasks kind rules index tasks) ≡ None → AllByRecursion (λ entries. is_name (text_at (codes "name") entries) ≡ true) tasks
+    → AllByRecursion (λ entries. gaps entries ≡ None) tasks → AllByRecursion (λ entries. scripts entries ≡ None) tasks → AllByRecursion is (map say tasks)
+tasks_right is say kind rules gaps scripts right index [] keys names spaced_none scripts_none = tt
+tasks_right is say kind rules gaps scripts right index (entries ∷ rest) keys names spaced_none scripts_none =
+    let parts = neither (fault_of_table (task_path kind index) (rules entries) entries) (first_of (faults_of_tasks kind rules (index + 1) rest)) keys in
+    (right (task_path kind index) entries parts.0 names.0 spaced_none.0 scripts_none.0, tasks_right is say kind rules gaps scripts right (index + 1) rest parts.1 names.1 spaced_none.1 scripts_none.1)
 
 -- what holds of all of two lists holds of each
 split_all : (P : List ℕ → Type 0) (xs ys : List Members) → AllByRecursion P (map (text_at (codes "name")) (xs ++ ys))
@@ -237,12 +228,13 @@ unfolding fault_of fault_of_tables fault_of_contents top_rules sheet_in heap_of
 sheet_right document none =
     let of_high = highs_of document in
     let of_low = lows_of document in
+    let run = number_at (codes "ticks") document in
     let script = fault_of_script (heap_of document) in
     let parts = neither (fault_of_tables document) (fault_of_contents document) none in
     let (top, rest) = neither (fault_of_table [] top_rules document) _ parts.0 in
     let (heap, tasks) = neither (fault_of_table (codes "heap.") (heap_rules (is_second document)) (table_at (codes "heap") document)) _ rest in
-    let (highs, last) = neither (first_of (faults_of_tasks (codes "high") (task_rules true (number_at (codes "ticks") document)) 0 of_high)) _ tasks in
-    let lows = (neither (first_of (faults_of_tasks (codes "low") (task_rules false (number_at (codes "ticks") document)) 0 of_low)) None last).0 in
+    let (highs, last) = neither (first_of (faults_of_tasks (codes "high") (task_rules true run) 0 of_high)) _ tasks in
+    let lows = (neither (first_of (faults_of_tasks (codes "low") (task_rules false run) 0 of_low)) None last).0 in
     let (names, behind) = neither (first_of (faults_of_names [] 0 (names_of document))) _ parts.1 in
     let (gaps, others) = neither (first_of (map fault_of_high_arrivals of_high ++ map fault_of_low_arrivals of_low)) _ behind in
     let (texts, geometry) = neither (first_of (map script (tasks_of document))) _ others in
@@ -253,8 +245,10 @@ sheet_right document none =
     record {
       ticks = ticks;
       heap = heap_right (is_second document) (table_at (codes "heap") document) heap;
-      high = highs_right (heap_of document) (number_at (codes "ticks") document) 0 (highs_of document) ticks.at_least highs right.0 (none_of fault_of_high_arrivals of_high arrivals.0) (none_of script of_high scripts.0);
-      low = lows_right (heap_of document) (number_at (codes "ticks") document) 0 (lows_of document) ticks.at_least lows right.1 (none_of fault_of_low_arrivals of_low arrivals.1) (none_of script of_low scripts.1);
+      high = tasks_right (IsHigh run (heap_of document)) (high_in (heap_of document)) (codes "high") (task_rules true run) fault_of_high_arrivals script (λ path entries. high_right (heap_of document) path run entries ticks.at_least)
+          0 of_high highs right.0 (none_of fault_of_high_arrivals of_high arrivals.0) (none_of script of_high scripts.0);
+      low = tasks_right (IsLow run (heap_of document)) (low_in (heap_of document)) (codes "low") (task_rules false run) fault_of_low_arrivals script (λ path entries. low_right (heap_of document) path run entries ticks.at_least)
+          0 of_low lows right.1 (none_of fault_of_low_arrivals of_low arrivals.1) (none_of script of_low scripts.1);
       names = subst AreDistinct (sym (names_read document)) (names_distinct [] 0 (names_of document) names);
       geometry = geometry_right (sheet_in document) (neither (fault_of_geometry (sheet_in document)) None geometry).0;
     }

@@ -81,7 +81,7 @@ fn add_index(rt: &impl Abort, alloc: Global, line: &mut String, index: usize) {
     add(rt, line, word.as_str());
 }
 
-/// The task at a place of an order, or the one with this index where it's stuck.
+/// The task at a place of an order, or the one with this index where it's one of those that are stuck.
 fn task_at(answer: &Result<Order, Stuck>, index: u8) -> Option<usize> {
     match answer {
         Ok(order) if usize::from(index) < order.len() => Some(usize::from(order.at(index))),
@@ -203,10 +203,8 @@ fn add_low(rt: &impl Abort, line: &mut String, tasks: &[Low]) {
 
 /// The length of the run, the rate and the names of a sheet.
 fn names_of(rt: &impl Abort, alloc: Global, sheet: &Sheet) -> String {
-    let mut line = format!(in alloc; "ticks {} rate {} high", sheet.ticks, sheet.heap.rate).expect(
-        rt,
-        "no memory",
-    );
+    let (ticks, rate) = (sheet.ticks, sheet.heap.rate);
+    let mut line = format!(in alloc; "ticks {ticks} rate {rate} high").expect(rt, "no memory");
     add_high(rt, &mut line, &sheet.high.items);
     add(rt, &mut line, " low");
     add_low(rt, &mut line, &sheet.low.items);
@@ -216,8 +214,8 @@ fn names_of(rt: &impl Abort, alloc: Global, sheet: &Sheet) -> String {
 /// Compares the length of the run, the rate and the names of the sheet that is written for an input.
 fn expect_names(rt: &impl Abort, alloc: Global, input: &str, names: &str) {
     let ended = run(rt, alloc, &[], input, (&[], &[]), 4096);
-    let sheet = read(alloc, ended.sink.bytes()).expect(rt, "the text is no sheet");
     expect_status(rt, &ended, Status::Done);
+    let sheet = read(alloc, ended.sink.bytes()).expect(rt, "the text is no sheet");
     assert_eq!(rt; names_of(rt, alloc, &sheet).as_str(), names);
 }
 

@@ -6,7 +6,7 @@ mod sheets;
 mod streams;
 
 use crate::tool::run_edf;
-use hk_io::{MemSink, MemSource, Status};
+use hk_io::{MemSink, MemSource, Status, Trial};
 use std::alloc::{AllocError, Global};
 use std::process::Abort;
 
@@ -18,21 +18,6 @@ struct Ended {
     sink: MemSink,
 }
 
-/// A source of an input, of which the calls with these numbers fail.
-fn source_of(alloc: Global, input: &str, fails: &[u64]) -> Result<MemSource, AllocError> {
-    let fails = fails.to_vec(alloc)?;
-    Ok(MemSource::new(input.as_bytes().to_vec(alloc)?, fails))
-}
-
-/// The words as they come from a command line.
-fn words_of(alloc: Global, words: &[&str]) -> Result<Vec<String>, AllocError> {
-    let mut all = Vec::new(alloc);
-    for word in words {
-        all.push(String::from_str(alloc, word)?)?;
-    }
-    Ok(all)
-}
-
 /// Runs some words on an input, where the calls with these numbers fail, and the sink has so much room.
 fn run(
     alloc: Global,
@@ -41,10 +26,12 @@ fn run(
     fails: (&[u64], &[u64]),
     room: usize,
 ) -> Result<Ended, AllocError> {
-    let mut source = source_of(alloc, input, fails.0)?;
-    let mut sink = MemSink::new(alloc, room, fails.1.to_vec(alloc)?)?;
-    let given = words_of(alloc, words)?;
-    let status = run_edf(alloc, given.as_slice(), &mut source, &mut sink);
+    let Trial {
+        words,
+        mut source,
+        mut sink,
+    } = Trial::new(alloc, words, input.as_bytes(), fails, room)?;
+    let status = run_edf(alloc, words.as_slice(), &mut source, &mut sink);
     Ok(Ended {
         status,
         source,

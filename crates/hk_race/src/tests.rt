@@ -5,7 +5,7 @@ mod rooms;
 mod streams;
 
 use crate::{Gate, Open, RaceEnd, race};
-use hk_io::{MemSink, MemSource, Status};
+use hk_io::{MemSink, MemSource, Status, Trial};
 use std::alloc::{AllocError, Global};
 use std::process::Abort;
 use std::sync::Wait;
@@ -58,21 +58,6 @@ struct Ended {
     sink: MemSink,
 }
 
-/// A source of an input, of which the calls with these numbers fail.
-fn source_of(alloc: Global, input: &str, fails: &[u64]) -> Result<MemSource, AllocError> {
-    let fails = fails.to_vec(alloc)?;
-    Ok(MemSource::new(input.as_bytes().to_vec(alloc)?, fails))
-}
-
-/// The words as they come from a command line.
-fn words_of(alloc: Global, words: &[&str]) -> Result<Vec<String>, AllocError> {
-    let mut all = Vec::new(alloc);
-    for word in words {
-        all.push(String::from_str(alloc, word)?)?;
-    }
-    Ok(all)
-}
-
 /// Runs the program for some words and an input, where the calls of the source and of the sink with these numbers fail, and the
 /// sink has so much room.
 fn run<R: Threads + Wait + Sync, G: Gate>(
@@ -84,10 +69,12 @@ fn run<R: Threads + Wait + Sync, G: Gate>(
     room: usize,
     gate: &G,
 ) -> Result<Ended, AllocError> {
-    let mut source = source_of(alloc, input, fails.0)?;
-    let mut sink = MemSink::new(alloc, room, fails.1.to_vec(alloc)?)?;
-    let given = words_of(alloc, words)?;
-    let end = race(rt, alloc, given.as_slice(), &mut source, &mut sink, gate);
+    let Trial {
+        words,
+        mut source,
+        mut sink,
+    } = Trial::new(alloc, words, input.as_bytes(), fails, room)?;
+    let end = race(rt, alloc, words.as_slice(), &mut source, &mut sink, gate);
     Ok(Ended { end, source, sink })
 }
 

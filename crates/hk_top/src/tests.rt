@@ -198,7 +198,10 @@ fn add(rt: &impl Abort, text: &mut String, more: &str) {
 /// A sheet with a part of its text changed.
 fn edited(rt: &impl Abort, alloc: Global, sheet: &str, old: &str, new: &str) -> String {
     let (before, after) = sheet.split_once(old).expect(rt, old);
-    format!(in alloc; "{before}{new}{after}").expect(rt, "no memory")
+    let mut text = String::from_str(alloc, before).expect(rt, "no memory");
+    add(rt, &mut text, new);
+    add(rt, &mut text, after);
+    text
 }
 
 /// A sheet with parts of its text changed, one after another.

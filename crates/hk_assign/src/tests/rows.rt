@@ -157,7 +157,7 @@ heap = { live = 62, alloc = 512, reserve = 129, rate = 12, board = [2, 2] }
     sheet
 }
 
-/// The line for them.
+/// The line that refuses them.
 fn line_of_twelve(rt: &impl Abort, alloc: Global) -> String {
     let mut line = String::from_str(alloc, "refused order").expect(rt, "no memory");
     for task in 10..22_u32 {

@@ -36,7 +36,7 @@ fn refuses_words_before_it_reads(rt: HostRuntime) {
     }
 }
 
-/// Compares how a run ends where this call of the source fails, and whether something is written.
+/// Compares how a run ends where this call of the source fails, and whether nothing is written.
 fn expect_read(rt: &impl Abort, alloc: Global, call: u64, status: Status, is_empty: bool) {
     let ended = run(rt, alloc, &[], THREE, (&[call], &[]), 4096);
     expect_status(rt, &ended, status);

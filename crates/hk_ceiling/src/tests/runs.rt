@@ -1,7 +1,7 @@
 //! Whole runs: what is written for words and an input, and how the program ends. The texts are worked out by hand.
-use super::{Case, text, words_of};
+use super::{Case, text};
 use crate::tool::run_ceiling;
-use hk_io::{MemSink, MemSource, Status};
+use hk_io::{MemSink, MemSource, Status, Trial};
 use hk_top::run_tool;
 use std::alloc::{AllocError, Global};
 use std::process::Abort;
@@ -63,12 +63,6 @@ pub(super) struct Ended {
     pub(super) sink: MemSink,
 }
 
-/// A source of an input, of which the calls with these numbers fail.
-fn source_of(alloc: Global, input: &str, fails: &[u64]) -> Result<MemSource, AllocError> {
-    let fails = fails.to_vec(alloc)?;
-    Ok(MemSource::new(input.as_bytes().to_vec(alloc)?, fails))
-}
-
 /// Runs some words on an input, where the calls with these numbers fail, and the sink has so much room.
 pub(super) fn run(
     alloc: Global,
@@ -77,10 +71,12 @@ pub(super) fn run(
     fails: (&[u64], &[u64]),
     room: usize,
 ) -> Result<Ended, AllocError> {
-    let mut source = source_of(alloc, input, fails.0)?;
-    let mut sink = MemSink::new(alloc, room, fails.1.to_vec(alloc)?)?;
-    let given = words_of(alloc, words)?;
-    let status = run_ceiling(alloc, given.as_slice(), &mut source, &mut sink);
+    let Trial {
+        words,
+        mut source,
+        mut sink,
+    } = Trial::new(alloc, words, input.as_bytes(), fails, room)?;
+    let status = run_ceiling(alloc, words.as_slice(), &mut source, &mut sink);
     Ok(Ended {
         status,
         source,
@@ -350,9 +346,11 @@ script = "work 3"
 
 /// Runs the program of fixed priorities on an input.
 fn run_by_priorities(alloc: Global, input: &str) -> Result<Ended, AllocError> {
-    let mut source = source_of(alloc, input, &[])?;
-    let mut sink = MemSink::new(alloc, 4096, Vec::new(alloc))?;
-    let words = words_of(alloc, &["run"])?;
+    let Trial {
+        words,
+        mut source,
+        mut sink,
+    } = Trial::new(alloc, &["run"], input.as_bytes(), (&[], &[]), 4096)?;
     let status = run_tool(alloc, words.as_slice(), &mut source, &mut sink);
     Ok(Ended {
         status,

@@ -1,7 +1,7 @@
 //! Whole runs, worked out by hand.
 use super::sheets::{Case, FITS, sheet_text};
-use super::{Ended, expect, expect_end, source_of};
-use hk_io::{MemSink, Status};
+use super::{Ended, expect, expect_end};
+use hk_io::{Status, Trial};
 use hk_top::run_tool;
 use std::alloc::{AllocError, Global};
 use std::process::Abort;
@@ -39,10 +39,12 @@ fn runs_by_deadlines(rt: HostRuntime) -> Result<(), Fail> {
 
 /// Runs the check of the program of fixed priorities on an input.
 fn run_by_priorities(alloc: Global, input: &str) -> Result<Ended, AllocError> {
-    let mut source = source_of(alloc, input, &[])?;
-    let mut sink = MemSink::new(alloc, 100, Vec::new(alloc))?;
-    let check = [String::from_str(alloc, "check")?];
-    let status = run_tool(alloc, &check, &mut source, &mut sink);
+    let Trial {
+        words,
+        mut source,
+        mut sink,
+    } = Trial::new(alloc, &["check"], input.as_bytes(), (&[], &[]), 100)?;
+    let status = run_tool(alloc, words.as_slice(), &mut source, &mut sink);
     Ok(Ended {
         status,
         source,

@@ -152,11 +152,16 @@ fn runs_the_controller(rt: HostRuntime) {
     }
 }
 
+/// Whether a line is one that a trace adds.
+fn is_of_trace(line: &str) -> bool {
+    line.starts_with("t ") || line.starts_with("ended ")
+}
+
 /// A text without the lines that a trace adds.
 fn untraced(rt: &impl Abort, alloc: Global, text: &str) -> String {
     let mut rest = String::new(alloc);
     for line in text.lines() {
-        if !line.starts_with("t ") && !line.starts_with("ended ") {
+        if !is_of_trace(line) {
             add(rt, &mut rest, line);
             add(rt, &mut rest, "\n");
         }

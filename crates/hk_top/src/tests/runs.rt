@@ -41,23 +41,17 @@ fn sheet(rt: &impl Abort, alloc: Global, case: &Case) -> String {
         script,
         ..
     } = *case;
-    let head = format!(in alloc;
-        "version = 1\nticks = {ticks}\n[heap]\nlive = 62\nalloc = 512\nreserve = 129\nrate = 11\nboard = [2, 2]\n[[high]]\nname = \"a\"\n"
-    ).expect(rt, "no memory");
-    let times = format!(in alloc;
-        "period = {period}\ndeadline = {deadline}\ncost = {cost}\nwords = 0\nfirst = {first}\nevery = {every}\n"
-    ).expect(rt, "no memory");
-    format!(in alloc; "{head}{times}script = \"{script}\"\n").expect(rt, "no memory")
+    format!(in alloc;
+        "version = 1\nticks = {ticks}\n[heap]\nlive = 62\nalloc = 512\nreserve = 129\nrate = 11\nboard = [2, 2]\n[[high]]\nname = \"a\"\nperiod = {period}\ndeadline = {deadline}\ncost = {cost}\nwords = 0\nfirst = {first}\nevery = {every}\nscript = \"{script}\"\n"
+    ).expect(rt, "no memory")
 }
 
 /// Runs sheets of one task, and compares their reports with the wanted ones.
 fn expect_runs(rt: &impl Abort, alloc: Global, cases: &[Case]) {
     for case in cases {
         let input = sheet(rt, alloc, case);
-        let text = format!(in alloc; "heap work 4179 attempt 0 {}", case.report).expect(
-            rt,
-            "no memory",
-        );
+        let report = case.report;
+        let text = format!(in alloc; "heap work 4179 attempt 0 {report}").expect(rt, "no memory");
         expect_run(rt, alloc, input.as_str(), Status::Done, text.as_str());
     }
 }

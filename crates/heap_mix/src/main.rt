@@ -8,9 +8,11 @@ mod mixture;
 mod tally;
 
 use anyhow::{Context, Result, anyhow};
-use mixture::{Mixture, Way};
+use calls::{Calls, Pieces, Steps};
+use mixture::Mixture;
 use std::env;
 use std::rt::Env;
+use tally::Tally;
 
 /// The number of rounds, from the word behind the program's name.
 fn rounds(rt: &(impl Env + AllocGlobal)) -> Result<u64> {
@@ -20,25 +22,34 @@ fn rounds(rt: &(impl Env + AllocGlobal)) -> Result<u64> {
     }
 }
 
-/// How calls are done, from the word behind the rounds.
-fn way(rt: &(impl Env + AllocGlobal)) -> Result<Way> {
+/// Whether calls are done step by step, from the word behind the rounds.
+fn by_steps(rt: &(impl Env + AllocGlobal)) -> Result<bool> {
     match env::args(rt)?.nth(2) {
-        None => Ok(Way::Pieces),
-        Some(word) if word.as_str() == "steps" => Ok(Way::Steps),
+        None => Ok(false),
+        Some(word) if word.as_str() == "steps" => Ok(true),
         Some(_) => Err(anyhow!("heap_mix ROUNDS [steps]")),
     }
 }
 
+/// What so many rounds on a heap come to.
+fn mixed<C: Calls + Drop>(heap: C, rounds: u64) -> Tally {
+    let mut mixture = Mixture::new(heap);
+    mixture.build();
+    mixture.run(rounds);
+    mixture.tally()
+}
+
 fn main(rt: HostRuntime) -> Result<()> {
     let rounds = rounds(&rt)?;
-    let way = way(&rt)?;
+    let by_steps = by_steps(&rt)?;
     let Some(heap) = calls::open(rt.alloc()) else {
         return Err(anyhow!("no memory for the heap"));
     };
-    let mut mixture = Mixture::new(heap, way);
-    mixture.build();
-    mixture.run(rounds);
-    let tally = mixture.tally();
+    let tally = if by_steps {
+        mixed(Steps { heap }, rounds)
+    } else {
+        mixed(Pieces { heap }, rounds)
+    };
     println!(rt; "rounds {rounds}")?;
     println!(rt;
         "get {} put {} load {} store {} move {} clear {} new {}",

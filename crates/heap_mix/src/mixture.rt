@@ -1,11 +1,9 @@
 //! The mixture. Each field of the board holds a chain of links; a link has the next one in its first reference field and a
 //! leaf in its second. The registers have parts of their own: the cursor is at a link of a chain, the mark at one that the
 //! cursor was at.
-use crate::calls;
-use crate::calls::End;
+use crate::calls::{Calls, End};
 use crate::tally::Tally;
-use hk_collect::OwnedHeap;
-use hk_words::{Call, Draws, Reply, Shape};
+use hk_words::{Draws, Reply, Shape};
 
 /// A link of a chain: the next one and a leaf, and two numbers.
 const LINK: Shape = Shape { refs: 2, nums: 2 };
@@ -52,29 +50,18 @@ const NEXT_FIELD: u8 = 0;
 /// The reference field of a link for its leaf.
 const LEAF_FIELD: u8 = 1;
 
-/// How calls are done.
-#[derive(Clone, Copy, Debug, PartialEq, Eq)]
-pub enum Way {
-    /// Each in one piece.
-    Pieces,
-    /// Each begun, and then step by step.
-    Steps,
-}
-
 /// The heap, the draws and the tally of a run.
 #[derive(Drop)]
-pub struct Mixture {
-    heap: OwnedHeap,
-    way: Way,
+pub struct Mixture<C> {
+    heap: C,
     draws: Draws,
     tally: Tally,
 }
 
-impl Mixture {
-    pub fn new(heap: OwnedHeap, way: Way) -> Mixture {
+impl<C: Calls> Mixture<C> {
+    pub fn new(heap: C) -> Mixture<C> {
         Mixture {
             heap,
-            way,
             draws: Draws { state: 1 },
             tally: Tally::default(),
         }
@@ -143,7 +130,7 @@ impl Mixture {
     /// The cursor goes on to the next link, and after the last one to the first of some chain.
     fn walk(&mut self) {
         self.load(CURSOR, CURSOR, NEXT_FIELD);
-        if calls::is_null(&self.heap, CURSOR) {
+        if self.heap.is_null(CURSOR) {
             let chain = self.draws.below(u64::from(CHAINS)) as u8;
             self.load(CURSOR, BOARD, chain);
         }
@@ -158,7 +145,7 @@ impl Mixture {
 
     /// The cursor goes back to the mark, which is then gone.
     fn go_back(&mut self) {
-        if !calls::is_null(&self.heap, MARK) {
+        if !self.heap.is_null(MARK) {
             self.copy(CURSOR, MARK);
             self.clear(MARK);
         }
@@ -181,7 +168,7 @@ impl Mixture {
     /// The link after the one at the cursor, if there is one, is replaced by a copy with the same leaf.
     fn copy_link(&mut self) {
         self.load(NEXT, CURSOR, NEXT_FIELD);
-        if calls::is_null(&self.heap, NEXT) {
+        if self.heap.is_null(NEXT) {
             return;
         }
         self.make(FRESH, LINK);
@@ -199,10 +186,7 @@ impl Mixture {
 
     fn get(&mut self, reg: u8, field: u8) -> u64 {
         self.tally.gets = self.tally.gets.wrapping_add(1);
-        let end = match self.way {
-            Way::Pieces => calls::get(&mut self.heap, reg, field),
-            Way::Steps => calls::run(&mut self.heap, Call::Get { reg, field }),
-        };
+        let end = self.heap.get(reg, field);
         match self.ended(end) {
             Some(Reply::Num(number)) => {
                 self.tally.read(number);
@@ -214,61 +198,40 @@ impl Mixture {
 
     fn put(&mut self, reg: u8, field: u8, value: u64) {
         self.tally.puts = self.tally.puts.wrapping_add(1);
-        let end = match self.way {
-            Way::Pieces => calls::put(&mut self.heap, reg, field, value),
-            Way::Steps => calls::run(&mut self.heap, Call::Put { reg, field, value }),
-        };
+        let end = self.heap.put(reg, field, value);
         self.ended(end);
     }
 
     fn load(&mut self, dest: u8, reg: u8, field: u8) {
         self.tally.loads = self.tally.loads.wrapping_add(1);
-        let end = match self.way {
-            Way::Pieces => calls::load(&mut self.heap, dest, reg, field),
-            Way::Steps => calls::run(&mut self.heap, Call::Load { dest, reg, field }),
-        };
+        let end = self.heap.load(dest, reg, field);
         self.ended(end);
     }
 
     fn store(&mut self, reg: u8, field: u8, from: u8) {
         self.tally.stores = self.tally.stores.wrapping_add(1);
-        let end = match self.way {
-            Way::Pieces => calls::store(&mut self.heap, reg, field, from),
-            Way::Steps => calls::run(&mut self.heap, Call::Store { reg, field, from }),
-        };
+        let end = self.heap.store(reg, field, from);
         self.ended(end);
     }
 
     fn copy(&mut self, dest: u8, from: u8) {
         self.tally.moves = self.tally.moves.wrapping_add(1);
-        let end = match self.way {
-            Way::Pieces => calls::shift(&mut self.heap, dest, from),
-            Way::Steps => calls::run(&mut self.heap, Call::Move { dest, from }),
-        };
+        let end = self.heap.shift(dest, from);
         self.ended(end);
     }
 
     fn clear(&mut self, dest: u8) {
         self.tally.clears = self.tally.clears.wrapping_add(1);
-        let end = match self.way {
-            Way::Pieces => calls::clear(&mut self.heap, dest),
-            Way::Steps => calls::run(&mut self.heap, Call::Clear { dest }),
-        };
+        let end = self.heap.clear(dest);
         self.ended(end);
     }
 
     /// Makes an object, and has the collector do the events that it owes for it.
     fn make(&mut self, dest: u8, shape: Shape) {
         self.tally.news = self.tally.news.wrapping_add(1);
-        let end = match self.way {
-            Way::Pieces => calls::make(&mut self.heap, dest, shape),
-            Way::Steps => calls::run(&mut self.heap, Call::New { dest, shape }),
-        };
+        let end = self.heap.make(dest, shape);
         if self.ended(end).is_some() {
-            for _event in 0..RATE * shape.words() {
-                let work = self.heap.collect();
-                self.tally.collected(work);
-            }
+            self.heap.collect(RATE * shape.words(), &mut self.tally);
         }
     }
 

@@ -1,8 +1,9 @@
 //! Heaps that are closed after some cycles, with the collector at any spot.
 ghost use Rattle.std.specs.Prelude.{◌≡◌, ◌<◌, ◌≤◌};
+ghost use Rattle.hk_table.specs.Passes.{IsKeeperOf};
 
 use super::{close_all, open_two, until_flipped, useful};
-use hk_table::Steps;
+use hk_table::{Heap, Keeper, Steps};
 use hk_words::{Geometry, Shape};
 use std::marker::Brand;
 use std::process::Abort;
@@ -16,8 +17,29 @@ use std::test::Fail;
 /// after 27 events.
 const CASES: [(u32, u64); 6] = [(1, 0), (3, 0), (4, 2), (18, 2), (19, 4), (27, 4)];
 
-/// The low pass has an object of two words, like the board. After three flips, which lead from cycle 1 to cycle 4, and so many
-/// events more the heap is closed. Answers the words that were reserved.
+/// Three flips lead from cycle 1 to cycle 4, and so many events more stay in that.
+fn collect_in_cycle_4<L: Ledger>(
+    rt: &impl Abort,
+    heap: &Heap,
+    keeper: &mut Keeper,
+    events: u32,
+    steps: &mut Steps<L>,
+)
+    requires keeper { IsKeeperOf heap.now keeper.old }
+    requires events { 1 ≤ events }
+    ensures { IsKeeperOf heap.now keeper.new }
+{
+    let first = keeper.spot.cycle;
+    until_flipped(rt, heap, keeper, 64, steps);
+    until_flipped(rt, heap, keeper, 64, steps);
+    until_flipped(rt, heap, keeper, 64, steps);
+    let flipped = keeper.spot.cycle;
+    useful(rt, heap, keeper, events, steps);
+    assert_eq!(rt; [first, flipped, keeper.spot.cycle], [1, 4, 4]);
+}
+
+/// The low pass has an object of two words, like the board. After three flips and so many events more the heap is closed. Answers
+/// the words that were reserved.
 fn reserved_after<L: Ledger>(
     rt: &(impl Abort + AllocGlobal),
     events: u32,
@@ -33,13 +55,7 @@ fn reserved_after<L: Ledger>(
     let (heap, high, mut low, mut keeper) = open_two(rt, g)?;
     let mut steps = Steps::<L>::new(blank);
     assert!(rt; heap.make(&mut low, 1, shape, &mut steps).is_ok());
-    assert_eq!(rt; keeper.spot.cycle, 1);
-    until_flipped(rt, &heap, &mut keeper, 64, &mut steps);
-    until_flipped(rt, &heap, &mut keeper, 64, &mut steps);
-    until_flipped(rt, &heap, &mut keeper, 64, &mut steps);
-    assert_eq!(rt; keeper.spot.cycle, 4);
-    useful(rt, &heap, &mut keeper, events, &mut steps);
-    assert_eq!(rt; keeper.spot.cycle, 4);
+    collect_in_cycle_4(rt, &heap, &mut keeper, events, &mut steps);
     let closed = close_all(rt, heap, vec![in rt.alloc(); high, low]?, keeper);
     Ok(closed.reserved())
 }

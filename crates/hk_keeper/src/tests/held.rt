@@ -9,8 +9,8 @@ ghost use Rattle.hk_table.specs.Passes.{IsKeeperOf};
 
 use super::gate::Gate;
 use super::stepping::{begin, open_stepped, step};
-use super::useful;
-use crate::{Work, collect};
+use super::{answers, useful};
+use crate::Work;
 use hk_core::{Flight, Line};
 use hk_table::{Heap, Keeper, Seat, Steps};
 use hk_words::{Call, Geometry};
@@ -90,7 +90,7 @@ fn waits<L: Ledger>(
         for _ in 0..events {
             useful(rt, heap, keeper, 1, steps);
         }
-        assert_eq!(rt; collect(heap, keeper, 1, steps), work);
+        answers(rt, heap, keeper, 1, work, steps);
     }
 }
 
@@ -107,17 +107,14 @@ fn beside_a_copy<L: Ledger>(
     requires { IsKeeperOf heap.now keeper }
 {
     assert!(rt; gate.let_go(1));
-    assert_eq!(rt; collect(heap, &mut keeper, 1000, &mut steps), Work::Flipped);
+    answers(rt, heap, &mut keeper, 1000, Work::Flipped, &mut steps);
     waits(rt, heap, &mut keeper, 0, Work::BusyFrame(0), &mut steps);
     assert!(rt; gate.let_go(2));
-    assert_eq!(rt;
-        collect(heap, &mut keeper, 1000, &mut steps),
-        Work::BusyFrame(0)
-    );
+    answers(rt, heap, &mut keeper, 1000, Work::BusyFrame(0), &mut steps);
     assert!(rt; gate.let_go(3));
     useful(rt, heap, &mut keeper, 14, &mut steps);
     assert_eq!(rt; keeper.spot.line, Line::Scan);
-    assert_eq!(rt; collect(heap, &mut keeper, 1000, &mut steps), Work::Flipped);
+    answers(rt, heap, &mut keeper, 1000, Work::Flipped, &mut steps);
 }
 
 /// A store of the board into its own field is held after each of its places, and is in the collector's way at all of them but
@@ -137,10 +134,10 @@ fn beside_a_store<L: Ledger>(
     requires { IsKeeperOf heap.now keeper }
 {
     assert!(rt; gate.let_go(1));
-    assert_eq!(rt; collect(heap, &mut keeper, 1000, &mut steps), Work::Flipped);
+    answers(rt, heap, &mut keeper, 1000, Work::Flipped, &mut steps);
     assert!(rt; gate.let_go(3));
     useful(rt, heap, &mut keeper, 13, &mut steps);
-    assert_eq!(rt; collect(heap, &mut keeper, 1000, &mut steps), Work::Grey(0));
+    answers(rt, heap, &mut keeper, 1000, Work::Grey(0), &mut steps);
     waits(rt, heap, &mut keeper, 2, Work::Grey(0), &mut steps);
     assert!(rt; gate.let_go(4));
     waits(rt, heap, &mut keeper, 1, Work::Unlinked(1), &mut steps);
@@ -148,14 +145,11 @@ fn beside_a_store<L: Ledger>(
     useful(rt, heap, &mut keeper, 2, &mut steps);
     waits(rt, heap, &mut keeper, 0, Work::BusyObject(0), &mut steps);
     assert!(rt; gate.let_go(6));
-    assert_eq!(rt;
-        collect(heap, &mut keeper, 1000, &mut steps),
-        Work::BusyObject(0)
-    );
+    answers(rt, heap, &mut keeper, 1000, Work::BusyObject(0), &mut steps);
     assert!(rt; gate.let_go(7));
     useful(rt, heap, &mut keeper, 5, &mut steps);
     assert_eq!(rt; keeper.spot.scan, 2);
-    assert_eq!(rt; collect(heap, &mut keeper, 1000, &mut steps), Work::Flipped);
+    answers(rt, heap, &mut keeper, 1000, Work::Flipped, &mut steps);
 }
 
 fn copy_held<R: Abort + Threads + Sync + AllocGlobal, L: Ledger>(

@@ -3,8 +3,8 @@
 ghost use Rattle.std.specs.Prelude.{◌≡◌, ◌<◌, IfOk};
 ghost use Rattle.hk_table.specs.Passes.{IsPassOf, IsKeeperOf};
 
-use super::{last_pass, open, until_flipped};
-use crate::{Work, collect};
+use super::{answers, last_pass, open, until_flipped};
+use crate::Work;
 use hk_table::{Heap, Keeper, Pass, Steps};
 use hk_words::{Geometry, Shape};
 use std::marker::Brand;
@@ -37,18 +37,9 @@ fn both_live<L: Ledger>(rt: &(impl Abort + AllocGlobal), blank: Blank) -> Result
 {
     let mut steps = Steps::<L>::new(blank);
     let (heap, _pass, mut keeper) = with_object(rt, &mut steps)?;
-    assert_eq!(rt;
-        collect(&heap, &mut keeper, 1000, &mut steps),
-        Work::Flipped
-    );
-    assert_eq!(rt;
-        collect(&heap, &mut keeper, 1000, &mut steps),
-        Work::LiveOver(4)
-    );
-    assert_eq!(rt;
-        collect(&heap, &mut keeper, 1, &mut steps),
-        Work::LiveOver(4)
-    );
+    answers(rt, &heap, &mut keeper, 1000, Work::Flipped, &mut steps);
+    answers(rt, &heap, &mut keeper, 1000, Work::LiveOver(4), &mut steps);
+    answers(rt, &heap, &mut keeper, 1, Work::LiveOver(4), &mut steps);
     Ok(())
 }
 
@@ -65,17 +56,11 @@ fn cut_off<L: Ledger>(rt: &(impl Abort + AllocGlobal), blank: Blank) -> Result<(
     let mut steps = Steps::<L>::new(blank);
     let (heap, mut pass, mut keeper) = with_object(rt, &mut steps)?;
     assert!(rt; heap.clear(&mut pass, 1, &mut steps).is_ok());
-    assert_eq!(rt;
-        collect(&heap, &mut keeper, 1000, &mut steps),
-        Work::Flipped
-    );
+    answers(rt, &heap, &mut keeper, 1000, Work::Flipped, &mut steps);
     let events = until_flipped(rt, &heap, &mut keeper, 1, &mut steps);
     assert!(rt; events <= 167, "{events} events");
     assert_eq!(rt; events, 98);
-    assert_eq!(rt;
-        collect(&heap, &mut keeper, 1000, &mut steps),
-        Work::Flipped
-    );
+    answers(rt, &heap, &mut keeper, 1000, Work::Flipped, &mut steps);
     Ok(())
 }
 

@@ -71,6 +71,22 @@ fn close_all(rt: &impl Abort, heap: Heap, passes: Vec<Pass>, keeper: Keeper) -> 
     close(heap, passes, keeper)
 }
 
+/// The collector answers this, where it may do so many events.
+fn answers<L: Ledger>(
+    rt: &impl Abort,
+    heap: &Heap,
+    keeper: &mut Keeper,
+    budget: u32,
+    work: Work,
+    steps: &mut Steps<L>,
+)
+    requires keeper { IsKeeperOf heap.now keeper.old }
+    requires some { 1 ≤ budget }
+    ensures { IsKeeperOf heap.now keeper.new }
+{
+    assert_eq!(rt; collect(heap, keeper, budget, steps), work);
+}
+
 /// So many events of the collector are useful.
 fn useful<L: Ledger>(
     rt: &impl Abort,
@@ -83,7 +99,7 @@ fn useful<L: Ledger>(
     requires some { 1 ≤ events }
     ensures { IsKeeperOf heap.now keeper.new }
 {
-    assert_eq!(rt; collect(heap, keeper, events, steps), Work::Useful);
+    answers(rt, heap, keeper, events, Work::Useful, steps);
 }
 
 /// Collects until the next flip, which must come before anything else is in the way. Answers how many events came before it,

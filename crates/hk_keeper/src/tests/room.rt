@@ -2,8 +2,8 @@
 ghost use Rattle.std.specs.Prelude.{◌≡◌, ◌<◌, ◌≤◌};
 ghost use Rattle.hk_table.specs.Passes.{IsPassOf};
 
-use super::{open_two, until_flipped};
-use crate::{Work, collect};
+use super::{answers, open_two, until_flipped};
+use crate::Work;
 use hk_table::{Heap, HeapError, Pass, Steps};
 use hk_words::{Geometry, Shape};
 use std::marker::Brand;
@@ -47,7 +47,7 @@ fn filled_by_both<L: Ledger>(rt: &(impl Abort + AllocGlobal), blank: Blank) -> R
     let mut steps = Steps::<L>::new(blank);
     fill(rt, &heap, &mut low, shape, 8, &mut steps);
     fill(rt, &heap, &mut high, shape, 16, &mut steps);
-    assert_eq!(rt; collect(&heap, &mut keeper, 1, &mut steps), Work::Flipped);
+    answers(rt, &heap, &mut keeper, 1, Work::Flipped, &mut steps);
     assert_eq!(rt; heap.make(&mut low, 1, shape, &mut steps), Ok(()));
     Ok(())
 }

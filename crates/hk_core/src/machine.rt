@@ -7,7 +7,7 @@ ghost use Rattle.hk_words.specs.declared.call.Call.TheVariants.{Same, IsNull};
 ghost use Rattle.hk_model.specs.Heap.{opening_of};
 ghost use Rattle.hk_model.specs.History.{History, after, is_question};
 ghost use Rattle.hk_model.specs.Replies.{reply_of, said};
-ghost use Rattle.hk_core.specs.Event.{CanFire, CanFireIf, fired, fired_if, old_of, learnt};
+ghost use Rattle.hk_core.specs.Event.{CanFire, fired, old_of};
 ghost use Rattle.hk_core.specs.State.{State, IsSized, opening, flight_of};
 ghost use Rattle.hk_core.specs.Step.{next, answer_by, history_after};
 ghost use Rattle.hk_core.specs.Begin.{most_calls, register_word, entered_word, copied_word, first_flight, after_begin, refusal};
@@ -206,22 +206,6 @@ impl Core {
         let old = self.row[word];
         self.row[word] = event.after(old);
         old
-    }
-
-    /// Does an event that may be left out, and answers what is learnt from it.
-    #[tactic(auto, unfolding(crate::specs::Event::fired_if, crate::specs::Event::learnt))]
-    pub fn fire_if(&mut self, event: Option<Event>) -> u64
-        requires { CanFireIf self.old.row event }
-        ensures row { self.new ≡ record self.old { row = fired_if self.old.row event } }
-        ensures learnt { result ≡ learnt self.old.row event }
-    {
-        match event {
-            Some(event) => {
-                let old = self.fire(event);
-                event.learnt(old)
-            }
-            None => 0,
-        }
     }
 
     /// The flight of a seat.

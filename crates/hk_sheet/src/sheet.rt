@@ -3,7 +3,7 @@ ghost use Rattle.std.specs.Prelude.{◌≡◌, min, MatchResult};
 use crate::Arrivals;
 use hk_rta::Timing;
 use hk_script::Script;
-use hk_words::{GeoError, Geometry, MAX_FIELDS};
+use hk_words::{GeoError, Geometry, MAX_FIELDS, Shape};
 use std::marker::Model;
 
 /// The most ticks of a run, and the greatest period, deadline, cost, first arrival and step.
@@ -168,9 +168,18 @@ impl Sheet {
         requires { IsSheet self.now }
         ensures { HasSizes result (sizes_of self.now) }
     {
-        match self.try_geometry() {
-            Ok(geometry) => geometry,
-            Err(_) => unreachable!(),
-        }
+        let heap = self.heap;
+        Geometry::laid_out(
+            (heap.live, heap.alloc, heap.reserve),
+            (
+                counted(self.high.items.len()),
+                counted(self.low.items.len()),
+            ),
+            heap.registers,
+            Shape {
+                refs: heap.refs,
+                nums: heap.nums,
+            },
+        )
     }
 }

@@ -177,45 +177,67 @@ fn expect(rt: &impl Abort, alloc: Global, text: &[u8], wanted: &str) -> Result<(
     Ok(())
 }
 
-/// Parts of the sheet with what stands in their place, and the answer to the sheet that has been changed so.
-type Case = (&'static [(&'static str, &'static str)], &'static str);
+/// A sheet with parts changed, and the answer to it.
+struct Case {
+    /// Parts of the sheet with what stands in their place.
+    edits: &'static [(&'static str, &'static str)],
+    wanted: &'static str,
+}
 
 /// Compares the answers to edited sheets with the wanted ones.
 fn expect_each(rt: &impl Abort, alloc: Global, cases: &[Case]) -> Result<(), AllocError> {
-    for (edits, wanted) in cases {
-        let text = edited(rt, alloc, edits)?;
-        expect(rt, alloc, text.as_bytes(), wanted)?;
+    for case in cases {
+        let text = edited(rt, alloc, case.edits)?;
+        expect(rt, alloc, text.as_bytes(), case.wanted)?;
     }
     Ok(())
 }
 
 /// The sheet, and the same one in other words.
 const SAME: &[Case] = &[
-    (&[], "read"),
-    (&[("version", "\u{feff}version")], "read"),
-    (&[("ticks = 100", "ticks = 0x6_4 # a hundred")], "read"),
-    (
-        &[
+    Case {
+        edits: &[],
+        wanted: "read",
+    },
+    Case {
+        edits: &[("version", "\u{feff}version")],
+        wanted: "read",
+    },
+    Case {
+        edits: &[("ticks = 100", "ticks = 0x6_4 # a hundred")],
+        wanted: "read",
+    },
+    Case {
+        edits: &[
             ("[heap]\nlive", "heap.live"),
             ("\nalloc", "\nheap.alloc"),
             ("\nreserve", "\nheap.reserve"),
             ("\nrate", "\nheap.rate"),
             ("\nboard", "\nheap.board"),
         ],
-        "read",
-    ),
-    (
-        &[(
+        wanted: "read",
+    },
+    Case {
+        edits: &[(
             HEAP,
             "heap = {live = 62, alloc = 512, reserve = 129, rate = 11, board = [2, 3]}\n",
         )],
-        "read",
-    ),
-    (&[(HIGH, "")], "read"),
-    (&[(LOW, ""), (LAST, "")], "read"),
-    (&[(HIGH, ""), ("ticks", "high = []\nticks")], "read"),
-    (
-        &[
+        wanted: "read",
+    },
+    Case {
+        edits: &[(HIGH, "")],
+        wanted: "read",
+    },
+    Case {
+        edits: &[(LOW, ""), (LAST, "")],
+        wanted: "read",
+    },
+    Case {
+        edits: &[(HIGH, ""), ("ticks", "high = []\nticks")],
+        wanted: "read",
+    },
+    Case {
+        edits: &[
             (LOW, ""),
             (LAST, ""),
             (
@@ -223,9 +245,12 @@ const SAME: &[Case] = &[
                 "low = [{name = 'b', arrivals = [], script = 'work 1'}]\nticks",
             ),
         ],
-        "read",
-    ),
-    (&[("[3, 4, 9]", "[]")], "read"),
+        wanted: "read",
+    },
+    Case {
+        edits: &[("[3, 4, 9]", "[]")],
+        wanted: "read",
+    },
 ];
 
 #[test]
@@ -236,10 +261,22 @@ fn reads_other_words(rt: HostRuntime) -> Result<(), Fail> {
 
 /// No TOML.
 const NO_TOML: &[Case] = &[
-    (&[("version = 1", "version =")], "text"),
-    (&[("version = 1", "version = 1\nversion = 1")], "text"),
-    (&[("ticks = 100", "ticks = 9223372036854775808")], "text"),
-    (&[("\"a\"", "\"a")], "text"),
+    Case {
+        edits: &[("version = 1", "version =")],
+        wanted: "text",
+    },
+    Case {
+        edits: &[("version = 1", "version = 1\nversion = 1")],
+        wanted: "text",
+    },
+    Case {
+        edits: &[("ticks = 100", "ticks = 9223372036854775808")],
+        wanted: "text",
+    },
+    Case {
+        edits: &[("\"a\"", "\"a")],
+        wanted: "text",
+    },
 ];
 
 #[test]

@@ -8,57 +8,81 @@ use std::test::Fail;
 
 /// The keys of the jitter.
 const KEYS: &[Case] = &[
-    (&[("words = 7", "words = 7\njitter = 0")], "read"),
-    (&[("words = 7", "words = 7\njitter = 8")], "read"),
-    (
-        &[("words = 7", "words = 7\njitter = 9")],
-        "range high[0].jitter",
-    ),
-    (
-        &[("words = 7", "words = 7\njitter = -1")],
-        "range high[0].jitter",
-    ),
-    (
-        &[("words = 7", "words = 7\njitter = 1.0")],
-        "kind high[0].jitter",
-    ),
-    (
-        &[("deadline = 9", "deadline = 1\njitter = 1")],
-        "range high[0].jitter",
-    ),
-    (&[("deadline = 9", "deadline = 1\njitter = 0")], "read"),
-    (&[("words = 7", "words = 7\nlag = 0")], "read"),
-    (&[("words = 7", "words = 7\nlag = 16777216")], "read"),
-    (
-        &[("words = 7", "words = 7\nlag = 16777217")],
-        "range high[0].lag",
-    ),
-    (&[("words = 7", "words = 7\nlag = -1")], "range high[0].lag"),
-    (&[("words = 7", "words = 7\nlag = '1'")], "kind high[0].lag"),
-    (
-        &[("arrivals", "jitter = 1\narrivals")],
-        "unknown low[0].jitter",
-    ),
-    (&[("arrivals", "lag = 1\narrivals")], "unknown low[0].lag"),
-    (
-        &[("words = 7", "words = -1\njitter = 9")],
-        "range high[0].words",
-    ),
-    (
-        &[("words = 7", "words = 7\nlag = -1\njitter = 9")],
-        "range high[0].jitter",
-    ),
-    (
-        &[
+    Case {
+        edits: &[("words = 7", "words = 7\njitter = 0")],
+        wanted: "read",
+    },
+    Case {
+        edits: &[("words = 7", "words = 7\njitter = 8")],
+        wanted: "read",
+    },
+    Case {
+        edits: &[("words = 7", "words = 7\njitter = 9")],
+        wanted: "range high[0].jitter",
+    },
+    Case {
+        edits: &[("words = 7", "words = 7\njitter = -1")],
+        wanted: "range high[0].jitter",
+    },
+    Case {
+        edits: &[("words = 7", "words = 7\njitter = 1.0")],
+        wanted: "kind high[0].jitter",
+    },
+    Case {
+        edits: &[("deadline = 9", "deadline = 1\njitter = 1")],
+        wanted: "range high[0].jitter",
+    },
+    Case {
+        edits: &[("deadline = 9", "deadline = 1\njitter = 0")],
+        wanted: "read",
+    },
+    Case {
+        edits: &[("words = 7", "words = 7\nlag = 0")],
+        wanted: "read",
+    },
+    Case {
+        edits: &[("words = 7", "words = 7\nlag = 16777216")],
+        wanted: "read",
+    },
+    Case {
+        edits: &[("words = 7", "words = 7\nlag = 16777217")],
+        wanted: "range high[0].lag",
+    },
+    Case {
+        edits: &[("words = 7", "words = 7\nlag = -1")],
+        wanted: "range high[0].lag",
+    },
+    Case {
+        edits: &[("words = 7", "words = 7\nlag = '1'")],
+        wanted: "kind high[0].lag",
+    },
+    Case {
+        edits: &[("arrivals", "jitter = 1\narrivals")],
+        wanted: "unknown low[0].jitter",
+    },
+    Case {
+        edits: &[("arrivals", "lag = 1\narrivals")],
+        wanted: "unknown low[0].lag",
+    },
+    Case {
+        edits: &[("words = 7", "words = -1\njitter = 9")],
+        wanted: "range high[0].words",
+    },
+    Case {
+        edits: &[("words = 7", "words = 7\nlag = -1\njitter = 9")],
+        wanted: "range high[0].jitter",
+    },
+    Case {
+        edits: &[
             ("words = 7", "words = 7\nlag = -1"),
             ("first = 6", "first = -1"),
         ],
-        "range high[0].lag",
-    ),
-    (
-        &[("deadline = 9", "deadline = 11\njitter = 11")],
-        "range high[0].deadline",
-    ),
+        wanted: "range high[0].lag",
+    },
+    Case {
+        edits: &[("deadline = 9", "deadline = 11\njitter = 11")],
+        wanted: "range high[0].deadline",
+    },
 ];
 
 #[test]

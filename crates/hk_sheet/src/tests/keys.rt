@@ -4,27 +4,90 @@ use std::test::Fail;
 
 /// A key is missing.
 const MISSING: &[Case] = &[
-    (&[("version = 1\n", "")], "missing version"),
-    (&[("ticks = 100\n", "")], "missing ticks"),
-    (&[(HEAP, "")], "missing heap"),
-    (&[("live = 62\n", "")], "missing heap.live"),
-    (&[("alloc = 512\n", "")], "missing heap.alloc"),
-    (&[("reserve = 129\n", "")], "missing heap.reserve"),
-    (&[("rate = 11\n", "")], "missing heap.rate"),
-    (&[("board = [2, 3]\n", "")], "missing heap.board"),
-    (&[("name = \"a\"\n", "")], "missing high[0].name"),
-    (&[("period = 10\n", "")], "missing high[0].period"),
-    (&[("deadline = 9\n", "")], "missing high[0].deadline"),
-    (&[("cost = 8\n", "")], "missing high[0].cost"),
-    (&[("words = 7\n", "")], "missing high[0].words"),
-    (&[("first = 6\n", "")], "missing high[0].first"),
-    (&[("every = 11\n", "")], "missing high[0].every"),
-    (&[("script = \"work 1\"\n", "")], "missing high[0].script"),
-    (&[("name = \"b\"\n", "")], "missing low[0].name"),
-    (&[("arrivals = [3, 4, 9]\n", "")], "missing low[0].first"),
-    (&[("script = \"out v0\"\n", "")], "missing low[0].script"),
-    (&[("first = 0\n", "")], "missing low[1].first"),
-    (&[("every = 1\n", "")], "missing low[1].every"),
+    Case {
+        edits: &[("version = 1\n", "")],
+        wanted: "missing version",
+    },
+    Case {
+        edits: &[("ticks = 100\n", "")],
+        wanted: "missing ticks",
+    },
+    Case {
+        edits: &[(HEAP, "")],
+        wanted: "missing heap",
+    },
+    Case {
+        edits: &[("live = 62\n", "")],
+        wanted: "missing heap.live",
+    },
+    Case {
+        edits: &[("alloc = 512\n", "")],
+        wanted: "missing heap.alloc",
+    },
+    Case {
+        edits: &[("reserve = 129\n", "")],
+        wanted: "missing heap.reserve",
+    },
+    Case {
+        edits: &[("rate = 11\n", "")],
+        wanted: "missing heap.rate",
+    },
+    Case {
+        edits: &[("board = [2, 3]\n", "")],
+        wanted: "missing heap.board",
+    },
+    Case {
+        edits: &[("name = \"a\"\n", "")],
+        wanted: "missing high[0].name",
+    },
+    Case {
+        edits: &[("period = 10\n", "")],
+        wanted: "missing high[0].period",
+    },
+    Case {
+        edits: &[("deadline = 9\n", "")],
+        wanted: "missing high[0].deadline",
+    },
+    Case {
+        edits: &[("cost = 8\n", "")],
+        wanted: "missing high[0].cost",
+    },
+    Case {
+        edits: &[("words = 7\n", "")],
+        wanted: "missing high[0].words",
+    },
+    Case {
+        edits: &[("first = 6\n", "")],
+        wanted: "missing high[0].first",
+    },
+    Case {
+        edits: &[("every = 11\n", "")],
+        wanted: "missing high[0].every",
+    },
+    Case {
+        edits: &[("script = \"work 1\"\n", "")],
+        wanted: "missing high[0].script",
+    },
+    Case {
+        edits: &[("name = \"b\"\n", "")],
+        wanted: "missing low[0].name",
+    },
+    Case {
+        edits: &[("arrivals = [3, 4, 9]\n", "")],
+        wanted: "missing low[0].first",
+    },
+    Case {
+        edits: &[("script = \"out v0\"\n", "")],
+        wanted: "missing low[0].script",
+    },
+    Case {
+        edits: &[("first = 0\n", "")],
+        wanted: "missing low[1].first",
+    },
+    Case {
+        edits: &[("every = 1\n", "")],
+        wanted: "missing low[1].every",
+    },
 ];
 
 #[test]
@@ -35,25 +98,46 @@ fn refuses_missing_keys(rt: HostRuntime) -> Result<(), Fail> {
 
 /// A key is unknown.
 const UNKNOWN: &[Case] = &[
-    (&[("version", "x = 1\nversion")], "unknown x"),
-    (&[("version", "x.y = 1\nversion")], "unknown x"),
-    (&[("version", "Version")], "unknown Version"),
-    (&[("live", "x = 1\nlive")], "unknown heap.x"),
-    (&[("period", "x = 1\nperiod")], "unknown high[0].x"),
-    (&[("arrivals", "cost = 1\narrivals")], "unknown low[0].cost"),
-    (
-        &[("arrivals", "period = 1\narrivals")],
-        "unknown low[0].period",
-    ),
-    (
-        &[("first = 6", "arrivals = [6]\nfirst = 6")],
-        "unknown high[0].every",
-    ),
-    (
-        &[("first = 6\nevery = 11", "arrivals = 'x'\nfirst = 6")],
-        "unknown high[0].first",
-    ),
-    (&[("first = 0", "arrivals = [1]")], "unknown low[1].every"),
+    Case {
+        edits: &[("version", "x = 1\nversion")],
+        wanted: "unknown x",
+    },
+    Case {
+        edits: &[("version", "x.y = 1\nversion")],
+        wanted: "unknown x",
+    },
+    Case {
+        edits: &[("version", "Version")],
+        wanted: "unknown Version",
+    },
+    Case {
+        edits: &[("live", "x = 1\nlive")],
+        wanted: "unknown heap.x",
+    },
+    Case {
+        edits: &[("period", "x = 1\nperiod")],
+        wanted: "unknown high[0].x",
+    },
+    Case {
+        edits: &[("arrivals", "cost = 1\narrivals")],
+        wanted: "unknown low[0].cost",
+    },
+    Case {
+        edits: &[("arrivals", "period = 1\narrivals")],
+        wanted: "unknown low[0].period",
+    },
+    Case {
+        edits: &[("first = 6", "arrivals = [6]\nfirst = 6")],
+        wanted: "unknown high[0].every",
+    },
+    Case {
+        edits: &[("first = 6\nevery = 11", "arrivals = 'x'\nfirst = 6")],
+        wanted: "unknown high[0].first",
+    },
+    Case {
+        edits: &[("first = 0", "arrivals = [1]")],
+        wanted: "unknown low[1].every",
+    },
 ];
 
 #[test]
@@ -64,56 +148,86 @@ fn refuses_unknown_keys(rt: HostRuntime) -> Result<(), Fail> {
 
 /// The least unknown key, by its bytes, also where it comes later; a path is shown in ASCII and cut.
 const LEAST: &[Case] = &[
-    (&[("version", "b = 1\na = 1\nversion")], "unknown a"),
-    (&[("version", "a = 1\nB = 1\nversion")], "unknown B"),
-    (&[("version", "aa = 1\na = 1\nversion")], "unknown a"),
-    (&[("version", "'' = 1\na = 1\nversion")], "unknown "),
-    (&[("live", "'' = 1\nlive")], "unknown heap."),
-    (&[("version", "\"\u{e9}\" = 1\nversion")], "unknown ?"),
-    (
-        &[("version", "\"\u{65e5}\u{e9}\" = 1\nversion")],
-        "unknown ??",
-    ),
-    (&[("version", "\"a\\tb\" = 1\nversion")], "unknown a?b"),
-    (&[("version", "\"a b\" = 1\nversion")], "unknown a?b"),
-    (&[("version", "\"\\u007f\" = 1\nversion")], "unknown ?"),
-    (&[("version", "\"!~\" = 1\nversion")], "unknown !~"),
-    (
-        &[("version", "\"\u{e9}\" = 1\nz = 1\nversion")],
-        "unknown z",
-    ),
-    (
-        &[("version", "\"\u{ea}\" = 1\n\"\u{e9}a\" = 1\nversion")],
-        "unknown ?a",
-    ),
-    (
-        &[(
+    Case {
+        edits: &[("version", "b = 1\na = 1\nversion")],
+        wanted: "unknown a",
+    },
+    Case {
+        edits: &[("version", "a = 1\nB = 1\nversion")],
+        wanted: "unknown B",
+    },
+    Case {
+        edits: &[("version", "aa = 1\na = 1\nversion")],
+        wanted: "unknown a",
+    },
+    Case {
+        edits: &[("version", "'' = 1\na = 1\nversion")],
+        wanted: "unknown ",
+    },
+    Case {
+        edits: &[("live", "'' = 1\nlive")],
+        wanted: "unknown heap.",
+    },
+    Case {
+        edits: &[("version", "\"\u{e9}\" = 1\nversion")],
+        wanted: "unknown ?",
+    },
+    Case {
+        edits: &[("version", "\"\u{65e5}\u{e9}\" = 1\nversion")],
+        wanted: "unknown ??",
+    },
+    Case {
+        edits: &[("version", "\"a\\tb\" = 1\nversion")],
+        wanted: "unknown a?b",
+    },
+    Case {
+        edits: &[("version", "\"a b\" = 1\nversion")],
+        wanted: "unknown a?b",
+    },
+    Case {
+        edits: &[("version", "\"\\u007f\" = 1\nversion")],
+        wanted: "unknown ?",
+    },
+    Case {
+        edits: &[("version", "\"!~\" = 1\nversion")],
+        wanted: "unknown !~",
+    },
+    Case {
+        edits: &[("version", "\"\u{e9}\" = 1\nz = 1\nversion")],
+        wanted: "unknown z",
+    },
+    Case {
+        edits: &[("version", "\"\u{ea}\" = 1\n\"\u{e9}a\" = 1\nversion")],
+        wanted: "unknown ?a",
+    },
+    Case {
+        edits: &[(
             "version",
             "kkkkkkkkkkkkkkkkkkkkkkkkkkkkkkkkkkkkkkkkkkkkkkkkkkkkkkkkkkkkkkkkkkkkkkkkkkkkkkkkkkkkkkkkkkkkkkkkkkkk = 1\nversion",
         )],
-        "unknown kkkkkkkkkkkkkkkkkkkkkkkkkkkkkkkkkkkkkkkkkkkkkkkkkkkkkkkkkkkkkkkkkkkkkkkkkkkkkkkk",
-    ),
-    (
-        &[(
+        wanted: "unknown kkkkkkkkkkkkkkkkkkkkkkkkkkkkkkkkkkkkkkkkkkkkkkkkkkkkkkkkkkkkkkkkkkkkkkkkkkkkkkkk",
+    },
+    Case {
+        edits: &[(
             "live",
             "kkkkkkkkkkkkkkkkkkkkkkkkkkkkkkkkkkkkkkkkkkkkkkkkkkkkkkkkkkkkkkkkkkkkkkkkkkkkkkkkkkkkkkkkkkkkkkkkkkkk = 1\nlive",
         )],
-        "unknown heap.kkkkkkkkkkkkkkkkkkkkkkkkkkkkkkkkkkkkkkkkkkkkkkkkkkkkkkkkkkkkkkkkkkkkkkkkkkk",
-    ),
-    (
-        &[(
+        wanted: "unknown heap.kkkkkkkkkkkkkkkkkkkkkkkkkkkkkkkkkkkkkkkkkkkkkkkkkkkkkkkkkkkkkkkkkkkkkkkkkkk",
+    },
+    Case {
+        edits: &[(
             "period",
             "kkkkkkkkkkkkkkkkkkkkkkkkkkkkkkkkkkkkkkkkkkkkkkkkkkkkkkkkkkkkkkkkkkkkkkkkkkkkkkkkkkkkkkkkkkkkkkkkkkkk = 1\nperiod",
         )],
-        "unknown high[0].kkkkkkkkkkkkkkkkkkkkkkkkkkkkkkkkkkkkkkkkkkkkkkkkkkkkkkkkkkkkkkkkkkkkkkkk",
-    ),
-    (
-        &[(
+        wanted: "unknown high[0].kkkkkkkkkkkkkkkkkkkkkkkkkkkkkkkkkkkkkkkkkkkkkkkkkkkkkkkkkkkkkkkkkkkkkkkk",
+    },
+    Case {
+        edits: &[(
             "version",
             "\"kkkkkkkkkkkkkkkkkkkkkkkkkkkkkkkkkkkkkkkkkkkkkkkkkkkkkkkkkkkkkkkkkkkkkkkkkkkkkk\u{e9}zz\" = 1\nversion",
         )],
-        "unknown kkkkkkkkkkkkkkkkkkkkkkkkkkkkkkkkkkkkkkkkkkkkkkkkkkkkkkkkkkkkkkkkkkkkkkkkkkkkkk?z",
-    ),
+        wanted: "unknown kkkkkkkkkkkkkkkkkkkkkkkkkkkkkkkkkkkkkkkkkkkkkkkkkkkkkkkkkkkkkkkkkkkkkkkkkkkkkk?z",
+    },
 ];
 
 #[test]

@@ -4,44 +4,134 @@ use std::test::Fail;
 
 /// A value isn't of its kind.
 const KINDS_1: &[Case] = &[
-    (&[("version = 1", "version = 1.0")], "kind version"),
-    (&[("version = 1", "version = true")], "kind version"),
-    (&[("version = 1", "version = '1'")], "kind version"),
-    (&[("version = 1", "version = [1]")], "kind version"),
-    (&[("version = 1", "version = {x = 1}")], "kind version"),
-    (&[("version = 1", "version = 1979-05-27")], "kind version"),
-    (&[("ticks = 100", "ticks = 1.0")], "kind ticks"),
-    (&[("ticks = 100", "ticks = true")], "kind ticks"),
-    (&[("ticks = 100", "ticks = '1'")], "kind ticks"),
-    (&[("ticks = 100", "ticks = [1]")], "kind ticks"),
-    (&[("ticks = 100", "ticks = {x = 1}")], "kind ticks"),
-    (&[("ticks = 100", "ticks = 1979-05-27")], "kind ticks"),
-    (&[("live = 62", "live = 62.0")], "kind heap.live"),
-    (&[("live = 62", "live = false")], "kind heap.live"),
-    (&[("live = 62", "live = '62'")], "kind heap.live"),
-    (&[("live = 62", "live = []")], "kind heap.live"),
-    (&[("live = 62", "live = {}")], "kind heap.live"),
-    (&[("live = 62", "live = 07:32:00")], "kind heap.live"),
-    (&[("alloc = 512", "alloc = inf")], "kind heap.alloc"),
-    (&[("alloc = 512", "alloc = true")], "kind heap.alloc"),
-    (&[("reserve = 129", "reserve = nan")], "kind heap.reserve"),
-    (&[("reserve = 129", "reserve = [129]")], "kind heap.reserve"),
-    (&[("rate = 11", "rate = 1e1")], "kind heap.rate"),
-    (&[("rate = 11", "rate = '11'")], "kind heap.rate"),
-    (&[("board = [2, 3]", "board = 2")], "kind heap.board"),
-    (&[("board = [2, 3]", "board = '2, 3'")], "kind heap.board"),
-    (&[("board = [2, 3]", "board = []")], "kind heap.board"),
-    (&[("board = [2, 3]", "board = [2]")], "kind heap.board"),
-    (
-        &[("board = [2, 3]", "board = [2, 3, 4]")],
-        "kind heap.board",
-    ),
-    (&[("board = [2, 3]", "board = [2, 3.0]")], "kind heap.board"),
-    (
-        &[("board = [2, 3]", "board = [true, 3]")],
-        "kind heap.board",
-    ),
-    (&[("board = [2, 3]", "board = [[2, 3]]")], "kind heap.board"),
+    Case {
+        edits: &[("version = 1", "version = 1.0")],
+        wanted: "kind version",
+    },
+    Case {
+        edits: &[("version = 1", "version = true")],
+        wanted: "kind version",
+    },
+    Case {
+        edits: &[("version = 1", "version = '1'")],
+        wanted: "kind version",
+    },
+    Case {
+        edits: &[("version = 1", "version = [1]")],
+        wanted: "kind version",
+    },
+    Case {
+        edits: &[("version = 1", "version = {x = 1}")],
+        wanted: "kind version",
+    },
+    Case {
+        edits: &[("version = 1", "version = 1979-05-27")],
+        wanted: "kind version",
+    },
+    Case {
+        edits: &[("ticks = 100", "ticks = 1.0")],
+        wanted: "kind ticks",
+    },
+    Case {
+        edits: &[("ticks = 100", "ticks = true")],
+        wanted: "kind ticks",
+    },
+    Case {
+        edits: &[("ticks = 100", "ticks = '1'")],
+        wanted: "kind ticks",
+    },
+    Case {
+        edits: &[("ticks = 100", "ticks = [1]")],
+        wanted: "kind ticks",
+    },
+    Case {
+        edits: &[("ticks = 100", "ticks = {x = 1}")],
+        wanted: "kind ticks",
+    },
+    Case {
+        edits: &[("ticks = 100", "ticks = 1979-05-27")],
+        wanted: "kind ticks",
+    },
+    Case {
+        edits: &[("live = 62", "live = 62.0")],
+        wanted: "kind heap.live",
+    },
+    Case {
+        edits: &[("live = 62", "live = false")],
+        wanted: "kind heap.live",
+    },
+    Case {
+        edits: &[("live = 62", "live = '62'")],
+        wanted: "kind heap.live",
+    },
+    Case {
+        edits: &[("live = 62", "live = []")],
+        wanted: "kind heap.live",
+    },
+    Case {
+        edits: &[("live = 62", "live = {}")],
+        wanted: "kind heap.live",
+    },
+    Case {
+        edits: &[("live = 62", "live = 07:32:00")],
+        wanted: "kind heap.live",
+    },
+    Case {
+        edits: &[("alloc = 512", "alloc = inf")],
+        wanted: "kind heap.alloc",
+    },
+    Case {
+        edits: &[("alloc = 512", "alloc = true")],
+        wanted: "kind heap.alloc",
+    },
+    Case {
+        edits: &[("reserve = 129", "reserve = nan")],
+        wanted: "kind heap.reserve",
+    },
+    Case {
+        edits: &[("reserve = 129", "reserve = [129]")],
+        wanted: "kind heap.reserve",
+    },
+    Case {
+        edits: &[("rate = 11", "rate = 1e1")],
+        wanted: "kind heap.rate",
+    },
+    Case {
+        edits: &[("rate = 11", "rate = '11'")],
+        wanted: "kind heap.rate",
+    },
+    Case {
+        edits: &[("board = [2, 3]", "board = 2")],
+        wanted: "kind heap.board",
+    },
+    Case {
+        edits: &[("board = [2, 3]", "board = '2, 3'")],
+        wanted: "kind heap.board",
+    },
+    Case {
+        edits: &[("board = [2, 3]", "board = []")],
+        wanted: "kind heap.board",
+    },
+    Case {
+        edits: &[("board = [2, 3]", "board = [2]")],
+        wanted: "kind heap.board",
+    },
+    Case {
+        edits: &[("board = [2, 3]", "board = [2, 3, 4]")],
+        wanted: "kind heap.board",
+    },
+    Case {
+        edits: &[("board = [2, 3]", "board = [2, 3.0]")],
+        wanted: "kind heap.board",
+    },
+    Case {
+        edits: &[("board = [2, 3]", "board = [true, 3]")],
+        wanted: "kind heap.board",
+    },
+    Case {
+        edits: &[("board = [2, 3]", "board = [[2, 3]]")],
+        wanted: "kind heap.board",
+    },
 ];
 
 #[test]
@@ -52,83 +142,134 @@ fn refuses_other_kinds_1(rt: HostRuntime) -> Result<(), Fail> {
 
 /// A value isn't of its kind.
 const KINDS_2: &[Case] = &[
-    (
-        &[("board = [2, 3]", "board = {refs = 2, nums = 3}")],
-        "kind heap.board",
-    ),
-    (&[("board = [2, 3]", "board = [256]")], "kind heap.board"),
-    (
-        &[("board = [2, 3]", "board = [300, 'x']")],
-        "kind heap.board",
-    ),
-    (&[(HEAP, "heap = 1\n")], "kind heap"),
-    (&[("[heap]", "[[heap]]")], "kind heap"),
-    (&[(HIGH, ""), ("ticks", "high = 1\nticks")], "kind high"),
-    (
-        &[(HIGH, ""), ("ticks", "high = {name = 'a'}\nticks")],
-        "kind high",
-    ),
-    (
-        &[(HIGH, ""), ("ticks", "high = [{}, 1]\nticks")],
-        "kind high",
-    ),
-    (
-        &[(LOW, ""), (LAST, ""), ("ticks", "low = [[]]\nticks")],
-        "kind low",
-    ),
-    (
-        &[(LOW, ""), (LAST, ""), ("ticks", "low = true\nticks")],
-        "kind low",
-    ),
-    (&[("name = \"a\"", "name = 1")], "kind high[0].name"),
-    (&[("name = \"a\"", "name = ['a']")], "kind high[0].name"),
-    (&[("name = \"a\"", "name = true")], "kind high[0].name"),
-    (&[("name = \"a\"", "name = {}")], "kind high[0].name"),
-    (&[("period = 10", "period = 10.0")], "kind high[0].period"),
-    (&[("period = 10", "period = '10'")], "kind high[0].period"),
-    (
-        &[("deadline = 9", "deadline = 9.0")],
-        "kind high[0].deadline",
-    ),
-    (
-        &[("deadline = 9", "deadline = [9]")],
-        "kind high[0].deadline",
-    ),
-    (&[("cost = 8", "cost = 8.0")], "kind high[0].cost"),
-    (&[("cost = 8", "cost = true")], "kind high[0].cost"),
-    (&[("words = 7", "words = 7.0")], "kind high[0].words"),
-    (&[("words = 7", "words = {}")], "kind high[0].words"),
-    (&[("first = 6", "first = 6.0")], "kind high[0].first"),
-    (
-        &[("first = 6", "first = 1979-05-27T07:32:00Z")],
-        "kind high[0].first",
-    ),
-    (&[("every = 11", "every = 11.0")], "kind high[0].every"),
-    (&[("every = 11", "every = []")], "kind high[0].every"),
-    (
-        &[("script = \"work 1\"", "script = 1")],
-        "kind high[0].script",
-    ),
-    (
-        &[("script = \"work 1\"", "script = ['work 1']")],
-        "kind high[0].script",
-    ),
-    (
-        &[("arrivals = [3, 4, 9]", "arrivals = 3")],
-        "kind low[0].arrivals",
-    ),
-    (
-        &[("arrivals = [3, 4, 9]", "arrivals = '3'")],
-        "kind low[0].arrivals",
-    ),
-    (
-        &[("arrivals = [3, 4, 9]", "arrivals = {}")],
-        "kind low[0].arrivals",
-    ),
-    (
-        &[("arrivals = [3, 4, 9]", "arrivals = [3, '4']")],
-        "kind low[0].arrivals",
-    ),
+    Case {
+        edits: &[("board = [2, 3]", "board = {refs = 2, nums = 3}")],
+        wanted: "kind heap.board",
+    },
+    Case {
+        edits: &[("board = [2, 3]", "board = [256]")],
+        wanted: "kind heap.board",
+    },
+    Case {
+        edits: &[("board = [2, 3]", "board = [300, 'x']")],
+        wanted: "kind heap.board",
+    },
+    Case {
+        edits: &[(HEAP, "heap = 1\n")],
+        wanted: "kind heap",
+    },
+    Case {
+        edits: &[("[heap]", "[[heap]]")],
+        wanted: "kind heap",
+    },
+    Case {
+        edits: &[(HIGH, ""), ("ticks", "high = 1\nticks")],
+        wanted: "kind high",
+    },
+    Case {
+        edits: &[(HIGH, ""), ("ticks", "high = {name = 'a'}\nticks")],
+        wanted: "kind high",
+    },
+    Case {
+        edits: &[(HIGH, ""), ("ticks", "high = [{}, 1]\nticks")],
+        wanted: "kind high",
+    },
+    Case {
+        edits: &[(LOW, ""), (LAST, ""), ("ticks", "low = [[]]\nticks")],
+        wanted: "kind low",
+    },
+    Case {
+        edits: &[(LOW, ""), (LAST, ""), ("ticks", "low = true\nticks")],
+        wanted: "kind low",
+    },
+    Case {
+        edits: &[("name = \"a\"", "name = 1")],
+        wanted: "kind high[0].name",
+    },
+    Case {
+        edits: &[("name = \"a\"", "name = ['a']")],
+        wanted: "kind high[0].name",
+    },
+    Case {
+        edits: &[("name = \"a\"", "name = true")],
+        wanted: "kind high[0].name",
+    },
+    Case {
+        edits: &[("name = \"a\"", "name = {}")],
+        wanted: "kind high[0].name",
+    },
+    Case {
+        edits: &[("period = 10", "period = 10.0")],
+        wanted: "kind high[0].period",
+    },
+    Case {
+        edits: &[("period = 10", "period = '10'")],
+        wanted: "kind high[0].period",
+    },
+    Case {
+        edits: &[("deadline = 9", "deadline = 9.0")],
+        wanted: "kind high[0].deadline",
+    },
+    Case {
+        edits: &[("deadline = 9", "deadline = [9]")],
+        wanted: "kind high[0].deadline",
+    },
+    Case {
+        edits: &[("cost = 8", "cost = 8.0")],
+        wanted: "kind high[0].cost",
+    },
+    Case {
+        edits: &[("cost = 8", "cost = true")],
+        wanted: "kind high[0].cost",
+    },
+    Case {
+        edits: &[("words = 7", "words = 7.0")],
+        wanted: "kind high[0].words",
+    },
+    Case {
+        edits: &[("words = 7", "words = {}")],
+        wanted: "kind high[0].words",
+    },
+    Case {
+        edits: &[("first = 6", "first = 6.0")],
+        wanted: "kind high[0].first",
+    },
+    Case {
+        edits: &[("first = 6", "first = 1979-05-27T07:32:00Z")],
+        wanted: "kind high[0].first",
+    },
+    Case {
+        edits: &[("every = 11", "every = 11.0")],
+        wanted: "kind high[0].every",
+    },
+    Case {
+        edits: &[("every = 11", "every = []")],
+        wanted: "kind high[0].every",
+    },
+    Case {
+        edits: &[("script = \"work 1\"", "script = 1")],
+        wanted: "kind high[0].script",
+    },
+    Case {
+        edits: &[("script = \"work 1\"", "script = ['work 1']")],
+        wanted: "kind high[0].script",
+    },
+    Case {
+        edits: &[("arrivals = [3, 4, 9]", "arrivals = 3")],
+        wanted: "kind low[0].arrivals",
+    },
+    Case {
+        edits: &[("arrivals = [3, 4, 9]", "arrivals = '3'")],
+        wanted: "kind low[0].arrivals",
+    },
+    Case {
+        edits: &[("arrivals = [3, 4, 9]", "arrivals = {}")],
+        wanted: "kind low[0].arrivals",
+    },
+    Case {
+        edits: &[("arrivals = [3, 4, 9]", "arrivals = [3, '4']")],
+        wanted: "kind low[0].arrivals",
+    },
 ];
 
 #[test]
@@ -139,23 +280,26 @@ fn refuses_other_kinds_2(rt: HostRuntime) -> Result<(), Fail> {
 
 /// A value isn't of its kind.
 const KINDS_3: &[Case] = &[
-    (
-        &[("arrivals = [3, 4, 9]", "arrivals = [3, 4.0]")],
-        "kind low[0].arrivals",
-    ),
-    (
-        &[("arrivals = [3, 4, 9]", "arrivals = [3, true]")],
-        "kind low[0].arrivals",
-    ),
-    (
-        &[("arrivals = [3, 4, 9]", "arrivals = [[3]]")],
-        "kind low[0].arrivals",
-    ),
-    (
-        &[("arrivals = [3, 4, 9]", "arrivals = [100, 'x']")],
-        "kind low[0].arrivals",
-    ),
-    (&[("every = 1\n", "every = 1.0\n")], "kind low[1].every"),
+    Case {
+        edits: &[("arrivals = [3, 4, 9]", "arrivals = [3, 4.0]")],
+        wanted: "kind low[0].arrivals",
+    },
+    Case {
+        edits: &[("arrivals = [3, 4, 9]", "arrivals = [3, true]")],
+        wanted: "kind low[0].arrivals",
+    },
+    Case {
+        edits: &[("arrivals = [3, 4, 9]", "arrivals = [[3]]")],
+        wanted: "kind low[0].arrivals",
+    },
+    Case {
+        edits: &[("arrivals = [3, 4, 9]", "arrivals = [100, 'x']")],
+        wanted: "kind low[0].arrivals",
+    },
+    Case {
+        edits: &[("every = 1\n", "every = 1.0\n")],
+        wanted: "kind low[1].every",
+    },
 ];
 
 #[test]

@@ -7,7 +7,7 @@ use Rattle.hk_rta.specs.declared.Timing.{Timing}
 use Rattle.hk_sheet.specs.declared.sheet.High.{High}
 use Rattle.hk_admit.specs.Analysis.{timings_of}
 use Rattle.hk_front.specs.Text.{line}
-use Rattle.hk_front.specs.Words.{shown}
+use Rattle.hk_io.specs.Bytes.{texts}
 use Rattle.hk_assign.specs.Sheets.{no_high, name_at, names_at}
 use Rattle.hk_assign.specs.Tool.{order_line}
 
@@ -30,14 +30,14 @@ name_read tasks place other task within is same =
 
 -- one name more
 pub name_more : (tasks : List High) (words : List (Bor (List ℕ))) (places : List ℕ) (place count : ℕ) (name : Bor (List ℕ)) → count < length words → place < length places
-    → name.now ≡ name_at tasks (slice_index places place) → shown (take count words) ≡ words_of tasks (take place places)
-    → shown (take (count + 1) (set words count name)) ≡ words_of tasks (take (place + 1) places)
+    → name.now ≡ name_at tasks (slice_index places place) → texts (take count words) ≡ words_of tasks (take place places)
+    → texts (take (count + 1) (set words count name)) ≡ words_of tasks (take (place + 1) places)
 name_more tasks words places place count name room within is so_far =
-    ap shown (take_more_set words count name room)
+    ap texts (take_more_set words count name room)
     ∙ map_push (λ (w : Bor (List ℕ)). w.now) (take count words) name
     ∙ (λ i. so_far i ++ is i ∷ [])
     ∙ ap (λ (names : List (List ℕ)). codes "refused" ∷ codes "order" ∷ names) (sym (map_more (name_at tasks) places place 0 within))
 
 -- all names
-pub all_named : (tasks : List High) (words : List (Bor (List ℕ))) (places : List ℕ) (place : ℕ) → length places ≤ place → shown words ≡ words_of tasks (take place places) → line (shown words) ≡ order_line (names_at tasks places)
+pub all_named : (tasks : List High) (words : List (Bor (List ℕ))) (places : List ℕ) (place : ℕ) → length places ≤ place → texts words ≡ words_of tasks (take place places) → line (texts words) ≡ order_line (names_at tasks places)
 all_named tasks words places place all is = ap line is ∙ ap (λ (l : List ℕ). order_line (names_at tasks l)) (take_all place places all)

@@ -2,29 +2,92 @@
 use crate::geometry::*;
 use std::process::Abort;
 
-/// Sizes, tasks, the board's fields, and why they are no geometry, None where they are one.
-type Case = ((u32, u32, u32), (u8, u8), (u8, u8), Option<GeoError>);
+/// The words for evacuation, for allocation and in reserve, the high and the low tasks, the board's reference fields and number
+/// fields, and why they are no geometry, None where they are one.
+#[derive(Clone, Copy, Debug, PartialEq, Eq)]
+struct Case {
+    sizes: (u32, u32, u32),
+    tasks: (u8, u8),
+    board: (u8, u8),
+    error: Option<GeoError>,
+}
 
 /// Compares what the rows of a table are answered.
 fn expect_all(rt: &impl Abort, cases: &[Case]) {
     for case in cases {
-        let (sizes, tasks, board, _) = *case;
+        let Case {
+            sizes,
+            tasks,
+            board,
+            ..
+        } = *case;
         let (live, alloc, reserve) = sizes;
         let error = Geometry::new(live, alloc, reserve, tasks.0, tasks.1, board.0, board.1).err();
-        assert_eq!(rt; (sizes, tasks, board, error), *case);
+        let found = Case {
+            sizes,
+            tasks,
+            board,
+            error,
+        };
+        assert_eq!(rt; found, *case);
     }
 }
 
 const LIMITS: &[Case] = &[
-    ((2, 16, 0), (1, 0), (1, 0), None),
-    ((2, 16, 16), (1, 0), (0, 1), None),
-    ((64, 16, 8), (1, 0), (62, 0), None),
-    ((4, 16, 8), (1, 0), (2, 1), None),
-    ((65_536, 16, 8), (1, 0), (1, 0), None),
-    ((8, 65_536, 65_536), (1, 0), (1, 0), None),
-    ((8, 16, 8), (31, 0), (1, 0), None),
-    ((8, 16, 8), (0, 31), (1, 0), None),
-    ((8, 16, 8), (16, 15), (1, 0), None),
+    Case {
+        sizes: (2, 16, 0),
+        tasks: (1, 0),
+        board: (1, 0),
+        error: None,
+    },
+    Case {
+        sizes: (2, 16, 16),
+        tasks: (1, 0),
+        board: (0, 1),
+        error: None,
+    },
+    Case {
+        sizes: (64, 16, 8),
+        tasks: (1, 0),
+        board: (62, 0),
+        error: None,
+    },
+    Case {
+        sizes: (4, 16, 8),
+        tasks: (1, 0),
+        board: (2, 1),
+        error: None,
+    },
+    Case {
+        sizes: (65_536, 16, 8),
+        tasks: (1, 0),
+        board: (1, 0),
+        error: None,
+    },
+    Case {
+        sizes: (8, 65_536, 65_536),
+        tasks: (1, 0),
+        board: (1, 0),
+        error: None,
+    },
+    Case {
+        sizes: (8, 16, 8),
+        tasks: (31, 0),
+        board: (1, 0),
+        error: None,
+    },
+    Case {
+        sizes: (8, 16, 8),
+        tasks: (0, 31),
+        board: (1, 0),
+        error: None,
+    },
+    Case {
+        sizes: (8, 16, 8),
+        tasks: (16, 15),
+        board: (1, 0),
+        error: None,
+    },
 ];
 
 #[test]
@@ -33,20 +96,90 @@ fn limits(rt: HostRuntime) {
 }
 
 const REFUSALS: &[Case] = &[
-    ((9, 16, 8), (1, 0), (1, 0), Some(GeoError::Odd)),
-    ((8, 17, 8), (1, 0), (1, 0), Some(GeoError::Odd)),
-    ((2, 16, 8), (1, 0), (2, 0), Some(GeoError::Small)),
-    ((62, 16, 8), (1, 0), (31, 31), Some(GeoError::Small)),
-    ((8, 14, 8), (1, 0), (1, 0), Some(GeoError::Small)),
-    ((65_538, 16, 8), (1, 0), (1, 0), Some(GeoError::Large)),
-    ((8, 65_538, 8), (1, 0), (1, 0), Some(GeoError::Large)),
-    ((8, 16, 17), (1, 0), (1, 0), Some(GeoError::Reserve)),
-    ((8, 16, 8), (0, 0), (1, 0), Some(GeoError::Tasks)),
-    ((8, 16, 8), (31, 1), (1, 0), Some(GeoError::Tasks)),
-    ((8, 16, 8), (255, 255), (1, 0), Some(GeoError::Tasks)),
-    ((8, 16, 8), (1, 0), (0, 0), Some(GeoError::Board)),
-    ((64, 16, 8), (1, 0), (63, 0), Some(GeoError::Board)),
-    ((64, 16, 8), (1, 0), (31, 32), Some(GeoError::Board)),
+    Case {
+        sizes: (9, 16, 8),
+        tasks: (1, 0),
+        board: (1, 0),
+        error: Some(GeoError::Odd),
+    },
+    Case {
+        sizes: (8, 17, 8),
+        tasks: (1, 0),
+        board: (1, 0),
+        error: Some(GeoError::Odd),
+    },
+    Case {
+        sizes: (2, 16, 8),
+        tasks: (1, 0),
+        board: (2, 0),
+        error: Some(GeoError::Small),
+    },
+    Case {
+        sizes: (62, 16, 8),
+        tasks: (1, 0),
+        board: (31, 31),
+        error: Some(GeoError::Small),
+    },
+    Case {
+        sizes: (8, 14, 8),
+        tasks: (1, 0),
+        board: (1, 0),
+        error: Some(GeoError::Small),
+    },
+    Case {
+        sizes: (65_538, 16, 8),
+        tasks: (1, 0),
+        board: (1, 0),
+        error: Some(GeoError::Large),
+    },
+    Case {
+        sizes: (8, 65_538, 8),
+        tasks: (1, 0),
+        board: (1, 0),
+        error: Some(GeoError::Large),
+    },
+    Case {
+        sizes: (8, 16, 17),
+        tasks: (1, 0),
+        board: (1, 0),
+        error: Some(GeoError::Reserve),
+    },
+    Case {
+        sizes: (8, 16, 8),
+        tasks: (0, 0),
+        board: (1, 0),
+        error: Some(GeoError::Tasks),
+    },
+    Case {
+        sizes: (8, 16, 8),
+        tasks: (31, 1),
+        board: (1, 0),
+        error: Some(GeoError::Tasks),
+    },
+    Case {
+        sizes: (8, 16, 8),
+        tasks: (255, 255),
+        board: (1, 0),
+        error: Some(GeoError::Tasks),
+    },
+    Case {
+        sizes: (8, 16, 8),
+        tasks: (1, 0),
+        board: (0, 0),
+        error: Some(GeoError::Board),
+    },
+    Case {
+        sizes: (64, 16, 8),
+        tasks: (1, 0),
+        board: (63, 0),
+        error: Some(GeoError::Board),
+    },
+    Case {
+        sizes: (64, 16, 8),
+        tasks: (1, 0),
+        board: (31, 32),
+        error: Some(GeoError::Board),
+    },
 ];
 
 #[test]
@@ -55,23 +188,108 @@ fn refusals(rt: HostRuntime) {
 }
 
 const FIRST_REFUSALS: &[Case] = &[
-    ((1, 16, 8), (1, 0), (1, 0), Some(GeoError::Odd)),
-    ((65_537, 16, 8), (1, 0), (1, 0), Some(GeoError::Odd)),
-    ((8, 17, 18), (1, 0), (1, 0), Some(GeoError::Odd)),
-    ((9, 16, 8), (0, 0), (1, 0), Some(GeoError::Odd)),
-    ((9, 16, 8), (1, 0), (0, 0), Some(GeoError::Odd)),
-    ((2, 65_538, 8), (1, 0), (2, 0), Some(GeoError::Small)),
-    ((65_538, 14, 8), (1, 0), (1, 0), Some(GeoError::Small)),
-    ((8, 14, 15), (1, 0), (1, 0), Some(GeoError::Small)),
-    ((8, 14, 8), (0, 0), (1, 0), Some(GeoError::Small)),
-    ((62, 16, 8), (1, 0), (63, 0), Some(GeoError::Small)),
-    ((65_538, 16, 17), (1, 0), (1, 0), Some(GeoError::Large)),
-    ((65_538, 16, 8), (32, 0), (1, 0), Some(GeoError::Large)),
-    ((65_538, 16, 8), (1, 0), (63, 0), Some(GeoError::Large)),
-    ((8, 16, 17), (32, 0), (1, 0), Some(GeoError::Reserve)),
-    ((8, 16, 17), (1, 0), (0, 0), Some(GeoError::Reserve)),
-    ((8, 16, 8), (0, 0), (0, 0), Some(GeoError::Tasks)),
-    ((9, 14, 65_538), (0, 0), (255, 255), Some(GeoError::Odd)),
+    Case {
+        sizes: (1, 16, 8),
+        tasks: (1, 0),
+        board: (1, 0),
+        error: Some(GeoError::Odd),
+    },
+    Case {
+        sizes: (65_537, 16, 8),
+        tasks: (1, 0),
+        board: (1, 0),
+        error: Some(GeoError::Odd),
+    },
+    Case {
+        sizes: (8, 17, 18),
+        tasks: (1, 0),
+        board: (1, 0),
+        error: Some(GeoError::Odd),
+    },
+    Case {
+        sizes: (9, 16, 8),
+        tasks: (0, 0),
+        board: (1, 0),
+        error: Some(GeoError::Odd),
+    },
+    Case {
+        sizes: (9, 16, 8),
+        tasks: (1, 0),
+        board: (0, 0),
+        error: Some(GeoError::Odd),
+    },
+    Case {
+        sizes: (2, 65_538, 8),
+        tasks: (1, 0),
+        board: (2, 0),
+        error: Some(GeoError::Small),
+    },
+    Case {
+        sizes: (65_538, 14, 8),
+        tasks: (1, 0),
+        board: (1, 0),
+        error: Some(GeoError::Small),
+    },
+    Case {
+        sizes: (8, 14, 15),
+        tasks: (1, 0),
+        board: (1, 0),
+        error: Some(GeoError::Small),
+    },
+    Case {
+        sizes: (8, 14, 8),
+        tasks: (0, 0),
+        board: (1, 0),
+        error: Some(GeoError::Small),
+    },
+    Case {
+        sizes: (62, 16, 8),
+        tasks: (1, 0),
+        board: (63, 0),
+        error: Some(GeoError::Small),
+    },
+    Case {
+        sizes: (65_538, 16, 17),
+        tasks: (1, 0),
+        board: (1, 0),
+        error: Some(GeoError::Large),
+    },
+    Case {
+        sizes: (65_538, 16, 8),
+        tasks: (32, 0),
+        board: (1, 0),
+        error: Some(GeoError::Large),
+    },
+    Case {
+        sizes: (65_538, 16, 8),
+        tasks: (1, 0),
+        board: (63, 0),
+        error: Some(GeoError::Large),
+    },
+    Case {
+        sizes: (8, 16, 17),
+        tasks: (32, 0),
+        board: (1, 0),
+        error: Some(GeoError::Reserve),
+    },
+    Case {
+        sizes: (8, 16, 17),
+        tasks: (1, 0),
+        board: (0, 0),
+        error: Some(GeoError::Reserve),
+    },
+    Case {
+        sizes: (8, 16, 8),
+        tasks: (0, 0),
+        board: (0, 0),
+        error: Some(GeoError::Tasks),
+    },
+    Case {
+        sizes: (9, 14, 65_538),
+        tasks: (0, 0),
+        board: (255, 255),
+        error: Some(GeoError::Odd),
+    },
 ];
 
 #[test]
@@ -80,43 +298,161 @@ fn first_refusals(rt: HostRuntime) {
 }
 
 /// The registers of a task, and the rest of a case.
-const WIDE: &[(u8, Case)] = &[
-    (2, ((512, 512, 300), (1, 0), (2, 2), None)),
-    (32, ((512, 512, 300), (1, 0), (2, 2), None)),
-    (32, ((256, 16, 0), (0, 31), (254, 0), None)),
-    (2, ((256, 16, 0), (0, 31), (100, 154), None)),
-    (
-        1,
-        ((512, 512, 300), (1, 0), (2, 2), Some(GeoError::Registers)),
-    ),
-    (
-        0,
-        ((512, 512, 300), (1, 0), (2, 2), Some(GeoError::Registers)),
-    ),
-    (
-        33,
-        ((512, 512, 300), (1, 0), (2, 2), Some(GeoError::Registers)),
-    ),
-    (33, ((256, 16, 0), (1, 0), (254, 1), Some(GeoError::Board))),
-    (8, ((512, 16, 0), (1, 0), (0, 0), Some(GeoError::Board))),
-    (1, ((512, 16, 0), (32, 0), (0, 0), Some(GeoError::Tasks))),
-    (1, ((512, 16, 17), (32, 0), (0, 0), Some(GeoError::Reserve))),
-    (
-        1,
-        ((65_538, 16, 17), (32, 0), (0, 0), Some(GeoError::Large)),
-    ),
-    (1, ((254, 16, 17), (32, 0), (254, 0), Some(GeoError::Small))),
-    (1, ((255, 16, 17), (32, 0), (254, 0), Some(GeoError::Odd))),
+#[derive(Clone, Copy, Debug, PartialEq, Eq)]
+struct WideCase {
+    registers: u8,
+    case: Case,
+}
+
+const WIDE: &[WideCase] = &[
+    WideCase {
+        registers: 2,
+        case: Case {
+            sizes: (512, 512, 300),
+            tasks: (1, 0),
+            board: (2, 2),
+            error: None,
+        },
+    },
+    WideCase {
+        registers: 32,
+        case: Case {
+            sizes: (512, 512, 300),
+            tasks: (1, 0),
+            board: (2, 2),
+            error: None,
+        },
+    },
+    WideCase {
+        registers: 32,
+        case: Case {
+            sizes: (256, 16, 0),
+            tasks: (0, 31),
+            board: (254, 0),
+            error: None,
+        },
+    },
+    WideCase {
+        registers: 2,
+        case: Case {
+            sizes: (256, 16, 0),
+            tasks: (0, 31),
+            board: (100, 154),
+            error: None,
+        },
+    },
+    WideCase {
+        registers: 1,
+        case: Case {
+            sizes: (512, 512, 300),
+            tasks: (1, 0),
+            board: (2, 2),
+            error: Some(GeoError::Registers),
+        },
+    },
+    WideCase {
+        registers: 0,
+        case: Case {
+            sizes: (512, 512, 300),
+            tasks: (1, 0),
+            board: (2, 2),
+            error: Some(GeoError::Registers),
+        },
+    },
+    WideCase {
+        registers: 33,
+        case: Case {
+            sizes: (512, 512, 300),
+            tasks: (1, 0),
+            board: (2, 2),
+            error: Some(GeoError::Registers),
+        },
+    },
+    WideCase {
+        registers: 33,
+        case: Case {
+            sizes: (256, 16, 0),
+            tasks: (1, 0),
+            board: (254, 1),
+            error: Some(GeoError::Board),
+        },
+    },
+    WideCase {
+        registers: 8,
+        case: Case {
+            sizes: (512, 16, 0),
+            tasks: (1, 0),
+            board: (0, 0),
+            error: Some(GeoError::Board),
+        },
+    },
+    WideCase {
+        registers: 1,
+        case: Case {
+            sizes: (512, 16, 0),
+            tasks: (32, 0),
+            board: (0, 0),
+            error: Some(GeoError::Tasks),
+        },
+    },
+    WideCase {
+        registers: 1,
+        case: Case {
+            sizes: (512, 16, 17),
+            tasks: (32, 0),
+            board: (0, 0),
+            error: Some(GeoError::Reserve),
+        },
+    },
+    WideCase {
+        registers: 1,
+        case: Case {
+            sizes: (65_538, 16, 17),
+            tasks: (32, 0),
+            board: (0, 0),
+            error: Some(GeoError::Large),
+        },
+    },
+    WideCase {
+        registers: 1,
+        case: Case {
+            sizes: (254, 16, 17),
+            tasks: (32, 0),
+            board: (254, 0),
+            error: Some(GeoError::Small),
+        },
+    },
+    WideCase {
+        registers: 1,
+        case: Case {
+            sizes: (255, 16, 17),
+            tasks: (32, 0),
+            board: (254, 0),
+            error: Some(GeoError::Odd),
+        },
+    },
 ];
 
 #[test]
 fn wide(rt: HostRuntime) {
     for row in WIDE {
-        let (registers, (sizes, tasks, board, _)) = *row;
+        let WideCase { registers, case } = *row;
+        let Case {
+            sizes,
+            tasks,
+            board,
+            ..
+        } = case;
         let (live, alloc, reserve) = sizes;
         let ((high, low), (refs, nums)) = (tasks, board);
         let error = Geometry::wide(registers, live, alloc, reserve, high, low, refs, nums).err();
-        assert_eq!(rt; (registers, (sizes, tasks, board, error)), *row);
+        let found = Case {
+            sizes,
+            tasks,
+            board,
+            error,
+        };
+        assert_eq!(rt; found, case);
     }
 }
 

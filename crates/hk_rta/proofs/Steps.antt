@@ -1,13 +1,12 @@
 -- How the work in a window grows with the window.
-use Rattle.std.proofs.Common.{◌≡◌, ℕ, ◌+◌, ◌^◌, ◌≤◌, List, length, take, arith, inl, inr}
-use Rattle.std.proofs.Math.Nat.{mul-le-mul_left, mul-le-mul_right, div-zero, mod-zero}
+use Rattle.std.proofs.Common.{◌≡◌, ℕ, ◌+◌, ◌≤◌, List, length, take, arith, inl, inr}
+use Rattle.std.proofs.Math.Nat.{mul-le-mul_right, div-zero, mod-zero}
 use Rattle.std.proofs.lemmas.Bool.{cases_lt}
 use Rattle.std.proofs.lemmas.Grind.{div_ceil_times}
 use Rattle.std.proofs.lemmas.List.Sums.{sum_by-le-sum_by}
-use Rattle.std.proofs.lemmas.Nat.{mul-le}
 use Rattle.hk_rta.specs.declared.Timing.{Timing}
 use Rattle.hk_rta.specs.declared.Load.{Load}
-use Rattle.hk_rta.specs.Demand.{starts_in, demand_of, demand, work_of, work_in, cost_at, IsTimed, IsLoad}
+use Rattle.hk_rta.specs.Demand.{starts_in, demand_of, demand, work_of, work_in, cost_at}
 use Rattle.hk_rta.specs.Busy.{Suffices}
 use Rattle.hk_rta.specs.Response.{Solves}
 
@@ -22,14 +21,6 @@ starts_grow a b period h =
       | inr none ↦ let e : period ≡ 0 = omega arith in rw (e, div-zero a, div-zero b, mod-zero a, mod-zero b) (omega arith)
     ]
 
--- a period of at least a tick begins at most once a tick
-pub starts-le : (window period : ℕ) → 1 ≤ period → starts_in window period ≤ window
-starts-le window period some =
-    elim (cases_lt window (starts_in window period)) [
-      | inl less ↦ absurd (omega (arith, div_ceil_times window period some, mul-le-mul_right period less, mul-le-mul_left window some))
-      | inr fine ↦ fine
-    ]
-
 -- in a longer window the tasks bring at least as much work
 pub demand_grows : (tasks : List Timing) (a b : ℕ) → a ≤ b → demand tasks a ≤ demand tasks b
 demand_grows tasks a b h =
@@ -41,18 +32,6 @@ pub work_grows : (loads : List Load) (a b : ℕ) → a ≤ b → work_in loads a
 work_grows loads a b h =
     sum_by-le-sum_by (work_of a) (work_of b) loads
     (λ l. mul-le-mul_right l.work (starts_grow (a + l.jitter) (b + l.jitter) l.period (omega (arith, h))))
-
--- a task in range brings at most so much work into a window in range
-pub demand_of-le : (window : ℕ) (task : Timing) → window ≤ 2 ^ 24 → IsTimed task → demand_of window task ≤ 2 ^ 49
-demand_of-le window task h t =
-    mul-le (starts_in (window + task.jitter) task.period) task.cost (2 ^ 25) (2 ^ 24)
-    (omega (arith, t.jitter, starts-le (window + task.jitter) task.period t.period.0)) t.cost.1
-
--- and a load
-pub work_of-le : (window : ℕ) (load : Load) → window ≤ 2 ^ 24 → IsLoad load → work_of window load ≤ 2 ^ 62
-work_of-le window load h t =
-    mul-le (starts_in (window + load.jitter) load.period) load.work (2 ^ 25) (2 ^ 37)
-    (omega (arith, t.jitter, starts-le (window + load.jitter) load.period t.period.0)) t.work
 
 -- one step of the iteration from below stays at or below each solution
 pub solves_above : (tasks : List Timing) (i length r : ℕ) → length ≤ r → Solves tasks i r → cost_at tasks i + demand (take i tasks) length ≤ r

@@ -1,7 +1,8 @@
 -- What is read is spelled so, and what is spelled so is read.
-use Rattle.std.proofs.Common.{◌≡◌, ℕ, ◌+◌, ◌<◌, ◌≤◌, Bool, true, List, [], ◌∷◌, ◌++◌, length, map, take, drop, Result, Ok, Err, refl, sym, ap, ◌∙◌, subst, arith, append_assoc, length-append}
+use Rattle.std.proofs.Common.{◌≡◌, ℕ, ◌+◌, ◌<◌, ◌≤◌, Bool, true, false, List, [], ◌∷◌, ◌++◌, length, map, take, drop, Result, Ok, Err, refl, sym, ap, ◌∙◌, subst, arith, append_assoc, length-append}
 use Rattle.std.specs.Prelude.{nat_lt, filter, ◌==◌, MatchResult, IfOk}
 use Rattle.std.specs.List.{AllZip, AllByRecursion}
+use Rattle.std.proofs.lemmas.Bool.{false_from_ne_true}
 use Rattle.std.proofs.lemmas.Bool.Decides.{nat_tests}
 use Rattle.std.proofs.lemmas.List.{length-map, append-nil}
 use Rattle.hk_script.specs.declared.blocks.Open.{Open}
@@ -15,8 +16,10 @@ use Rattle.hk_script.specs.declared.limits.Limits.{Limits}
 use Rattle.hk_script.specs.declared.statement.Statement.{Statement}
 use Rattle.hk_script.specs.declared.statement.Statement.TheVariants as statement
 use Rattle.std.specs.List.{position_or_len}
+use Rattle.std.proofs.lemmas.List.Elements.{All-from_get_or}
 use Rattle.std.proofs.lemmas.List.Splits.{slice_split_first, slice_split_none}
-use Rattle.std.proofs.lemmas.List.Sums.{fails_before_first}
+use Rattle.std.proofs.lemmas.List.Sums.{position_or_len_is}
+use Rattle.memchr.specs.Find.{NoneBefore, Nowhere, Passes, is_byte}
 use Rattle.hk_script.specs.Limits.{AreLimits}
 use Rattle.hk_script.specs.Lex.{words, lines}
 use Rattle.hk_script.specs.Reading.{statement_of}
@@ -272,6 +275,11 @@ text_again limits are text s h =
 abbrev pub is_newline : ℕ → Bool
 is_newline x = x == 10
 
+-- where a search finds the end of a line
+pub end_found : (rest : List ℕ) (end : ℕ) → NoneBefore (Passes (is_byte 10) rest) 0 (length rest) end → Passes (is_byte 10) rest end → end ≡ position_or_len is_newline rest
+end_found rest end before at =
+    sym (position_or_len_is is_newline rest end 0 (omega (arith, before.high)) (λ k lt. false_from_ne_true _ (before.before k (omega arith) lt)) (λ _. at))
+
 split_here : (rest : List ℕ) (end : ℕ) → end ≡ position_or_len is_newline rest → end < length rest → lines rest ≡ take end rest ∷ lines (drop (end + 1) rest)
 split_here rest end e lt = rw e (slice_split_first is_newline rest 0 (omega arith))
 
@@ -288,11 +296,11 @@ stops limits n end p rest here f e lt h r =
     let cut : lines rest ≡ here ∷ lines after = rw h (split_here rest end e lt) in
     subst (λ (l : List (List ℕ)). Refuses f (lines_read limits n p (map words l))) (sym cut) (then_refuses n (line_read limits n p (words here)) (λ q. lines_read limits (next_line n) q (map words (lines after))) f r)
 
--- the last line
-pub last_line : (limits : Limits) (n end : ℕ) (p : Progress) (rest : List ℕ) → end ≡ position_or_len is_newline rest → length rest ≤ end → lines_read limits n p (map words (lines rest)) ≡ then_at n (line_read limits n p (words rest)) done
-last_line limits n end p rest e le =
-    let whole : lines rest ≡ rest ∷ [] = slice_split_none is_newline rest (λ k d lt. fails_before_first is_newline rest k d (omega arith)) in
-    ap (λ (l : List (List ℕ)). lines_read limits n p (map words l)) whole
+-- the last line, which no newline ends
+pub last_line : (limits : Limits) (n : ℕ) (p : Progress) (rest : List ℕ) → Nowhere (Passes (is_byte 10) rest) 0 (length rest) → lines_read limits n p (map words (lines rest)) ≡ then_at n (line_read limits n p (words rest)) done
+last_line limits n p rest none =
+    let plain = All-from_get_or (λ b. is_newline b ≡ false) rest 0 (λ k lt. false_from_ne_true _ (none k (omega arith) lt)) in
+    ap (λ (l : List (List ℕ)). lines_read limits n p (map words l)) (slice_split_none is_newline rest plain)
 
 -- ---- a script that was made
 

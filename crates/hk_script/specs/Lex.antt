@@ -12,6 +12,10 @@ is_blank byte = byte == 32 || byte == 9 || byte == 13
 abbrev pub before_comment : List ℕ → List ℕ
 before_comment line = before_first (λ byte. byte == 35) line
 
+-- a word ends before a blank or a comment
+abbrev pub ends_word : ℕ → Bool
+ends_word byte = is_blank byte || byte == 35
+
 -- the words of a line: what blanks part, up to the comment
 abbrev pub words : List ℕ → List (List ℕ)
 words line = filter (λ word. nat_lt 0 (length word)) (slice_split is_blank (before_comment line))

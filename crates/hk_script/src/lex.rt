@@ -1,45 +1,58 @@
-//! The lines of a text, the words of a line, and the numbers and names that words spell.
+//! The words of a line, and the numbers and names that words spell.
 
-ghost use Rattle.std.specs.Prelude.{◌≡◌, ℕ, ◌<◌, ◌≤◌, true, false, List, length, map, IfOk, IfSome, MatchOption, ◌==◌};
+ghost use Rattle.std.specs.Prelude.{◌≡◌, ℕ, ◌<◌, ◌≤◌, true, false, [], ◌∷◌, length, IfSome, MatchOption};
 ghost use Rattle.std.specs.List.{position_or_len, list_all};
 ghost use Rattle.std.specs.Char.{is_ascii_digit};
 ghost use Rattle.std.specs.Str.{bytes_eq};
 ghost use Rattle.std.specs.Str.Parse.{digits_value};
-ghost use Rattle.hk_script.specs.Lex.{words, before_comment, number_of, below, has_leading_zero, index_of};
-
-use std::alloc::{AllocError, Global};
+ghost use Rattle.hk_script.specs.Lex.{is_blank, ends_word, words, number_of, below, has_leading_zero, index_of};
 
 /// The most digits of a number.
 pub(crate) const MAX_DIGITS: usize = 20;
 
-/// The place of the first such byte, or the length where there is none.
-pub(crate) fn place_of(bytes: &[u8], byte: u8) -> usize
-    ensures place { result ≡ position_or_len (λ x. x == byte) bytes.now }
-    ensures within { result ≤ length bytes.now }
+/// Whether a byte parts words.
+fn is_blank(byte: u8) -> bool
+    ensures { result ≡ is_blank byte }
 {
-    for (place, other) in bytes.iter().enumerate() {
-        if *other == byte {
+    byte == b' ' || byte == b'\t' || byte == b'\r'
+}
+
+/// Whether a word ends before this byte: a blank, or the mark of a comment.
+fn ends_word(byte: u8) -> bool
+    ensures { result ≡ ends_word byte }
+{
+    is_blank(byte) || byte == b'#'
+}
+
+/// The length of the word that a text begins with.
+fn word_length(text: &[u8]) -> usize
+    ensures place { result ≡ position_or_len ends_word text.now }
+    ensures within { result ≤ length text.now }
+{
+    for (place, byte) in text.iter().enumerate() {
+        if ends_word(*byte) {
             return place;
         }
     }
-    bytes.len()
+    text.len()
 }
 
-/// The line up to its comment.
-fn before_comment(line: &[u8]) -> &[u8]
-    ensures { result.now ≡ before_comment line.now }
+/// The first word of a line, and what comes after it.
+pub(crate) fn first_word(line: &[u8]) -> Option<(&[u8], &[u8])>
+    ensures { MatchOption result (words line.now ≡ []) (λ found. words line.now ≡ found.0.now ∷ words found.1.now) }
 {
-    &line[..place_of(line, b'#')]
-}
-
-/// The words of a line, in order.
-pub(crate) fn words(alloc: Global, line: &[u8]) -> Result<Vec<&[u8]>, AllocError>
-    ensures { IfOk result (λ v. map (λ word. word.now) v.items ≡ words line.now) }
-{
-    before_comment(line)
-        .split(|byte| *byte == b' ' || *byte == b'\t' || *byte == b'\r')
-        .filter(|word| !word.is_empty())
-        .collect(alloc)
+    let mut rest = line;
+    while let [first, after @ ..] = rest {
+        if !is_blank(*first) {
+            let length = word_length(rest);
+            if length == 0 {
+                return None;
+            }
+            return Some(rest.split_at(length));
+        }
+        rest = after;
+    }
+    None
 }
 
 /// Whether a word is this name.

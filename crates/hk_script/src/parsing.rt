@@ -10,13 +10,14 @@ ghost use Rattle.hk_script.specs.Progress.{progress_of};
 
 use crate::blocks::{Blocks, Open, Part};
 use crate::error::ScriptError;
-use crate::lex::{place_of, words};
+use crate::lex::first_word;
 use crate::limits::Limits;
 use crate::progress::Reading;
 use crate::reading::statement;
 use crate::script::Script;
 use crate::statement::{MAX_DEPTH, MAX_STATEMENTS, Statement};
 use hk_words::{REGISTERS, USUAL_FIELDS};
+use memchr::memchr;
 use std::alloc::Global;
 
 /// Begins a block.
@@ -80,7 +81,6 @@ fn add(reading: &mut Reading, line: u32, statement: Statement) -> Result<(), Scr
 
 /// Reads a line.
 fn read_line(
-    alloc: Global,
     limits: Limits,
     reading: &mut Reading,
     line: u32,
@@ -88,11 +88,10 @@ fn read_line(
 ) -> Result<(), ScriptError>
     ensures { Gives (λ _. progress_of reading.new) result (then_at line (line_read limits line (progress_of reading.old) (words text.now)) done) }
 {
-    let words = words(alloc, text)?;
-    if words.is_empty() {
+    let Some((name, rest)) = first_word(text) else {
         return Ok(());
-    }
-    match statement(limits, &words) {
+    };
+    match statement(limits, name, rest) {
         Ok(statement) => add(reading, line, statement),
         Err(fault) => Err(fault.at(line)),
     }
@@ -117,15 +116,13 @@ fn read_lines(alloc: Global, limits: Limits, text: &[u8]) -> Result<Reading, Scr
     };
     let mut line: u32 = 1;
     let mut rest = text;
-    let mut end = place_of(rest, b'\n');
-    while end < rest.len() {
+    while let Some(end) = memchr(b'\n', rest) {
         let (here, after) = cut(rest, end);
-        read_line(alloc, limits, &mut reading, line, here)?;
+        read_line(limits, &mut reading, line, here)?;
         line = line.saturating_add(1);
         rest = after;
-        end = place_of(rest, b'\n');
     }
-    read_line(alloc, limits, &mut reading, line, rest)?;
+    read_line(limits, &mut reading, line, rest)?;
     Ok(reading)
 }
 

@@ -1,11 +1,12 @@
-//! One statement from the words of its line.
+//! One statement from its line.
 
-ghost use Rattle.std.specs.Prelude.{◌≡◌, ℕ, ◌<◌, ◌≤◌, Ok, IfOk, List, map};
+ghost use Rattle.std.specs.Prelude.{◌≡◌, ℕ, ◌<◌, ◌≤◌, Ok, IfOk, ◌∷◌};
 ghost use Rattle.hk_script.specs.Reading.{number_in, variable_of, register_of, target_of, count_of, value_of, field_of, size_of, one_word, two_words, three_words, four_words, new_of, test_of, variables_of, statement_of};
+ghost use Rattle.hk_script.specs.Lex.{words};
 ghost use Rattle.hk_script.specs.Shapes.{any_shape, shape_of};
 
 use crate::error::Fault;
-use crate::lex::{index, is, number, number_below};
+use crate::lex::{first_word, index, is, number, number_below};
 use crate::limits::Limits;
 use crate::statement::{MAX_COUNT, Statement, Test, VARIABLES};
 use hk_words::Shape;
@@ -251,16 +252,22 @@ fn four_words(limits: Limits, name: &[u8], a: &[u8], b: &[u8], c: &[u8]) -> Resu
     }
 }
 
-/// The statement of a line, of these words.
+/// The statement of a line, from its first word and what comes after that.
 #[tactic(auto, unfolding(crate::specs::Reading::statement_of))]
-pub(crate) fn statement(limits: Limits, words: &[&[u8]]) -> Result<Statement, Fault>
-    ensures { result ≡ statement_of limits (map (λ word. word.now) words.now) }
+pub(crate) fn statement(limits: Limits, name: &[u8], rest: &[u8]) -> Result<Statement, Fault>
+    ensures { result ≡ statement_of limits (name.now ∷ words rest.now) }
 {
-    match words {
-        [name] => one_word(name),
-        [name, a] => two_words(limits, name, a),
-        [name, a, b] => three_words(limits, name, a, b),
-        [name, a, b, c] => four_words(limits, name, a, b, c),
-        _ => Err(Fault::Word),
+    let Some((a, rest)) = first_word(rest) else {
+        return one_word(name);
+    };
+    let Some((b, rest)) = first_word(rest) else {
+        return two_words(limits, name, a);
+    };
+    let Some((c, rest)) = first_word(rest) else {
+        return three_words(limits, name, a, b);
+    };
+    match first_word(rest) {
+        None => four_words(limits, name, a, b, c),
+        Some(_) => Err(Fault::Word),
     }
 }

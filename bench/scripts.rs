@@ -1,7 +1,9 @@
 //! A reader of scripts in plain Rust, with no contracts and no proof: the statements of a text with their words, numbers and names
 //! checked, the first reason why a text is no script and its line, and where each statement goes on. It keeps no list of words. It
-//! reads a script from standard input, at the usual limits, and writes how many statements it has, or the reason and the line.
+//! reads a script from standard input, at the usual limits, so many times as its word says (1), and writes how many statements it
+//! has, or the reason and the line.
 
+use std::hint::black_box;
 use std::io::Read;
 use std::process::exit;
 
@@ -241,8 +243,12 @@ fn main() {
     if std::io::stdin().read_to_end(&mut text).is_err() {
         exit(3);
     }
+    let turns: u32 = std::env::args().nth(1).map_or(1, |word| word.parse().expect("a number of turns"));
+    for _ in 1..turns {
+        let _ = black_box(script(black_box(&text)));
+    }
     match script(&text) {
-        Ok((statements, links)) => println!("{} {}", statements.len(), std::hint::black_box(links).len()),
+        Ok((statements, links)) => println!("{} statements, {} links", statements.len(), black_box(links).len()),
         Err((reason, line)) => {
             println!("{reason:?} {line}");
             exit(5);

@@ -5,11 +5,13 @@ import re
 import resource
 import subprocess
 import sys
+import tomllib
 
 WORK, TURNS = sys.argv[1], int(sys.argv[2])
 HENRI, HEAP_MIX = os.path.abspath("crates/henri/out/henri"), os.path.abspath("crates/heap_mix/out/heap_mix")
 PLAIN_SESSIONS, PLAIN_HEAP = f"{WORK}/sessions", f"{WORK}/heap"
-ONLY_TOML = f"{WORK}/crates/only_toml/out/only_toml"
+PLAIN_SCRIPTS = f"{WORK}/scripts"
+ONLY_TOML, ONLY_SCRIPT = (f"{WORK}/crates/{name}/out/{name}" for name in ("only_toml", "only_script"))
 MOST_TICKS = 16_777_216
 
 
@@ -124,11 +126,53 @@ SHEETS = [
 
 LONG_SCRIPT = "\n".join(["work 1"] * 1024)
 
+ALL_KINDS = """\
+set v1 1000
+job v2
+add v1 v2
+copy v3 v1
+sub v3 v2
+new r1 1 2
+put r1 0 v1
+get v4 r1 0
+store r0 0 r1
+load r2 r0 1
+move r3 r2
+clear r3
+if v1 < v2
+out v1
+else
+out v2
+end
+repeat 3
+work 2
+end
+if null r2
+work 1
+end
+if same r1 r2  # a comment
+work 5
+end
+"""
+KINDS = ALL_KINDS.count("\n")
+
+# How often the programs that read a script read it.
+TURNS_OF_A_SCRIPT = 1_000
+
 READ = [
     ("the controller of `sheets/`", stored("controller")(12_000)),
     ("27 lists of 4,096 arrivals, 0.92 MB", lists(MOST_TICKS)),
     ("31 scripts of 1,024 statements, 0.2 MB", tasks(31, 40_000, 1024, LONG_SCRIPT)(MOST_TICKS)),
 ]
+
+
+def plain_scripts(sheet, measured):
+    """What the plain reader takes for the scripts of a sheet, where that is measured for so many turns of reading one."""
+    found = tomllib.loads(sheet.decode())
+    scripts = [task["script"].encode() for kind in ("high", "low") for task in found.get(kind, [])]
+    of_each = {script: (measured(script, TURNS_OF_A_SCRIPT) - measured(script, 1)) / (TURNS_OF_A_SCRIPT - 1) for script in set(scripts)}
+    return sum(of_each[script] for script in scripts)
+
 
 print("| what | unit | instructions, proved | plain | ratio | ns, proved | plain | ratio |")
 print("|---|---|---|---|---|---|---|---|")
@@ -147,13 +191,19 @@ for name, sheet, ticks in SHEETS:
     whole = ([HENRI, "run"], sheet(MOST_TICKS)), ([PLAIN_SESSIONS], sheet(MOST_TICKS)), MOST_TICKS
     row(name, "tick", few, many, ticks, whole)
 
+few, many = ([([ONLY_SCRIPT], text), ([PLAIN_SCRIPTS, str(TURNS_OF_A_SCRIPT)], text)] for text in (b"work 1", (ALL_KINDS * 39).encode()))
+statements = 39 * KINDS
+row("a script of all kinds of statements", "statement", few, many, TURNS_OF_A_SCRIPT * (statements - 1), (*many, TURNS_OF_A_SCRIPT * statements))
+
 for name, sheet in READ:
     if subprocess.run([HENRI, "check"], input=sheet, stdout=subprocess.DEVNULL).returncode != 0:
         sys.exit(f"{name}: not admitted")
     empty = [instructions([HENRI, "check"], b""), instructions([ONLY_TOML], b"")]
     counted = [instructions(words, sheet) - least for words, least in zip(([HENRI, "check"], [ONLY_TOML]), empty)]
+    counted[1] += plain_scripts(sheet, lambda script, turns: instructions([PLAIN_SCRIPTS, str(turns)], script))
     took = [seconds(words, sheet) for words in ([HENRI, "check"], [ONLY_TOML])]
+    took[1] += plain_scripts(sheet, lambda script, turns: seconds([PLAIN_SCRIPTS, str(turns)], script))
     print(
-        f"| `check` beside its TOML alone: {name} | byte | {counted[0] / len(sheet):.1f} | {counted[1] / len(sheet):.1f} "
+        f"| `check` beside its TOML and plain scripts: {name} | byte | {counted[0] / len(sheet):.1f} | {counted[1] / len(sheet):.1f} "
         f"| **{counted[0] / counted[1]:.2f}** | {took[0] * 1e9 / len(sheet):.1f} | {took[1] * 1e9 / len(sheet):.1f} | {took[0] / took[1]:.2f} |"
     )

@@ -1,12 +1,12 @@
 #!/usr/bin/env bash
 # What the TOML reader alone takes for the large inputs of `bench/hostile.sh`: it proves and builds a program of its own, which reads
-# standard input and its TOML and nothing else, in a folder of its own over a copy of hk_io. Prints for each input the processor time
+# standard input and its TOML and nothing else, in a folder of its own (`bench/only.sh`). Prints for each input the processor time
 # and the most memory; the least time of three turns.
 set -eu
 cd "$(dirname "$0")/.."
 work=$(mktemp -d)
 trap 'rm -rf "$work"' EXIT
-bench/only_toml.sh "$work"
+bench/only.sh "$work"
 PYTHONDONTWRITEBYTECODE=1 PYTHONPATH=bench python3 -u - "$work/crates/only_toml/out/only_toml" <<'TURNS'
 import subprocess
 import sys

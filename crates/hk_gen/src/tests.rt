@@ -3,6 +3,7 @@ use super::*;
 use hk_admit::{Admitted, admit};
 use hk_script::print;
 use hk_sheet::{Arrivals, High, Low, Name, Sheet, read, text};
+use hk_words::Memory;
 use std::alloc::{AllocError, Global};
 use std::process::Abort;
 use std::test::Fail;
@@ -61,7 +62,7 @@ fn lines(alloc: Global, sheet: &Sheet) -> Result<String, AllocError> {
 }
 
 /// The scripts of the tasks of a sheet, each behind its task's name.
-fn scripts(alloc: Global, sheet: &Sheet) -> Result<String, AllocError> {
+fn scripts(alloc: Global, sheet: &Sheet) -> Result<String, Memory> {
     let mut text = String::new(alloc);
     for task in &sheet.high.items {
         text.push_str(name_of(alloc, &task.name)?.as_str())?;

@@ -3,11 +3,10 @@ use Rattle.std.specs.Prelude.{ℕ, ◌^◌, Bool, List, length, Option, Some, No
 use Rattle.std.specs.List.{list_all}
 use Rattle.std.specs.Char.{is_ascii_digit}
 use Rattle.std.specs.Str.Parse.{digits_value}
-use Rattle.hk_io.specs.declared.decimal.TheConstants.{MAX_DIGITS}
 
 -- 1 to 20 decimal digits, of a number below 2 ^ 64
 abbrev pub is_number : List ℕ → Bool
-is_number word = nat_lt 0 (length word) && nat_le (length word) MAX_DIGITS && list_all is_ascii_digit word && nat_lt (digits_value 10 word) (2 ^ 64)
+is_number word = nat_lt 0 (length word) && nat_le (length word) 20 && list_all is_ascii_digit word && nat_lt (digits_value 10 word) (2 ^ 64)
 
 -- the number that a word spells
 unfoldable pub number_of : List ℕ → Option ℕ

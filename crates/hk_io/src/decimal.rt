@@ -6,7 +6,7 @@ ghost use Rattle.std.specs.Str.Parse.{digits_value};
 ghost use Rattle.hk_io.specs.Number.{number_of};
 
 /// The most digits of a number.
-pub const MAX_DIGITS: usize = 20;
+const MAX_DIGITS: usize = 20;
 
 /// What the digits write, where each byte is one.
 fn digits_of(word: &[u8]) -> Option<u128>

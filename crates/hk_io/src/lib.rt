@@ -20,7 +20,7 @@ mod tests;
 mod trial;
 mod whole;
 
-pub use decimal::{MAX_DIGITS, number};
+pub use decimal::number;
 pub use faults::{Failed, TakeFault};
 pub use gather::{GATHER_ROOM, Gather};
 pub use line::{LINE_ROOM, Line};

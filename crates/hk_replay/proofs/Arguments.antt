@@ -6,7 +6,6 @@ use Rattle.std.specs.Char.{is_ascii_digit}
 use Rattle.std.specs.Str.Parse.{AllDigits, digits_value}
 use Rattle.std.proofs.lemmas.Bool.Decides.{nat_tests}
 use Rattle.hk_words.specs.declared.geometry.TheConstants.{REGISTERS}
-use Rattle.hk_io.specs.declared.decimal.TheConstants.{MAX_DIGITS}
 use Rattle.hk_io.specs.Number.{is_number, number_of}
 use Rattle.hk_replay.specs.Reading.{◌>>=◌, if_below, below, if_writable, target_of}
 use Rattle.hk_replay.specs.Spelling.{Numeral, SpellsPiece, IsTarget}
@@ -41,11 +40,11 @@ pub number_takes : (word : List ℕ) (n : ℕ) → number_of word ≡ Some n →
 unfolding number_of
 number_takes word n e =
     let p = passed (is_number word) (digits_value 10 word) n e in
-    let a = and_parts (nat_lt 0 (length word) && nat_le (length word) MAX_DIGITS && list_all is_ascii_digit word) (nat_lt (digits_value 10 word) (2 ^ 64)) p.0 in
-    let b = and_parts (nat_lt 0 (length word) && nat_le (length word) MAX_DIGITS) (list_all is_ascii_digit word) a.0 in
-    let c = and_parts (nat_lt 0 (length word)) (nat_le (length word) MAX_DIGITS) b.0 in
+    let a = and_parts (nat_lt 0 (length word) && nat_le (length word) 20 && list_all is_ascii_digit word) (nat_lt (digits_value 10 word) (2 ^ 64)) p.0 in
+    let b = and_parts (nat_lt 0 (length word) && nat_le (length word) 20) (list_all is_ascii_digit word) a.0 in
+    let c = and_parts (nat_lt 0 (length word)) (nat_le (length word) 20) b.0 in
     let some : 0 < length word = grind (arith, nat_tests, c.0) in
-    let few : length word ≤ MAX_DIGITS = grind (arith, nat_tests, c.1) in
+    let few : length word ≤ 20 = grind (arith, nat_tests, c.1) in
     let small : digits_value 10 word < 2 ^ 64 = grind (arith, nat_tests, a.1) in
     (((some, all_digits word b.1), few, p.1), omega (arith, small, p.1))
 
@@ -54,7 +53,7 @@ unfolding number_of
 number_again word n h small =
     let value = h.2 in
     let some : nat_lt 0 (length word) ≡ true = let q = h.0.0 in grind (arith, nat_tests) in
-    let few : nat_le (length word) MAX_DIGITS ≡ true = let q = h.1 in grind (arith, nat_tests) in
+    let few : nat_le (length word) 20 ≡ true = let q = h.1 in grind (arith, nat_tests) in
     let fits : nat_lt n (2 ^ 64) ≡ true = grind (arith, nat_tests) in
     rw (some, few, all_digits_back word h.0.1, value, fits) refl
 

@@ -7,7 +7,6 @@ use Rattle.hk_words.specs.declared.call.Call.TheVariants as call
 use Rattle.hk_words.specs.declared.geometry.Geometry.{Geometry}
 use Rattle.hk_words.specs.declared.geometry.TheConstants.{REGISTERS}
 use Rattle.hk_words.specs.declared.shape.TheConstants.{USUAL_FIELDS}
-use Rattle.hk_io.specs.declared.decimal.TheConstants.{MAX_DIGITS}
 use Rattle.hk_replay.specs.declared.log_line.Reason.{Reason}
 use Rattle.hk_replay.specs.declared.log_line.Reason.TheVariants as reason
 use Rattle.hk_replay.specs.declared.log_line.Ending.{Ending}
@@ -26,7 +25,7 @@ pub data Piece : Type 0 where
 -- a word spells a piece; a numeral is 1 to 20 decimal digits, and leading zeros are allowed
 abbrev pub SpellsPiece : List ℕ → Piece → Type 0
 SpellsPiece word (Exactly name) = word ≡ name
-SpellsPiece word (Numeral n) = IsNumeral 10 word × (length word ≤ MAX_DIGITS) × (digits_value 10 word ≡ n)
+SpellsPiece word (Numeral n) = IsNumeral 10 word × (length word ≤ 20) × (digits_value 10 word ≡ n)
 
 -- THE FIRST LINE
 

@@ -13,6 +13,7 @@ ghost use Rattle.hk_script.specs.Texts.{Spells};
 
 use crate::script::Script;
 use crate::statement::{Statement, Test};
+use hk_words::Memory;
 use std::alloc::{AllocError, Global};
 
 /// Writes a number behind a space.
@@ -172,8 +173,9 @@ fn push_statement(alloc: Global, out: &mut Vec<u8>, statement: Statement) -> Res
 }
 
 /// The canonical text of a script: one statement per line, its words parted by one space, and numbers without
-/// leading zeros. The text spells the script by all limits that it keeps, and so it is parsed as the script again.
-pub fn print(alloc: Global, script: &Script) -> Result<Vec<u8>, AllocError>
+/// leading zeros. The text spells the script by all limits that it keeps, and so it is parsed as the script again. There is
+/// none where memory runs out.
+pub fn print(alloc: Global, script: &Script) -> Result<Vec<u8>, Memory>
     ensures text { IfOk result (λ text. text.items ≡ text_of script.now) }
     ensures spelled { (limits : Limits) → AreLimits limits → IsScript limits script.now → IfOk result (λ text. Spells limits text.items script.now) }
 {

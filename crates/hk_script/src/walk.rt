@@ -74,6 +74,7 @@ impl Walk {
         requires wants { IsSome (need_of script.now self.now) }
         ensures { result ≡ self.now.place + 1 }
     {
+        // For the proof alone: a script has few statements, so the place is small.
         let _statements = script.statements();
         self.place as u32 + 1
     }

@@ -110,13 +110,14 @@ fn heap_table(alloc: Global, heap: &HeapKeys) -> Result<Table, AllocError>
 }
 
 /// Puts the text of a script into the table of its task.
-fn put_script(alloc: Global, table: &mut Table, script: &Script) -> Result<(), AllocError>
+fn put_script(alloc: Global, table: &mut Table, script: &Script) -> Result<(), Memory>
     requires { IsScript widest script.now }
     ensures { OnOk result (table_view table.new ≡ with_entry (codes "script") (string (text_of script.now)) (table_view table.old)) }
 {
     let text = hk_script::print(alloc, script)?;
     let value = text_value(alloc, &text)?;
-    put(alloc, table, "script", value)
+    put(alloc, table, "script", value)?;
+    Ok(())
 }
 
 /// Puts the name of a task into its table.
@@ -129,7 +130,7 @@ fn put_name(alloc: Global, table: &mut Table, name: &Name) -> Result<(), AllocEr
 }
 
 /// The table of a high task.
-fn high_table(alloc: Global, high: &High) -> Result<Table, AllocError>
+fn high_table(alloc: Global, high: &High) -> Result<Table, Memory>
     requires { IsHighOfRun high.now }
     ensures { IfOk result (λ table. table_view table ≡ high_entries high.now) }
 {
@@ -148,7 +149,7 @@ fn high_table(alloc: Global, high: &High) -> Result<Table, AllocError>
 }
 
 /// The table of a low task.
-fn low_table(alloc: Global, low: &Low) -> Result<Table, AllocError>
+fn low_table(alloc: Global, low: &Low) -> Result<Table, Memory>
     requires { IsLowOfRun low.now }
     ensures { IfOk result (λ table. table_view table ≡ low_entries low.now) }
 {
@@ -160,7 +161,7 @@ fn low_table(alloc: Global, low: &Low) -> Result<Table, AllocError>
 }
 
 /// The tables of the high tasks as an array.
-fn highs_value(alloc: Global, tasks: &[High]) -> Result<Value, AllocError>
+fn highs_value(alloc: Global, tasks: &[High]) -> Result<Value, Memory>
     requires { AllByRecursion IsHighOfRun tasks.now }
     ensures { IfOk result (λ value. view value ≡ array (items_of (map high_data tasks.now))) }
 {
@@ -172,7 +173,7 @@ fn highs_value(alloc: Global, tasks: &[High]) -> Result<Value, AllocError>
 }
 
 /// The tables of the low tasks as an array.
-fn lows_value(alloc: Global, tasks: &[Low]) -> Result<Value, AllocError>
+fn lows_value(alloc: Global, tasks: &[Low]) -> Result<Value, Memory>
     requires { AllByRecursion IsLowOfRun tasks.now }
     ensures { IfOk result (λ value. view value ≡ array (items_of (map low_data tasks.now))) }
 {
@@ -185,7 +186,7 @@ fn lows_value(alloc: Global, tasks: &[Low]) -> Result<Value, AllocError>
 
 /// The document of a sheet.
 #[tactic(auto, unfolding(crate::specs::Printing::document_of))]
-fn document(alloc: Global, sheet: &Sheet) -> Result<Table, AllocError>
+fn document(alloc: Global, sheet: &Sheet) -> Result<Table, Memory>
     requires { IsSheet sheet.now }
     ensures { IfOk result (λ table. table_view table ≡ document_of sheet.now) }
 {

@@ -9,15 +9,18 @@ use Rattle.hk_words.specs.Bounds.{places_of}
 use Rattle.hk_words.specs.Calls.{RegistersFit}
 use Rattle.hk_words.specs.Geometry.{tasks}
 use Rattle.hk_model.specs.Heap.{opening_of}
-use Rattle.hk_model.specs.History.{History, after}
+use Rattle.hk_model.specs.History.{History, Legal, after}
 use Rattle.hk_model.specs.Replies.{reply_of, said}
 use Rattle.hk_core.specs.declared.spot.Work.{Work}
 use Rattle.hk_core.specs.declared.spot.Work.TheVariants.{Flipped}
 use Rattle.hk_core.specs.State.{State, flight_of}
 use Rattle.hk_core.specs.Collect.{work_by_collector}
+use Rattle.hk_core.specs.Run.{Running}
 use Rattle.hk_core.specs.View.{flight_at}
 use Rattle.hk_core.specs.Lawful.{Lawful}
 use Rattle.hk_collect.specs.Measure.{useful_after}
+use Rattle.hk_collect.proofs.Running.{legal_from_opening}
+use Rattle.hk_collect.proofs.UsedLaws.{traced_is_run}
 use Rattle.hk_core.proofs.Shown.{is_null_answers, same_answers}
 use Rattle.hk_script.specs.declared.walk.Need.{Need}
 use Rattle.hk_script.specs.declared.walk.Need.TheVariants as need
@@ -31,7 +34,7 @@ use Rattle.hk_dispatch.specs.Moment.{Moment, core_of, history_of, course_at, nee
 use Rattle.hk_dispatch.specs.Turns.{Turn, to_collector, turn}
 use Rattle.hk_dispatch.specs.Ticks.{asked, after_event, after_turn}
 use Rattle.hk_dispatch.specs.Session.{state, after_tick}
-use Rattle.hk_dispatch.specs.Laws.{RunIsInterleaving, HistoryIsLegal, QuestionsAreAnswered, IdleExactly, DebtIsAccounted, UsefulWithin, FlipIsUseful, CollectorNeverWaits, LiveOverHasCause, NoTaskIsSpent, UsedIsPaid, JobsAreKept, OneLowOperation}
+use Rattle.hk_dispatch.specs.Laws.{RunIsInterleaving, LegalInAnyOrder, HistoryIsLegal, QuestionsAreAnswered, IdleExactly, DebtIsAccounted, UsefulWithin, FlipIsUseful, CollectorNeverWaits, LiveOverHasCause, NoTaskIsSpent, UsedIsPaid, JobsAreKept, OneLowOperation}
 use Rattle.hk_dispatch.proofs.TurnFacts.{turn_is}
 use Rattle.hk_dispatch.proofs.Sheets.{scripts, seats}
 use Rattle.hk_dispatch.proofs.SeatsInStep.{none_flying}
@@ -45,6 +48,10 @@ use Rattle.hk_dispatch.proofs.SessionPaid.{used_is_paid}
 
 pub run_is_interleaving : RunIsInterleaving
 run_is_interleaving g choice sheet work attempt busy debt s t moment = state_run g choice sheet t
+
+pub legal_in_any_order : (g : Geometry) → LegalInAnyOrder g
+legal_in_any_order g actions =
+    subst (λ (r : Running). Legal (opening_of g) r.history) (sym (traced_is_run g actions)) (legal_from_opening g actions)
 
 pub history_is_legal : HistoryIsLegal
 history_is_legal g choice sheet work attempt busy debt s t moment = legal_at g choice sheet t

@@ -66,7 +66,11 @@ OneLowOperation = OfMoments (λ g choice sheet work attempt busy debt t m. OneLo
 abbrev pub RunIsInterleaving : Type 0
 RunIsInterleaving = OfMoments (λ g choice sheet work attempt busy debt t m. (actions : List Action) × (m.trace ≡ traced g actions))
 
--- its history is legal: every reply in it is that of the heap that never collects
+-- whatever their order, begins, steps of seats and events of the collector give a legal history
+abbrev pub LegalInAnyOrder : Geometry → Type 0
+LegalInAnyOrder g = (actions : List Action) → Legal (opening_of g) (traced g actions).running.history
+
+-- the history of a session's heap is legal: every reply in it is that of the heap that never collects
 abbrev pub HistoryIsLegal : Type 0
 HistoryIsLegal = OfMoments (λ g choice sheet work attempt busy debt t m. Legal (opening_of g) (history_of m))
 

@@ -1,6 +1,7 @@
 //! Laws of sessions, over definitions alone. These functions take no time; their clauses are the laws.
+ghost use Rattle.hk_words.specs.declared.geometry.Geometry.{Geometry};
 ghost use Rattle.hk_dispatch.specs.Rules.{RulesApply, HighFirst, RowsRise, ReadyMomentsRise};
-ghost use Rattle.hk_dispatch.specs.Laws.{RunIsInterleaving, HistoryIsLegal, QuestionsAreAnswered, JobsAreKept, OneLowOperation, IdleExactly, DebtIsAccounted, UsefulWithin, FlipIsUseful, CollectorNeverWaits, LiveOverHasCause, NoTaskIsSpent, UsedIsPaid, LossesAreFew, DebtWithin, QuietAgain, UsedWithin, HighNewsFindRoom, LowNewsBeginQuiet, LowNewsFindRoom, NoNewIsRefused, SessionIsReplay};
+ghost use Rattle.hk_dispatch.specs.Laws.{RunIsInterleaving, LegalInAnyOrder, HistoryIsLegal, QuestionsAreAnswered, JobsAreKept, OneLowOperation, IdleExactly, DebtIsAccounted, UsefulWithin, FlipIsUseful, CollectorNeverWaits, LiveOverHasCause, NoTaskIsSpent, UsedIsPaid, LossesAreFew, DebtWithin, QuietAgain, UsedWithin, HighNewsFindRoom, LowNewsBeginQuiet, LowNewsFindRoom, NoNewIsRefused, SessionIsReplay};
 
 /// Each tick goes by one of the five rules, where it applies and none before it does: to a high task exactly where one has a
 /// ready job, and then to that of the row which the choice names. The rows that the choice is told rise, and the jobs of a
@@ -13,9 +14,10 @@ pub fn rules_decide()
 {}
 
 /// At every moment of a session the run of its heap is an interleaving of begins, steps and events; its history is legal, so
-/// each reply in it is that of the heap that never collects. So is the answer to each question.
+/// each reply in it is that of the heap that never collects, and so it is of every interleaving. So is the answer to each question.
 pub fn heap_is_legal()
     ensures run { RunIsInterleaving }
+    ensures orders { (g : Geometry) → LegalInAnyOrder g }
     ensures history { HistoryIsLegal }
     ensures questions { QuestionsAreAnswered }
 {}

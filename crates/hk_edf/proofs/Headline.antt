@@ -7,7 +7,7 @@ use Rattle.hk_sheet.specs.Faults.{sizes_of}
 use Rattle.hk_admit.specs.Facts.{IsChecked}
 use Rattle.hk_dispatch.specs.Session.{IsSession}
 use Rattle.hk_dispatch.proofs.AloneEnds.{ends_are_alone}
-use Rattle.hk_dispatch.proofs.Promises.{run_is_interleaving, history_is_legal, questions_are_answered, live_over_has_cause}
+use Rattle.hk_dispatch.proofs.Promises.{run_is_interleaving, legal_in_any_order, history_is_legal, questions_are_answered, live_over_has_cause}
 use Rattle.hk_dispatch.proofs.Whole.{no_new_is_refused, used_within, session_is_replay}
 use Rattle.hk_edf.specs.Earliest.{earliest_row}
 use Rattle.hk_edf.specs.Refusals.{MeetsDemand}
@@ -29,7 +29,8 @@ module _ (g : Geometry) (sheet : Sheet) (work attempt busy debt : ℕ) (sizes : 
     one_legal_history = history_is_legal g earliest_row sheet work attempt busy debt session;
     questions_answered = questions_are_answered g earliest_row sheet work attempt busy debt session;
     outputs_and_ends = session_is_replay g earliest_row sheet work attempt busy debt session;
-    whatever_the_interleaving = run_is_interleaving g earliest_row sheet work attempt busy debt session;
+    whatever_the_interleaving = legal_in_any_order g;
+    run_is_interleaving = run_is_interleaving g earliest_row sheet work attempt busy debt session;
   }
 
 pub headline_holds : HeadlineHolds

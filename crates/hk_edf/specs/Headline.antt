@@ -23,6 +23,7 @@ use Rattle.hk_dispatch.specs.Moment.{core_of, history_of, used_at, plain_heap, f
 use Rattle.hk_dispatch.specs.Turns.{to_task, turn}
 use Rattle.hk_dispatch.specs.Ticks.{asked, left_by}
 use Rattle.hk_dispatch.specs.Session.{state, who_gets, IsMoment, IsTick, JobEndsAt}
+use Rattle.hk_dispatch.specs.Laws.{LegalInAnyOrder}
 use Rattle.hk_dispatch.specs.Told.{told, out_in, end_in}
 use Rattle.hk_dispatch.specs.Replay.{replayed_out, replayed_end}
 use Rattle.hk_dispatch.specs.HighJobs.{jobs_by}
@@ -58,8 +59,10 @@ pub record Headline (g : Geometry) (sheet : Sheet) : Type 0 where
   pub outputs_and_ends : (t : ℕ) → IsTick g earliest_row sheet t
       → (out_in (told g earliest_row sheet t) ≡ replayed_out (opening_of g) sheet (who_gets g earliest_row sheet) t)
       × (end_in (told g earliest_row sheet t) ≡ replayed_end (opening_of g) sheet (who_gets g earliest_row sheet) t)
-  -- whatever the interleaving: the run of the heap is a list of begins, steps and events, of which every one keeps these promises
-  pub whatever_the_interleaving : (t : ℕ) → IsMoment g earliest_row sheet t → (actions : List Action) × ((state g earliest_row sheet t).trace ≡ traced g actions)
+  -- whatever the interleaving: begins, steps and events of the heap give one legal history in any order
+  pub whatever_the_interleaving : LegalInAnyOrder g
+  -- and the run of the heap is such a list of begins, steps and events
+  pub run_is_interleaving : (t : ℕ) → IsMoment g earliest_row sheet t → (actions : List Action) × ((state g earliest_row sheet t).trace ≡ traced g actions)
 
 -- so it is for every admitted sheet
 abbrev pub HeadlineHolds : Type 0

@@ -23,7 +23,7 @@ use Rattle.hk_dispatch.specs.Session.{state, who_gets, IsMoment, IsTick, JobEnds
 use Rattle.hk_dispatch.specs.Told.{told, out_in, end_in}
 use Rattle.hk_dispatch.specs.Replay.{replayed_out, replayed_end}
 use Rattle.hk_dispatch.specs.HighJobs.{jobs_by}
-use Rattle.hk_dispatch.specs.Laws.{EndsInTime}
+use Rattle.hk_dispatch.specs.Laws.{LegalInAnyOrder, EndsInTime}
 
 -- THE HEADLINE, of the session of an admitted sheet on the heap of its geometry, at every moment and every tick up to the horizon
 -- and before live memory passes its declared limit. High tasks go by the order of the sheet.
@@ -53,8 +53,10 @@ pub record Headline (g : Geometry) (sheet : Sheet) (responses : List ℕ) : Type
   pub outputs_and_ends : (t : ℕ) → IsTick g least_task sheet t
       → (out_in (told g least_task sheet t) ≡ replayed_out (opening_of g) sheet (who_gets g least_task sheet) t)
       × (end_in (told g least_task sheet t) ≡ replayed_end (opening_of g) sheet (who_gets g least_task sheet) t)
-  -- whatever the interleaving: the run of the heap is a list of begins, steps and events, of which every one keeps these promises
-  pub whatever_the_interleaving : (t : ℕ) → IsMoment g least_task sheet t → (actions : List Action) × ((state g least_task sheet t).trace ≡ traced g actions)
+  -- whatever the interleaving: begins, steps and events of the heap give one legal history in any order
+  pub whatever_the_interleaving : LegalInAnyOrder g
+  -- and the run of the heap is such a list of begins, steps and events
+  pub run_is_interleaving : (t : ℕ) → IsMoment g least_task sheet t → (actions : List Action) × ((state g least_task sheet t).trace ≡ traced g actions)
 
 -- At no flip of the run of a sheet more words are live than it declares
 abbrev pub LiveIsWithin : Geometry → Sheet → Type 0

@@ -10,3 +10,4 @@ mod Openings
 mod Judging
 mod OneVerdict
 mod ToolLemmas
+mod OneText

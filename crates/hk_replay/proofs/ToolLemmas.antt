@@ -111,7 +111,7 @@ module _ (words : List (String Global)) (input : Option (List ℕ)) where
 
 -- ONE END
 
-one_form : (f : Option Form) (bytes t u : List ℕ) (a b : Replayed) → FormCallsFor f bytes a t → FormCallsFor f bytes b u → a ≡ b
+pub one_form : (f : Option Form) (bytes t u : List ℕ) (a b : Replayed) → FormCallsFor f bytes a t → FormCallsFor f bytes b u → a ≡ b
 one_form None bytes t u a b h i = h.0 ∙ sym i.0
 one_form (Some form.Check) bytes t u a b h i = one_check bytes t u a b h i
 one_form (Some (form.Make n)) bytes t u a b h i = h.0 ∙ sym i.0

@@ -4,6 +4,7 @@
 
 mod draws;
 mod judge;
+mod laws;
 mod lex;
 mod log_line;
 mod machine;

@@ -151,8 +151,8 @@ pub fn run_replay<S: Source, K: Sink>(
     source: &mut S,
     sink: &mut K,
 ) -> Replayed
-    // The whole text was written that the words and the input call for; for `check` the whole input was read, where it isn't
-    // too long.
+    // The whole text was written that the words and the input call for; where that is the line of a log that is whole, the
+    // whole input was read.
     ensures whole { HasText result → Writes words.now (S.left source.old) (K.taken sink.old) (K.taken sink.new) result }
     ensures whole_input { IsCheck words.now → result ≡ Replayed.Done → IsAtEnd (S.left source.new) }
 

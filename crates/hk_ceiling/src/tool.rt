@@ -119,7 +119,7 @@ fn answer_input<S: Source, K: Sink>(
 ) -> Status
     requires { length sections.now ≤ 64 }
     ensures ends { result ≢ Status.ReadFault → EndsOn (BytesCallFor sections.now) (S.left source.old) (K.taken sink.old) (K.taken sink.new) (K.faults sink.old) (K.faults sink.new) result }
-    ensures input { (result ≡ Status.Done) ⊎ (result ≡ Status.Live) → IsAtEnd (S.left source.new) }
+    ensures input { (result ≡ Status.Done) ⊎ ((result ≡ Status.Live) ⊎ (result ≡ Status.NotAdmitted)) → IsAtEnd (S.left source.new) }
     ensures read { result ≡ Status.ReadFault → Rose (S.faults source.old) (S.faults source.new) × (sink.new ≡ sink.old) }
     ensures kept { result ≢ Status.ReadFault → S.faults source.new ≡ S.faults source.old }
     ensures memory { result ≡ Status.Memory → sink.new ≡ sink.old }
@@ -143,10 +143,10 @@ pub fn run_ceiling<S: Source, K: Sink>(
     source: &mut S,
     sink: &mut K,
 ) -> Status
-    // The whole text was written that the words and the input call for; where a sheet was read and not refused, the whole input
+    // The whole text was written that the words and the input call for; where a sheet was run or not admitted, the whole input
     // was read.
     ensures whole { HasText result → Writes words.now (S.left source.old) (K.taken sink.old) (K.taken sink.new) result }
-    ensures whole_input { (result ≡ Status.Done) ⊎ (result ≡ Status.Live) → IsAtEnd (S.left source.new) }
+    ensures whole_input { (result ≡ Status.Done) ⊎ ((result ≡ Status.Live) ⊎ (result ≡ Status.NotAdmitted)) → IsAtEnd (S.left source.new) }
 
     // Words that tell no sections are refused before anything is read.
     ensures wrong_words { are_sections words.now ≡ false → (result ≡ Status.Usage) ⊎ (result ≡ Status.WriteFault) }

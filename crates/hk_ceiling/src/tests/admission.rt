@@ -53,7 +53,7 @@ const RESPONSES: &[Case] = &[
         words: &["a:63:00000000:00000002", "b:00000063:0:2"],
         wanted: "work 4247 attempt 0 busy 10 debt 0 responses 3 4 10",
     },
-    // a job that is held up lets one more job of the first task in: 2 + 6, and 4 at 10 ticks
+    // a job that is held up lets one more job of the first task in: 2 + 7, and 2 * 2 in 13 ticks
     Case {
         high: &[(2, 9, 9, 0, 2), (2, 20, 20, 0, 2), (9, 40, 40, 0, 9)],
         words: &["b:0:0:1", "c:0:0:8"],

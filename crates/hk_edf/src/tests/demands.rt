@@ -98,7 +98,7 @@ const FIRST: &[(&[(u64, u64, u64)], u64, Option<u64>)] = &[
     (&[(2, 5, 5), (4, 7, 5)], 5, Some(5)),
     // a deadline below the cost
     (&[(3, 9, 2)], 9, Some(2)),
-    // the second job of the first task is late
+    // by 6 one job of the first task is due, or two where their deadline is 2: 2 + 3, or 4 + 3
     (&[(2, 4, 4), (3, 6, 6)], 12, None),
     (&[(2, 4, 2), (3, 6, 6)], 12, Some(6)),
     (&[(1, 1, 1), (1, 1000, 1000)], 1000, Some(1000)),

@@ -83,21 +83,6 @@ pub fn low_line(name: &[u8]) -> Line
     line
 }
 
-/// What a task put out at a tick.
-#[tactic(auto, unfolding(crate::specs::Text::out_line))]
-pub fn out_line(tick: u64, name: &[u8], value: u64) -> Line
-    requires { length name.now ≤ 16 }
-    ensures { result ≡ out_line tick name.now value }
-{
-    let mut line = Line::new();
-    add_word(&mut line, b"out");
-    add_number(&mut line, tick);
-    add_word(&mut line, name);
-    add_number(&mut line, value);
-    end(&mut line);
-    line
-}
-
 /// How many of a task's jobs ended, and the most ticks that one of them took from its arrival.
 #[tactic(auto, unfolding(crate::specs::Text::done_line))]
 pub fn done_line(name: &[u8], jobs: u64, latest: u64) -> Line
@@ -143,39 +128,6 @@ pub fn end_line(ticks: u64) -> Line
     line
 }
 
-/// A job of a task ended at a tick with a fault at a statement of its script.
-#[tactic(auto, unfolding(crate::specs::Text::fault_line))]
-pub fn fault_line(tick: u64, name: &[u8], job: u64, fault: JobFault) -> Line
-    requires { length name.now ≤ 16 }
-    ensures { result ≡ fault_line tick name.now job fault.statement fault.nil }
-{
-    let mut line = Line::new();
-    add_word(&mut line, b"fault");
-    add_number(&mut line, tick);
-    add_word(&mut line, name);
-    add_number(&mut line, job);
-    add_number(&mut line, u64::from(fault.statement));
-    add_word(&mut line, if fault.nil { b"nil" } else { b"field" });
-    end(&mut line);
-    line
-}
-
-/// A job of a task ended at a tick, so many ticks after it arrived.
-#[tactic(auto, unfolding(crate::specs::Text::ended_line))]
-pub fn ended_line(tick: u64, name: &[u8], job: u64, ticks: u64) -> Line
-    requires { length name.now ≤ 16 }
-    ensures { result ≡ ended_line tick name.now job ticks }
-{
-    let mut line = Line::new();
-    add_word(&mut line, b"ended");
-    add_number(&mut line, tick);
-    add_word(&mut line, name);
-    add_number(&mut line, job);
-    add_number(&mut line, ticks);
-    end(&mut line);
-    line
-}
-
 /// Adds a word behind a space to what waits, where there is room.
 fn add_next_word(gather: &mut Gather, bytes: &[u8])
     requires { length gather.old + 1 + length bytes.now ≤ GATHER_ROOM }
@@ -184,6 +136,16 @@ fn add_next_word(gather: &mut Gather, bytes: &[u8])
 {
     gather.add(b" ");
     gather.add(bytes);
+}
+
+/// Adds a number behind a space to what waits, where there is room.
+fn add_next_number(gather: &mut Gather, value: u64)
+    requires { length gather.old + 21 ≤ GATHER_ROOM }
+    ensures added { gather.new ≡ gather.old ++ 32 ∷ decimal value }
+    ensures room { length gather.new ≤ length gather.old + 21 }
+{
+    gather.add(b" ");
+    gather.add_number(value);
 }
 
 /// Adds the beginning of the line of a tick to what waits, where there is room.
@@ -242,6 +204,64 @@ pub fn add_idle_line(gather: &mut Gather, tick: u64)
     add_end(gather);
 }
 
+/// Adds that a tick went to the collector, which lost an attempt of so many events, to what waits, where there is room for a line.
+#[tactic(auto, unfolding(crate::specs::Text::lost_line))]
+pub fn add_lost_line(gather: &mut Gather, tick: u64, events: u64)
+    requires room { length gather.old + longest_line ≤ GATHER_ROOM }
+    ensures { gather.new ≡ gather.old ++ lost_line tick events }
+{
+    add_tick(gather, tick);
+    add_next_word(gather, b"gc lost");
+    add_next_number(gather, events);
+    add_end(gather);
+}
+
+/// Adds what a task put out at a tick to what waits, where there is room for a line.
+#[tactic(auto, unfolding(crate::specs::Text::out_line))]
+pub fn add_out_line(gather: &mut Gather, tick: u64, name: &[u8], value: u64)
+    requires name { length name.now ≤ 16 }
+    requires room { length gather.old + longest_line ≤ GATHER_ROOM }
+    ensures { gather.new ≡ gather.old ++ out_line tick name.now value }
+{
+    gather.add(b"out");
+    add_next_number(gather, tick);
+    add_next_word(gather, name);
+    add_next_number(gather, value);
+    add_end(gather);
+}
+
+/// Adds that a job of a task ended at a tick with a fault at a statement of its script to what waits, where there is room for a
+/// line.
+#[tactic(auto, unfolding(crate::specs::Text::fault_line))]
+pub fn add_fault_line(gather: &mut Gather, tick: u64, name: &[u8], job: u64, fault: JobFault)
+    requires name { length name.now ≤ 16 }
+    requires room { length gather.old + longest_line ≤ GATHER_ROOM }
+    ensures { gather.new ≡ gather.old ++ fault_line tick name.now job fault.statement fault.nil }
+{
+    gather.add(b"fault");
+    add_next_number(gather, tick);
+    add_next_word(gather, name);
+    add_next_number(gather, job);
+    add_next_number(gather, u64::from(fault.statement));
+    add_next_word(gather, if fault.nil { b"nil" } else { b"field" });
+    add_end(gather);
+}
+
+/// Adds that a job of a task ended at a tick, so many ticks after it arrived, to what waits, where there is room for a line.
+#[tactic(auto, unfolding(crate::specs::Text::ended_line))]
+pub fn add_ended_line(gather: &mut Gather, tick: u64, name: &[u8], job: u64, ticks: u64)
+    requires name { length name.now ≤ 16 }
+    requires room { length gather.old + longest_line ≤ GATHER_ROOM }
+    ensures { gather.new ≡ gather.old ++ ended_line tick name.now job ticks }
+{
+    gather.add(b"ended");
+    add_next_number(gather, tick);
+    add_next_word(gather, name);
+    add_next_number(gather, job);
+    add_next_number(gather, ticks);
+    add_end(gather);
+}
+
 /// A tick went to the collector, for an event of this kind.
 #[tactic(auto, unfolding(crate::specs::Text::event_line))]
 pub fn event_line(tick: u64, event: &[u8]) -> Line
@@ -253,20 +273,6 @@ pub fn event_line(tick: u64, event: &[u8]) -> Line
     add_number(&mut line, tick);
     add_word(&mut line, b"gc");
     add_word(&mut line, event);
-    end(&mut line);
-    line
-}
-
-/// A tick went to the collector, which lost an attempt of so many events.
-#[tactic(auto, unfolding(crate::specs::Text::lost_line))]
-pub fn lost_line(tick: u64, events: u64) -> Line
-    ensures { result ≡ lost_line tick events }
-{
-    let mut line = Line::new();
-    add_word(&mut line, b"t");
-    add_number(&mut line, tick);
-    add_word(&mut line, b"gc lost");
-    add_number(&mut line, events);
     end(&mut line);
     line
 }

@@ -9,14 +9,16 @@ ghost use Rattle.hk_dispatch.specs.Session.{state, IsTick};
 ghost use Rattle.hk_dispatch.specs.Told.{told};
 ghost use Rattle.hk_dispatch.specs.declared.tick.Tick.TheVariants.{Ran};
 ghost use Rattle.hk_top.specs.Names.{AreNamed, AreLowNamed};
+ghost use Rattle.hk_top.specs.Text.{out_line, fault_line, ended_line};
 ghost use Rattle.hk_top.specs.Report.{high_lines, low_lines, analysis, name_of, who_text, out_text, fault_text, ended_text, traced, voiced, text_of_tick, live_in, texts_below, line_of_high_end, line_of_low_end, closing, IsRunText};
 
 use crate::lines::{
-    add_event_line, add_idle_line, add_task_line, cycles_line, done_line, end_line, ended_line,
-    event_line, fault_line, heap_line, high_line, live_line, lost_line, low_line, out_line,
+    add_ended_line, add_event_line, add_fault_line, add_idle_line, add_lost_line, add_out_line,
+    add_task_line, cycles_line, done_line, end_line, event_line, heap_line, high_line, live_line,
+    low_line,
 };
 use hk_admit::Checked;
-use hk_dispatch::{Chore, End, Pick, SessionBy, Tick, Who};
+use hk_dispatch::{Chore, End, JobFault, Pick, SessionBy, Tick, Who};
 use hk_io::{Failed, Gather, LINE_ROOM, Line, Sink};
 use hk_sheet::{High, Low, Name, Sheet, Ticks};
 
@@ -170,7 +172,7 @@ fn add_who(gather: &mut Gather, sheet: &Sheet, tick: u64, who: Who)
         Who::Lo(_) => add_task_line(gather, tick, b"low", name_of(sheet, who)),
         Who::Gc(Chore::Step) => add_event_line(gather, tick, b"step"),
         Who::Gc(Chore::Flip) => add_event_line(gather, tick, b"flip"),
-        Who::Gc(Chore::Lost(events)) => gather.add(lost_line(tick, u64::from(events)).bytes()),
+        Who::Gc(Chore::Lost(events)) => add_lost_line(gather, tick, u64::from(events)),
         Who::Idle => add_idle_line(gather, tick),
     }
 }
@@ -212,6 +214,24 @@ fn trace<K: Sink>(form: Form, line: &Line, gather: &mut Gather, sink: &mut K) ->
     }
 }
 
+/// Writes a value that a job put out behind what waits.
+fn put_out<K: Sink>(
+    tick: u64,
+    name: &[u8],
+    value: u64,
+    gather: &mut Gather,
+    sink: &mut K,
+) -> Result<(), Failed>
+    requires { length name.now ≤ 16 }
+    ensures ok { OnOk result (AppendsFront (K.taken sink.old) (K.taken sink.new) (gather.old ++ out_line tick name.now value) gather.new) }
+    ensures prefix { OnErr result (AppendsPrefix (K.taken sink.old) (K.taken sink.new) (gather.old ++ out_line tick name.now value)) }
+    ensures cause { HasCause (K.faults sink.old) (K.faults sink.new) result }
+{
+    gather.make_room(sink, LINE_ROOM)?;
+    add_out_line(gather, tick, name, value);
+    Ok(())
+}
+
 /// Writes what a job put out behind what waits, where that is asked for.
 fn write_out<K: Sink>(
     form: Form,
@@ -228,10 +248,29 @@ fn write_out<K: Sink>(
 {
     match (form, out) {
         (Form::Plain | Form::Trace, Some(value)) => {
-            gather.push(sink, out_line(tick, name, value).bytes())
+            put_out(tick, name, value, gather, sink)
         }
         _ => Ok(()),
     }
+}
+
+/// Writes that a job ended with a fault behind what waits.
+fn put_fault<K: Sink>(
+    tick: u64,
+    name: &[u8],
+    job: u64,
+    fault: JobFault,
+    gather: &mut Gather,
+    sink: &mut K,
+) -> Result<(), Failed>
+    requires { length name.now ≤ 16 }
+    ensures ok { OnOk result (AppendsFront (K.taken sink.old) (K.taken sink.new) (gather.old ++ fault_line tick name.now job fault.statement fault.nil) gather.new) }
+    ensures prefix { OnErr result (AppendsPrefix (K.taken sink.old) (K.taken sink.new) (gather.old ++ fault_line tick name.now job fault.statement fault.nil)) }
+    ensures cause { HasCause (K.faults sink.old) (K.faults sink.new) result }
+{
+    gather.make_room(sink, LINE_ROOM)?;
+    add_fault_line(gather, tick, name, job, fault);
+    Ok(())
 }
 
 /// Writes the fault that ended a job behind what waits, where that is asked for.
@@ -258,9 +297,28 @@ fn write_fault<K: Sink>(
                     fault: Some(fault),
                 },
             ),
-        ) => gather.push(sink, fault_line(tick, name, job, fault).bytes()),
+        ) => put_fault(tick, name, job, fault, gather, sink),
         _ => Ok(()),
     }
+}
+
+/// Writes that a job ended behind what waits.
+fn put_ended<K: Sink>(
+    tick: u64,
+    name: &[u8],
+    job: u64,
+    ticks: u64,
+    gather: &mut Gather,
+    sink: &mut K,
+) -> Result<(), Failed>
+    requires { length name.now ≤ 16 }
+    ensures ok { OnOk result (AppendsFront (K.taken sink.old) (K.taken sink.new) (gather.old ++ ended_line tick name.now job ticks) gather.new) }
+    ensures prefix { OnErr result (AppendsPrefix (K.taken sink.old) (K.taken sink.new) (gather.old ++ ended_line tick name.now job ticks)) }
+    ensures cause { HasCause (K.faults sink.old) (K.faults sink.new) result }
+{
+    gather.make_room(sink, LINE_ROOM)?;
+    add_ended_line(gather, tick, name, job, ticks);
+    Ok(())
 }
 
 /// Writes the end of a job behind what waits, where a trace is asked for.
@@ -287,7 +345,7 @@ fn write_ended<K: Sink>(
                     fault: _,
                 },
             ),
-        ) => gather.push(sink, ended_line(tick, name, job, ticks).bytes()),
+        ) => put_ended(tick, name, job, ticks, gather, sink),
         _ => Ok(()),
     }
 }

@@ -1,5 +1,5 @@
 //! The report of a session, written as it runs. No memory is taken.
-ghost use Rattle.std.specs.Prelude.{◌≡◌, ℕ, ◌+◌, ◌<◌, ◌++◌, ◌≤◌, List, length, OnOk, OnErr, IfOk};
+ghost use Rattle.std.specs.Prelude.{◌≡◌, ℕ, ◌+◌, ◌<◌, ◌++◌, ◌≤◌, List, codes, length, OnOk, OnErr, IfOk};
 ghost use Rattle.std.specs.Io.KnownBytes.{Appends};
 ghost use Rattle.hk_io.specs.Bytes.{AppendsPrefix, AppendsFront};
 ghost use Rattle.hk_io.specs.Faults.{HasCause};
@@ -9,7 +9,7 @@ ghost use Rattle.hk_dispatch.specs.Session.{state, IsTick};
 ghost use Rattle.hk_dispatch.specs.Told.{told};
 ghost use Rattle.hk_dispatch.specs.declared.tick.Tick.TheVariants.{Ran};
 ghost use Rattle.hk_top.specs.Names.{AreNamed, AreLowNamed};
-ghost use Rattle.hk_top.specs.Text.{out_line, fault_line, ended_line};
+ghost use Rattle.hk_top.specs.Text.{out_line, fault_line, ended_line, event_line, live_line};
 ghost use Rattle.hk_top.specs.Report.{high_lines, low_lines, analysis, name_of, who_text, out_text, fault_text, ended_text, traced, voiced, text_of_tick, live_in, texts_below, line_of_high_end, line_of_low_end, closing, IsRunText};
 
 use crate::lines::{
@@ -202,14 +202,19 @@ fn write_who<K: Sink>(
     }
 }
 
-/// Writes a line behind what waits, where a trace is asked for.
-fn trace<K: Sink>(form: Form, line: &Line, gather: &mut Gather, sink: &mut K) -> Result<(), Failed>
-    ensures ok { OnOk result (AppendsFront (K.taken sink.old) (K.taken sink.new) (gather.old ++ traced form line.now) gather.new) }
-    ensures prefix { OnErr result (AppendsPrefix (K.taken sink.old) (K.taken sink.new) (gather.old ++ traced form line.now)) }
+/// Writes behind what waits that a tick went to the collector, which found too many words reserved, where a trace is asked for.
+fn trace_live<K: Sink>(
+    form: Form,
+    tick: u64,
+    gather: &mut Gather,
+    sink: &mut K,
+) -> Result<(), Failed>
+    ensures ok { OnOk result (AppendsFront (K.taken sink.old) (K.taken sink.new) (gather.old ++ traced form (event_line tick (codes "live"))) gather.new) }
+    ensures prefix { OnErr result (AppendsPrefix (K.taken sink.old) (K.taken sink.new) (gather.old ++ traced form (event_line tick (codes "live")))) }
     ensures cause { HasCause (K.faults sink.old) (K.faults sink.new) result }
 {
     match form {
-        Form::Trace => gather.push(sink, line.bytes()),
+        Form::Trace => gather.push(sink, event_line(tick, b"live").bytes()),
         Form::Plain | Form::Quiet => Ok(()),
     }
 }
@@ -476,11 +481,26 @@ fn write_next<P: Pick, K: Sink>(
             Ok(None)
         }
         Tick::LiveOver(words) => {
-            trace(form, &event_line(tick, b"live"), gather, sink)?;
+            trace_live(form, tick, gather, sink)?;
             Ok(Some(words))
         }
         Tick::Over => unreachable!(),
     }
+}
+
+/// Writes that the collector found so many words reserved at a tick, more than the space has, behind what waits.
+fn write_live<K: Sink>(
+    tick: u64,
+    words: u64,
+    limit: u64,
+    gather: &mut Gather,
+    sink: &mut K,
+) -> Result<(), Failed>
+    ensures ok { OnOk result (AppendsFront (K.taken sink.old) (K.taken sink.new) (gather.old ++ live_line tick words limit) gather.new) }
+    ensures prefix { OnErr result (AppendsPrefix (K.taken sink.old) (K.taken sink.new) (gather.old ++ live_line tick words limit)) }
+    ensures cause { HasCause (K.faults sink.old) (K.faults sink.new) result }
+{
+    gather.push(sink, live_line(tick, words, limit).bytes())
 }
 
 /// Runs a session that has had no tick to its end, and writes the lines of its ticks and the last lines. It answers how the
@@ -506,7 +526,7 @@ pub fn write_run<P: Pick, K: Sink>(
     for tick in 0..ticks {
         if let Some(words) = write_next(session, form, tick, &mut gather, sink)? {
             let limit = session.checked().sheet.heap.live;
-            gather.push(sink, live_line(tick, words, u64::from(limit)).bytes())?;
+            write_live(tick, words, u64::from(limit), &mut gather, sink)?;
             gather.flush(sink)?;
             return Ok(Finish::Live(words));
         }

@@ -45,8 +45,8 @@ returns-in_err-words-clause-prefix g c =
     (subst (λ (x : Opened g.row.P.Denot). AppendsPrefix (g.K.Sink.taken c.loop-tick.sink) (g.K.Sink.taken c.write_next.new.sink) (c.loop-tick.gather ++ tick_text f x.geometry (g.P.Pick.choice x.pick) x.sheet n))
     inv.opened c.in_err-words.ensures.prefix))
 
-pub returns-in_err-push-clause-prefix : goal.returns-in_err-push-clause-prefix
-returns-in_err-push-clause-prefix g c =
+pub returns-in_err-write_live-clause-prefix : goal.returns-in_err-write_live-clause-prefix
+returns-in_err-write_live-clause-prefix g c =
     let s = c.args.session.now in
     let choice = g.P.Pick.choice s.pick in
     let f = c.args.form in
@@ -62,9 +62,9 @@ returns-in_err-push-clause-prefix g c =
     let answer = live_told (told s.geometry choice s.sheet n) words (sym found ∙ c.in-Some.is) in
     let so = live_over n words t answer in
     let sheet = c.checked-in-Some.ensures.sheet ∙ ap (λ (x : Opened g.row.P.Denot). x.sheet) c.write_next.ensures.opened ∙ ap (λ (x : Opened g.row.P.Denot). x.sheet) inv.opened in
-    let line = c.bytes.ensures.value ∙ c.live_line.ensures ∙ ap (live_line n words) (c.from.ensures ∙ ap (λ (x : Sheet). x.heap.live) sheet) ∙ sym (live_is f s.geometry choice s.sheet n words) in
-    let p = err_from_is_err_and c.from_residual-in_err-push.result c.from_residual-in_err-push.ensures.1 in
-    rw p.1 (cut_last f s.geometry choice s.sheet _ _ _ c.write_next.new.gather (suc n) next (finish.Live words) so c.bytes.result.now line c.in_err-push.ensures.prefix)
+    let line = ap (live_line n words) (c.from.ensures ∙ ap (λ (x : Sheet). x.heap.live) sheet) ∙ sym (live_is f s.geometry choice s.sheet n words) in
+    let p = err_from_is_err_and c.from_residual-in_err-write_live.result c.from_residual-in_err-write_live.ensures.1 in
+    rw p.1 (cut_last f s.geometry choice s.sheet _ _ _ c.write_next.new.gather (suc n) next (finish.Live words) so (live_line n words c.from.result) line c.in_err-write_live.ensures.prefix)
 
 pub returns-in_err-flush-clause-prefix : goal.returns-in_err-flush-clause-prefix
 returns-in_err-flush-clause-prefix g c =
@@ -83,9 +83,9 @@ returns-in_err-flush-clause-prefix g c =
     let answer = live_told (told s.geometry choice s.sheet n) words (sym found ∙ c.in-Some.is) in
     let so = live_over n words t answer in
     let sheet = c.checked-in-Some.ensures.sheet ∙ ap (λ (x : Opened g.row.P.Denot). x.sheet) c.write_next.ensures.opened ∙ ap (λ (x : Opened g.row.P.Denot). x.sheet) inv.opened in
-    let line = c.bytes.ensures.value ∙ c.live_line.ensures ∙ ap (live_line n words) (c.from.ensures ∙ ap (λ (x : Sheet). x.heap.live) sheet) ∙ sym (live_is f s.geometry choice s.sheet n words) in
+    let line = ap (live_line n words) (c.from.ensures ∙ ap (λ (x : Sheet). x.heap.live) sheet) ∙ sym (live_is f s.geometry choice s.sheet n words) in
     let p = err_from_is_err_and c.from_residual-in_err-flush.result c.from_residual-in_err-flush.ensures.1 in
-    rw p.1 (cut_rest f s.geometry choice s.sheet _ _ _ c.write_next.new.gather (suc n) next (finish.Live words) so c.bytes.result.now line _ _ c.in_ok-push.ensures.ok c.in_err-flush.ensures.prefix)
+    rw p.1 (cut_rest f s.geometry choice s.sheet _ _ _ c.write_next.new.gather (suc n) next (finish.Live words) so (live_line n words c.from.result) line _ _ c.in_ok-write_live.ensures.ok c.in_err-flush.ensures.prefix)
 
 pub returns-in-Some-clause-ok : goal.returns-in-Some-clause-ok
 returns-in-Some-clause-ok g c =
@@ -104,8 +104,8 @@ returns-in-Some-clause-ok g c =
     let answer = live_told (told s.geometry choice s.sheet n) words (sym found ∙ c.in-Some.is) in
     let so = live_over n words t answer in
     let sheet = c.checked-in-Some.ensures.sheet ∙ ap (λ (x : Opened g.row.P.Denot). x.sheet) c.write_next.ensures.opened ∙ ap (λ (x : Opened g.row.P.Denot). x.sheet) inv.opened in
-    let line = c.bytes.ensures.value ∙ c.live_line.ensures ∙ ap (live_line n words) (c.from.ensures ∙ ap (λ (x : Sheet). x.heap.live) sheet) ∙ sym (live_is f s.geometry choice s.sheet n words) in
-    all_taken f s.geometry choice s.sheet _ _ _ c.write_next.new.gather (suc n) next (finish.Live words) so c.bytes.result.now line _ _ c.in_ok-push.ensures.ok c.in_ok-flush.ensures.ok
+    let line = ap (live_line n words) (c.from.ensures ∙ ap (λ (x : Sheet). x.heap.live) sheet) ∙ sym (live_is f s.geometry choice s.sheet n words) in
+    all_taken f s.geometry choice s.sheet _ _ _ c.write_next.new.gather (suc n) next (finish.Live words) so (live_line n words c.from.result) line _ _ c.in_ok-write_live.ensures.ok c.in_ok-flush.ensures.ok
 
 pub loop-tick-preserved : goal.loop-tick-preserved
 loop-tick-preserved g c =

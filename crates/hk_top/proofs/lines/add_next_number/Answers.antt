@@ -1,5 +1,5 @@
 -- A number of 64 bits has at most 20 digits.
-use Rattle.std.proofs.Common.{◌≡◌, ◌∷◌, [], ◌∙◌, ap, arith, length, refl, length-append, append_assoc}
+use Rattle.std.proofs.Common.{◌≡◌, ◌∷◌, [], ap, arith, length, refl, length-append, append_assoc}
 use Rattle.std.specs.Prelude.{codes, decimal}
 use Rattle.hk_io.proofs.LineLemmas.{length-decimal}
 use Rattle.hk_top.proofs.lines.add_next_number.Goals as goal

@@ -252,7 +252,7 @@ fn write_out<K: Sink>(
     ensures cause { HasCause (K.faults sink.old) (K.faults sink.new) result }
 {
     match (form, out) {
-        (Form::Plain | Form::Trace, Some(value)) => { put_out(tick, name, value, gather, sink) }
+        (Form::Plain | Form::Trace, Some(value)) => put_out(tick, name, value, gather, sink),
         _ => Ok(()),
     }
 }

@@ -39,12 +39,14 @@ pub fn reserve_holds()
     ensures { ReserveHolds }
 {}
 
-/// Where more is due within a time than it has ticks, no schedule ends all of it in time.
+/// Where more is due within a time than it has ticks, no schedule ends all of it in time. What is due is the work of jobs that
+/// arrive at 0 and at every period and take the whole cost.
 pub fn no_schedule_fits()
     ensures { NoScheduleFits }
 {}
 
-/// The high tasks of a sheet that is refused since too much is due can be scheduled by nobody.
+/// Of a sheet that is refused since too much is due: where the jobs of its high tasks arrive at 0 and at every period and take the
+/// whole cost, no schedule ends in time all that is due by the time that is named.
 pub fn refused_fits_nowhere()
     ensures { RefusedFitsNowhere }
 {}

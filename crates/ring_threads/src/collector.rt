@@ -13,7 +13,8 @@ use std::thread;
 /// The most events between two looks at what the loops tell.
 const BUDGET: u32 = 64;
 
-/// Ends each cycle that it began, and begins one where the fast loop wants room, until both loops have ended.
+/// Collects until both loops have ended. Where it stands before a flip between two turns it waits until the fast loop wants room; a
+/// turn that ends a cycle goes on to the flip.
 pub fn collect_all<L: Ledger>(
     heap: &Heap,
     mut keeper: Keeper,

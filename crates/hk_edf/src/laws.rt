@@ -39,14 +39,12 @@ pub fn reserve_holds()
     ensures { ReserveHolds }
 {}
 
-/// Where more is due within a time than it has ticks, no schedule ends all of it in time. What is due is the work of jobs that
-/// arrive at 0 and at every period and take the whole cost.
+/// Where more is due within a time than it has ticks, no schedule ends all of it in time.
 pub fn no_schedule_fits()
     ensures { NoScheduleFits }
 {}
 
-/// Of a sheet that is refused since too much is due: where the jobs of its high tasks arrive at 0 and at every period and take the
-/// whole cost, no schedule ends in time all that is due by the time that is named.
+/// The high tasks of a sheet that is refused since too much is due can be scheduled by nobody.
 pub fn refused_fits_nowhere()
     ensures { RefusedFitsNowhere }
 {}
